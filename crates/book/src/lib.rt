@@ -1,0 +1,176 @@
+// The book of rights, an event and an answer: the types that every crate names, and their blank values.
+// What no event changes (limits) stands apart from what events change (meters), so that a new field joins one struct.
+// Numbers that an image can hold against the rules (a kind of 9, an open mark of 2) stay numbers here: the reader judges them.
+ghost use mathlib.Core.Path.{_≡_};
+ghost use lib.ListN.{replicate};
+ghost use Rattle.book.specs.Blank.{noAsset, noEntry, noPlayer, noBook};
+
+pub struct Asset {
+    pub number: u16,
+    pub inherit: u16,
+    pub key: u8,
+}
+
+// What an entry allows. The flags say which limits hold.
+pub struct Limits {
+    pub object: u16,
+    pub asset: u16,
+    pub kind: u8,
+    pub flags: u8,
+    pub count: u32,
+    pub timed: u32,
+    pub timer: u32,
+    pub start: u32,
+    pub end: u32,
+    pub interval: u32,
+    pub accumulated: u32,
+}
+
+// What of an entry has been used. Started is 0 or 1, first is the time at which the interval began.
+pub struct Meters {
+    pub count: u32,
+    pub timed: u32,
+    pub first: u32,
+    pub seconds: u32,
+    pub started: u8,
+}
+
+pub struct Entry {
+    pub limits: Limits,
+    pub meters: Meters,
+}
+
+// What is returned for an event: a code of document 01's table, 0 for a grant, the entry's position, and until.
+pub struct Answer {
+    pub code: u8,
+    pub entry: u8,
+    pub until: u32,
+}
+
+// The last event taken from a player, with the answer that a resend gets. Number 0: none yet.
+pub struct Last {
+    pub number: u32,
+    pub operation: u8,
+    pub asset: u16,
+    pub kind: u8,
+    pub answer: Answer,
+}
+
+// The use that a player has open, if on is 1.
+pub struct Open {
+    pub on: u8,
+    pub entry: u8,
+    pub begin: u32,
+    pub until: u32,
+}
+
+pub struct Player {
+    pub last: Last,
+    pub current: Open,
+}
+
+// Slots behind the counts are blank in a legal book, so that equal books are equal values.
+pub struct Book {
+    pub time: u32,
+    pub assetcount: u8,
+    pub entrycount: u8,
+    pub assets: [Asset; 64],
+    pub entries: [Entry; 64],
+    pub players: [Player; 16],
+}
+
+pub enum Kind {
+    Play,
+    Display,
+    Execute,
+    Print,
+    Export,
+}
+
+pub enum Request {
+    Begin(Kind, u16),
+    Continue,
+    Stop,
+}
+
+pub struct Event {
+    pub player: u8,
+    pub number: u32,
+    pub request: Request,
+    pub time: u32,
+}
+
+pub fn blank_asset() -> Asset
+    ensures { λ r. ⌜ r ≡ noAsset ⌝ }
+{
+    Asset {
+        number: 0,
+        inherit: 0,
+        key: 0,
+    }
+}
+
+pub fn blank_entry() -> Entry
+    ensures { λ r. ⌜ r ≡ noEntry ⌝ }
+{
+    Entry {
+        limits: Limits {
+            object: 0,
+            asset: 0,
+            kind: 0,
+            flags: 0,
+            count: 0,
+            timed: 0,
+            timer: 0,
+            start: 0,
+            end: 0,
+            interval: 0,
+            accumulated: 0,
+        },
+        meters: Meters {
+            count: 0,
+            timed: 0,
+            first: 0,
+            seconds: 0,
+            started: 0,
+        },
+    }
+}
+
+pub fn blank_player() -> Player
+    ensures { λ r. ⌜ r ≡ noPlayer ⌝ }
+{
+    Player {
+        last: Last {
+            number: 0,
+            operation: 0,
+            asset: 0,
+            kind: 0,
+            answer: Answer {
+                code: 0,
+                entry: 0,
+                until: 0,
+            },
+        },
+        current: Open {
+            on: 0,
+            entry: 0,
+            begin: 0,
+            until: 0,
+        },
+    }
+}
+
+// The book with nothing in it.
+pub fn blank_book() -> Book
+    ensures { λ r. ⌜ r ≡ noBook ⌝ }
+{
+    Book {
+        time: 0,
+        assetcount: 0,
+        entrycount: 0,
+        assets: [blank_asset(); 64],
+        entries: [blank_entry(); 64],
+        players: [blank_player(); 16],
+    }
+}

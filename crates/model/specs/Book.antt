@@ -1,0 +1,280 @@
+-- The book: document 01, section "The book", and what of a book is legal, as section "Image" judges it in the stages 23 to 27.
+-- Quotations are that document's. Every definition is total: a position past a table's end reads as blank.
+use mathlib.Core.Path.{_≡_}
+use Prim.Native.Nat.{ℕ, _+_, _-_, _/_, _%_, _≤_, min}
+use mathlib.Core.Bool.{Bool, cond, _&&_, _||_, not}
+use mathlib.Core.List.{List}
+use lib.ListN.{length, getD}
+use lib.Dec.{ltb, leb, eqb}
+use Rattle.laws.specs.Count.{all, first, sum, one}
+use Rattle.book.specs.declared.Asset.{Asset}
+use Rattle.book.specs.declared.Limits.{Limits}
+use Rattle.book.specs.declared.Meters.{Meters}
+use Rattle.book.specs.declared.Entry.{Entry}
+use Rattle.book.specs.declared.Answer.{Answer}
+use Rattle.book.specs.declared.Last.{Last}
+use Rattle.book.specs.declared.Open.{Open}
+use Rattle.book.specs.declared.Player.{Player}
+use Rattle.book.specs.declared.Book.{Book}
+use Rattle.book.specs.Blank.{noAsset, noMeters, noEntry, noPlayer}
+
+-- ## What stands at a position
+
+abbrev pub assetAt : List Asset → ℕ → Asset
+assetAt ats i = getD ats i noAsset
+
+abbrev pub limitsAt : List Entry → ℕ → Limits
+limitsAt es i = (getD es i noEntry) .limits
+
+abbrev pub metersAt : List Entry → ℕ → Meters
+metersAt es i = (getD es i noEntry) .meters
+
+abbrev pub playerAt : List Player → ℕ → Player
+playerAt ps p = getD ps p noPlayer
+
+-- "**Assets**, 0 to 64", "**Entries**, 0 to 64": how many there are. A count above 64, which no image has, counts as 64.
+unfoldable pub assetsIn : Book → ℕ
+assetsIn b = min (b .assetcount) 64
+
+unfoldable pub entriesIn : Book → ℕ
+entriesIn b = min (b .entrycount) 64
+
+-- ## Times
+
+-- "Times are seconds since 1970-01-01 UTC, 0 to 4,000,000,000."
+abbrev pub latestTime : ℕ
+latestTime = 4000000000
+
+-- how many seconds a grant of a kind gives at the most: the 60 of "the least of t + 60, .."
+unfoldable pub grantLength : ℕ → ℕ
+grantLength kind = 60
+
+-- ## Assets
+
+-- "Key 0 and inherit 0 is a *parent*."
+unfoldable pub isParent : Asset → Bool
+isParent a = eqb (a .key) 0 && eqb (a .inherit) 0
+
+-- "Key 0 with an inherit is *illegal*: never used and never inherited from." A book may hold such an asset.
+unfoldable pub isIllegal : Asset → Bool
+isIllegal a = eqb (a .key) 0 && not (eqb (a .inherit) 0)
+
+-- among the first n assets, the position of the one with that number; n where there is none
+unfoldable pub assetPosition : List Asset → ℕ → ℕ → ℕ
+assetPosition ats n number = first (λ i. eqb (assetAt ats i .number) number) n
+
+unfoldable pub inBook : Book → ℕ → Bool
+inBook b number = ltb (assetPosition (b .assets) (assetsIn b) number) (assetsIn b)
+
+-- ## Entries
+
+abbrev pub between : ℕ → ℕ → ℕ → Bool
+between a z v = leb a v && leb v z
+
+-- "Flags are a sum, at most 63, of 1 count, 2 timed count with timer, 4 start, 8 end, 16 interval, 32 accumulated."
+unfoldable pub flagged : ℕ → Limits → Bool
+flagged w l = eqb (l .flags / w % 2) 1
+
+-- "kind (1 play, 2 display, 3 execute, 4 print, 5 export)"; "Print and export are momentary"
+unfoldable pub momentary : ℕ → Bool
+momentary kind = between 4 5 kind
+
+-- the least that a flagged count, timed count, interval or accumulated may be
+abbrev pub leastLimit : ℕ
+leastLimit = 1
+
+-- a flagged limit is from a to z; "An unflagged limit is 0."
+unfoldable pub limit : Bool → ℕ → ℕ → ℕ → Bool
+limit flag a z v = cond flag (between a z v) (eqb v 0)
+
+-- ## 24, asset rules
+
+-- "number (1 to 65535, each once), key (0 or 1, whether it holds a KeyInfo), inherit (asset number, 0 for none)"
+unfoldable pub assetLegal : Book → ℕ → Bool
+assetLegal b i =
+    between 1 65535 (assetAt (b .assets) i .number)
+    && eqb (assetPosition (b .assets) (assetsIn b) (assetAt (b .assets) i .number)) i
+    && leb (assetAt (b .assets) i .key) 1
+
+unfoldable pub assetsLegal : Book → Bool
+assetsLegal b = all (assetLegal b) (assetsIn b)
+
+-- ## 25, entry rules
+
+-- "Count and timed count are 1 to 1,000,000; timer 0 to 1,000,000; interval and accumulated 1 to 100,000,000";
+-- start and end are times
+unfoldable pub rangesLegal : Limits → Bool
+rangesLegal l =
+    limit (flagged 1 l) leastLimit 1000000 (l .count)
+    && limit (flagged 2 l) leastLimit 1000000 (l .timed)
+    && limit (flagged 2 l) 0 1000000 (l .timer)
+    && limit (flagged 4 l) 0 latestTime (l .start)
+    && limit (flagged 8 l) 0 latestTime (l .end)
+    && limit (flagged 16 l) leastLimit 100000000 (l .interval)
+    && limit (flagged 32 l) leastLimit 100000000 (l .accumulated)
+
+-- "rights object number (1 to 65535), asset (in the book), kind ..., flags, limits"; "start at most end where both are flagged";
+-- momentary: "no accumulated, timer 0"
+unfoldable pub limitsLegal : Book → Limits → Bool
+limitsLegal b l =
+    between 1 65535 (l .object)
+    && inBook b (l .asset)
+    && between 1 5 (l .kind)
+    && leb (l .flags) 63
+    && rangesLegal l
+    && (not (flagged 4 l && flagged 8 l) || leb (l .start) (l .end))
+    && (not (momentary (l .kind)) || (not (flagged 32 l) && eqb (l .timer) 0))
+
+unfoldable pub entriesLegal : Book → Bool
+entriesLegal b = all (λ i. limitsLegal b (limitsAt (b .entries) i)) (entriesIn b)
+
+-- ## 26, players
+
+-- "number 0 means all 0"
+unfoldable pub playerBlank : Player → Bool
+playerBlank p =
+    eqb (p .last .number) 0
+    && eqb (p .last .operation) 0
+    && eqb (p .last .asset) 0
+    && eqb (p .last .kind) 0
+    && eqb (p .last .answer .code) 0
+    && eqb (p .last .answer .entry) 0
+    && eqb (p .last .answer .until) 0
+    && eqb (p .current .on) 0
+    && eqb (p .current .entry) 0
+    && eqb (p .current .begin) 0
+    && eqb (p .current .until) 0
+
+-- "request as for events": "operation (1 begin, 2 continue, 3 stop)"; "Kind is 1 to 5 for begin; asset and kind are 0 otherwise."
+unfoldable pub requestLegal : ℕ → ℕ → ℕ → Bool
+requestLegal operation asset kind =
+    (eqb operation 1 && between 1 5 kind)
+    || (between 2 3 operation && eqb asset 0 && eqb kind 0)
+
+-- "code 0 or 10 to 15": the codes that a taken event leaves
+unfoldable pub takenCode : ℕ → Bool
+takenCode c = eqb c 0 || between 10 15 c
+
+-- "entry a position if code 0, else entry 255 and until 0"
+unfoldable pub answerLegal : Book → Answer → Bool
+answerLegal b a =
+    takenCode (a .code)
+    && cond (eqb (a .code) 0)
+    (ltb (a .entry) (entriesIn b))
+    (eqb (a .entry) 255 && eqb (a .until) 0)
+
+-- "[begin, until) inside its flagged dates and, where flagged, an interval with started 1"
+unfoldable pub insideDates : Open → Limits → Bool
+insideDates o l =
+    (not (flagged 4 l) || leb (l .start) (o .begin))
+    && (not (flagged 8 l) || leb (o .until) (l .end + 1))
+
+unfoldable pub insideInterval : Open → Limits → Meters → Bool
+insideInterval o l m =
+    not (flagged 16 l)
+    || (eqb (m .started) 1 && leb (m .first) (o .begin) && leb (o .until) (m .first + l .interval))
+
+-- "begin ≤ book time < until ≤ book time + 60, an open entry that is a position of kind 1 to 3, and ..."
+unfoldable pub useLegal : Book → Open → Bool
+useLegal b o =
+    leb (o .begin) (b .time)
+    && ltb (b .time) (o .until)
+    && leb (o .until) (b .time + grantLength (limitsAt (b .entries) (o .entry) .kind))
+    && ltb (o .entry) (entriesIn b)
+    && between 1 3 (limitsAt (b .entries) (o .entry) .kind)
+    && insideDates o (limitsAt (b .entries) (o .entry))
+    && insideInterval o (limitsAt (b .entries) (o .entry)) (metersAt (b .entries) (o .entry))
+
+-- "open 0 or 1, closed means its fields 0; open means ..."
+unfoldable pub openLegal : Book → Open → Bool
+openLegal b o =
+    cond (eqb (o .on) 0)
+    (eqb (o .entry) 0 && eqb (o .begin) 0 && eqb (o .until) 0)
+    (eqb (o .on) 1 && useLegal b o)
+
+-- "number 0 means all 0 and is not judged further; request as for events; code ...; open ..."
+unfoldable pub playerLegal : Book → Player → Bool
+playerLegal b p =
+    cond (eqb (p .last .number) 0)
+    (playerBlank p)
+    (requestLegal (p .last .operation) (p .last .asset) (p .last .kind)
+    && answerLegal b (p .last .answer)
+    && openLegal b (p .current))
+
+unfoldable pub playersLegal : Book → Bool
+playersLegal b = all (λ p. playerLegal b (playerAt (b .players) p)) 16
+
+-- ## 27, meters
+
+-- "no meter above its limit, unflagged meters 0"
+unfoldable pub meterLegal : Bool → ℕ → ℕ → Bool
+meterLegal flag most used = cond flag (leb used most) (eqb used 0)
+
+-- "started 0 or 1, first 0 if not, first ≤ book time"; unflagged, both are 0
+unfoldable pub startLegal : Book → Limits → Meters → Bool
+startLegal b l m =
+    leb (m .started) 1
+    && (flagged 16 l || eqb (m .started) 0)
+    && (eqb (m .started) 1 || eqb (m .first) 0)
+    && leb (m .first) (b .time)
+
+-- whether the player has an open use of entry i
+unfoldable pub opens : ℕ → Open → Bool
+opens i o = eqb (o .on) 1 && eqb (o .entry) i
+
+-- "the entry's open uses", and "their until − begin summed"
+unfoldable pub openUses : Book → ℕ → ℕ
+openUses b i = sum (λ p. one (opens i (playerAt (b .players) p .current))) 16
+
+unfoldable pub openSeconds : Book → ℕ → ℕ
+openSeconds b i =
+    sum
+    (λ p. cond (opens i (playerAt (b .players) p .current)) (playerAt (b .players) p .current .until - playerAt (b .players) p .current .begin) 0)
+    16
+
+-- "Where flagged, used count and used timed are at least the entry's open uses, and used seconds at least their until − begin summed."
+unfoldable pub metersCover : Book → ℕ → Bool
+metersCover b i =
+    (not (flagged 1 (limitsAt (b .entries) i)) || leb (openUses b i) (metersAt (b .entries) i .count))
+    && (not (flagged 2 (limitsAt (b .entries) i)) || leb (openUses b i) (metersAt (b .entries) i .timed))
+    && (not (flagged 32 (limitsAt (b .entries) i)) || leb (openSeconds b i) (metersAt (b .entries) i .seconds))
+
+unfoldable pub entryMetersLegal : Book → ℕ → Bool
+entryMetersLegal b i =
+    meterLegal (flagged 1 (limitsAt (b .entries) i)) (limitsAt (b .entries) i .count) (metersAt (b .entries) i .count)
+    && meterLegal (flagged 2 (limitsAt (b .entries) i)) (limitsAt (b .entries) i .timed) (metersAt (b .entries) i .timed)
+    && meterLegal (flagged 32 (limitsAt (b .entries) i)) (limitsAt (b .entries) i .accumulated) (metersAt (b .entries) i .seconds)
+    && startLegal b (limitsAt (b .entries) i) (metersAt (b .entries) i)
+    && metersCover b i
+
+unfoldable pub metersLegal : Book → Bool
+metersLegal b = all (entryMetersLegal b) (entriesIn b)
+
+-- ## The stages in their order
+
+-- "24 asset rules, 25 entry rules, 26 players, 27 meters": the first that fails; 0 where none does
+unfoldable pub ruleBroken : Book → ℕ
+ruleBroken b =
+    cond (not (assetsLegal b)) 24
+    (cond (not (entriesLegal b)) 25
+    (cond (not (playersLegal b)) 26
+    (cond (not (metersLegal b)) 27
+    0)))
+
+-- A legal book: what an accepted image gives. Numbers within their types are not asked here (`Typed` of `Image`).
+pub record Legal (b : Book) : Type 0 where
+  pub assetSlots : length (b .assets) ≡ 64
+  pub entrySlots : length (b .entries) ≡ 64
+  pub playerSlots : length (b .players) ≡ 16
+  pub assetCount : b .assetcount ≤ 64
+  pub entryCount : b .entrycount ≤ 64
+  pub time : b .time ≤ latestTime
+  pub assetsBlank : (i : ℕ) → b .assetcount ≤ i → assetAt (b .assets) i ≡ noAsset
+  pub entriesBlank : (i : ℕ) → b .entrycount ≤ i → getD (b .entries) i noEntry ≡ noEntry
+  pub rules : ruleBroken b ≡ 0
+
+-- "In a fresh book the time, all meters, all player records ... are 0."
+pub record Fresh (b : Book) : Type 0 where
+  pub time : b .time ≡ 0
+  pub meters : (i : ℕ) → metersAt (b .entries) i ≡ noMeters
+  pub players : (p : ℕ) → playerAt (b .players) p ≡ noPlayer
