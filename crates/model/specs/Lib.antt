@@ -1,2 +1,5 @@
 pub mod Book
 pub mod Image
+pub mod Events
+pub mod Ledger
+pub mod Demand3
