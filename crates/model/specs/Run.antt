@@ -12,7 +12,7 @@ use Rattle.model.specs.Demand3.{recordAnswers, recordFinal}
 -- a number below 10 to the k in decimal digits, with no zero in front
 unfoldable pub decimalIn : ℕ → ℕ → List ℕ
 decimalIn zero n = []
-decimalIn (suc k) n = cond (ltb n 10) (48 + n ∷ []) (decimalIn k (n / 10) ++ (48 + n % 10 ∷ []))
+decimalIn (suc k) n = cond (ltb n 10) ((48 + n) ∷ []) (decimalIn k (n / 10) ++ ((48 + n % 10) ∷ []))
 
 -- no number here has more than 10 digits
 unfoldable pub decimal : ℕ → List ℕ
