@@ -1,0 +1,2 @@
+-- Lemmas and proofs about the definitions above: nothing here has to be believed.
+pub mod RoundTrip
