@@ -5,7 +5,7 @@ use mathlib.Core.Path.{_≡_, refl, sym, ap, _∙_}
 use mathlib.Core.List.{List, [], _∷_, _++_, append-assoc}
 use native.Mathlib.Omega.{arith}
 use native.Mathlib.Nat.{add-assoc, add-zero, zero-add, div-div-eq-div-mul, div-add-mod', mod-eq-of-lt}
-use lib.ListN.{length, getD, take, drop, length-append, length-drop}
+use lib.ListN.{length, getD, take, drop, replicate, length-append, length-drop}
 use lib.Seq.{getD-drop, drop-at, take-add, drop-drop}
 use Rattle.laws.specs.Fields.{Width, bits8, bits16, bits32, bytes, bound, bigEndian, numberAt, size, laidOut, valuesAt, Fit}
 
@@ -163,3 +163,13 @@ laid-back (w ∷ ws) o s b h =
 pub values-fit : (ws : List Width) (o : ℕ) (s : List ℕ) → ((k : ℕ) → getD s k 0 < 256) → Fit ws (valuesAt ws o s)
 values-fit [] o s b = tt
 values-fit (w ∷ ws) o s b = (number-fits w o s b, values-fit ws (o + bytes w) s b)
+
+-- zeros fit every layout
+zero-fits : (w : Width) → 0 < bound w
+zero-fits bits8 = omega arith
+zero-fits bits16 = omega arith
+zero-fits bits32 = omega arith
+
+pub zeros-fit : (ws : List Width) → Fit ws (replicate (length ws) 0)
+zeros-fit [] = tt
+zeros-fit (w ∷ ws) = (zero-fits w, zeros-fit ws)

@@ -19,6 +19,9 @@ pub record Demand2 : Type 0 where
   pub refusedKeeps : (held : Book) (s : List ℕ) → (readCode s ≡ 0 → ⊥) → readBook held s ≡ held
   -- "The writer fills that many bytes, no more, and returns the length."
   pub writtenLength : (b : Book) → length (image b) ≡ lengthOf b
+  -- "Length 11 + 5A + 51P + 384, at most 3,979": never the 30 of a refusal
+  pub lengthBounds : (b : Book) → (395 ≤ lengthOf b) × (lengthOf b ≤ 3979)
+  -- the bytes filled are the image, and those behind them stay
   pub written : (b : Book) (old : List ℕ) → lengthOf b ≤ length old → take (writeAnswer b (length old)) (writeBuffer b old) ≡ image b
   pub behindKept : (b : Book) (old : List ℕ) → lengthOf b ≤ length old
       → drop (writeAnswer b (length old)) (writeBuffer b old) ≡ drop (lengthOf b) old
