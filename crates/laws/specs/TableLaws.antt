@@ -85,7 +85,7 @@ module _ {A : Type 0} where
       let e : i ≡ n = omega arith in
       rw e (getD-at (listed f n) (f n) rest d n (length-listed f n))))
 
-  blanks : (k i : ℕ) (d : A) → getD (replicate k d) i d ≡ d
+  pub blanks : (k i : ℕ) (d : A) → getD (replicate k d) i d ≡ d
   blanks zero i d = refl
   blanks (suc k) zero d = refl
   blanks (suc k) (suc i) d = blanks k i d
