@@ -3,9 +3,9 @@
 -- not tell two fields that stand in each other's place.
 use Prim.Native.Nat.{ℕ, zero, suc, _+_, _*_, _-_, _%_, _<_, _≤_}
 use mathlib.Core.Path.{_≡_, refl, sym, ap, subst, _∙_}
-use mathlib.Core.List.{List, [], _∷_, _++_}
+use mathlib.Core.List.{List, [], _∷_, _++_, append-nil}
 use native.Mathlib.Omega.{arith}
-use lib.ListN.{length, getD, set, take, drop, replicate}
+use lib.ListN.{length, getD, set, take, drop, replicate, List·getD-eq-default}
 use Rattle.laws.specs.Count.{all, first, sum, joined, listed}
 use Rattle.laws.specs.Fields.{Fit}
 use Rattle.laws.specs.FieldLaws.{zeros-fit}
@@ -102,6 +102,39 @@ greatest = record {
   players = listed greatPlayer 16;
 }
 
-greatest-rules : ruleBroken greatest ≡ 0
+greatest-legal : Legal greatest
 unfolding greatest all first sum listed assetsIn entriesIn grantLength assetPosition inBook flagged momentary limit assetLegal assetsLegal rangesLegal limitsLegal entriesLegal playerBlank requestLegal takenCode answerLegal insideDates insideInterval useLegal openLegal playerLegal playersLegal meterLegal startLegal opens openUses openSeconds metersCover entryMetersLegal metersLegal ruleBroken
-greatest-rules = refl
+greatest-legal = record {
+  assetSlots = refl;
+  entrySlots = refl;
+  playerSlots = refl;
+  assetCount = omega arith;
+  entryCount = omega arith;
+  time = omega arith;
+  assetsBlank = λ i h. List·getD-eq-default (greatest .assets) noAsset h;
+  entriesBlank = λ i h. List·getD-eq-default (greatest .entries) noEntry h;
+  rules = refl;
+}
+
+-- what a list of n holds, at every position, if it holds of each that is listed and of the blank one
+at-each : {A : Type 0} (P : A → Type 0) (f : ℕ → A) (n : ℕ) (d : A) → ((i : ℕ) → i < n → P (f i)) → P d → (i : ℕ) → P (getD (listed f n) i d)
+at-each P f n d each blank i =
+    below-or-not i n
+    (λ h. subst P (sym (ap (λ l. getD l i d) (sym (append-nil (listed f n))) ∙ listed-at f n i d [] h)) (each i h))
+    (λ h. subst P (sym (List·getD-eq-default (listed f n) d (rw (length-listed) h))) blank)
+
+greatest-typed : Typed greatest
+unfolding greatest
+greatest-typed = record {
+  assets = at-each (λ (x : Asset). Fit assetWidths (assetValues x)) greatAsset 64 noAsset (λ i h. (omega arith, (omega arith, (omega arith, tt)))) (zeros-fit assetWidths);
+  entries = at-each (λ (x : Entry). Fit entryWidths (entryValues x)) greatEntry 64 noEntry (λ i h. omega arith) (zeros-fit entryWidths);
+  players = at-each (λ (x : Player). Fit playerWidths (playerValues x)) greatPlayer 16 noPlayer (λ i h. (omega arith, (omega arith, (omega arith, (omega arith, (omega arith, (omega arith, (omega arith, (omega arith, (omega arith, (omega arith, (omega arith, tt)))))))))))) (zeros-fit playerWidths);
+}
+
+greatest-read : readCode (image greatest) ≡ 0
+unfolding greatest all first sum listed assetsIn entriesIn grantLength assetPosition inBook flagged momentary limit assetLegal assetsLegal rangesLegal limitsLegal entriesLegal playerBlank requestLegal takenCode answerLegal insideDates insideInterval useLegal openLegal playerLegal playersLegal meterLegal startLegal opens openUses openSeconds metersCover entryMetersLegal metersLegal ruleBroken joined imageLength headerBytes assetBytes entryBytes playerBytes image lengthOf markIn versionIn assetCountIn entryCountIn timeIn assetIn entryIn playerIn assetTable entryTable playerTable entriesFrom playersFrom bookIn headerBroken readCode
+greatest-read = refl
+
+greatest-length : lengthOf greatest ≡ 3979
+unfolding greatest assetsIn entriesIn imageLength lengthOf
+greatest-length = refl
