@@ -152,8 +152,7 @@ passed false c x e = (refl, e)
 -- ## Written and read back
 
 header-fits : (assets entries time : ℕ) → assets ≤ 64 → entries ≤ 64 → time ≤ latestTime → Fit headerWidths (headerValues assets entries time)
-header-fits assets entries time ha he ht =
-    (omega arith, (omega arith, (omega arith, (omega arith, (omega arith, (omega arith, (omega arith, tt)))))))
+header-fits assets entries time ha he ht = omega arith
 
 module _ (b : Book) (l : Legal b) where
   assets-in : assetsIn b ≡ b .assetcount
