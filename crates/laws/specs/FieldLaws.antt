@@ -1,6 +1,6 @@
 -- Laws of numbers in bytes and of layouts: what is laid out reads back, and what was read lays out the same bytes.
 -- Each law is proved once, for any width and for any layout.
-use Prim.Native.Nat.{ℕ, zero, suc, _+_, _*_, _/_, _%_, _<_, _≤_}
+use Prim.Native.Nat.{ℕ, suc, _+_, _*_, _/_, _%_, _<_, _≤_}
 use mathlib.Core.Path.{_≡_, refl, sym, ap, _∙_}
 use mathlib.Core.List.{List, [], _∷_, _++_, append-assoc}
 use native.Mathlib.Omega.{arith}
@@ -114,10 +114,6 @@ values-drop (w ∷ ws) o k s = λ i. number-drop w o k s i ∷ (values-drop ws o
 -- the values at an offset are the first values of what stands from there on
 pub values-from : (ws : List Width) (o : ℕ) (s : List ℕ) → valuesAt ws 0 (drop o s) ≡ valuesAt ws o s
 values-from ws o s = values-drop ws o 0 s ∙ ap (λ (n : ℕ). valuesAt ws n s) (add-zero o)
-
-pub length-values : (ws : List Width) (o : ℕ) (s : List ℕ) → length (valuesAt ws o s) ≡ length ws
-length-values [] o s = refl
-length-values (w ∷ ws) o s = ap suc (length-values ws (o + bytes w) s)
 
 -- the bytes of a layout do not depend on the values
 pub length-laid : (ws : List Width) (vs : List ℕ) → length vs ≡ length ws → length (laidOut ws vs) ≡ size ws

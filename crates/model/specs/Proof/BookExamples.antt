@@ -1,11 +1,11 @@
 -- Books that meet the premises of demand 2, from the empty one to one of the greatest size, and the reader run on images of a
 -- small book, right and damaged, one for each of its answers. The bytes of that book are written out: a round trip alone does
 -- not tell two fields that stand in each other's place.
-use Prim.Native.Nat.{ℕ, zero, suc, _+_, _*_, _-_, _%_, _<_, _≤_}
+use Prim.Native.Nat.{ℕ, _+_, _-_, _%_, _<_}
 use mathlib.Core.Path.{_≡_, refl, sym, ap, subst, _∙_}
 use mathlib.Core.List.{List, [], _∷_, _++_, append-nil}
 use native.Mathlib.Omega.{arith}
-use lib.ListN.{length, getD, set, take, drop, replicate, List·getD-eq-default}
+use lib.ListN.{getD, set, take, replicate, List·getD-eq-default}
 use Rattle.laws.specs.Count.{all, first, sum, joined, listed}
 use Rattle.laws.specs.Fields.{Fit}
 use Rattle.laws.specs.FieldLaws.{zeros-fit}
@@ -15,83 +15,19 @@ use Rattle.book.specs.declared.Entry.{Entry}
 use Rattle.book.specs.declared.Player.{Player}
 use Rattle.book.specs.declared.Book.{Book}
 use Rattle.book.specs.Blank.{noAsset, noEntry, noPlayer, noMeters, noBook}
-use Rattle.model.specs.Book.{
-  assetAt,
-  playerAt,
-  assetsIn,
-  entriesIn,
-  grantLength,
-  isParent,
-  isIllegal,
-  assetPosition,
-  inBook,
-  flagged,
-  momentary,
-  limit,
-  assetLegal,
-  assetsLegal,
-  rangesLegal,
-  limitsLegal,
-  entriesLegal,
-  playerBlank,
-  requestLegal,
-  takenCode,
-  answerLegal,
-  insideDates,
-  insideInterval,
-  useLegal,
-  openLegal,
-  playerLegal,
-  playersLegal,
-  meterLegal,
-  startLegal,
-  opens,
-  openUses,
-  openSeconds,
-  metersCover,
-  entryMetersLegal,
-  metersLegal,
-  ruleBroken,
-  Legal,
-  Fresh,
-}
-use Rattle.model.specs.Image.{
-  assetWidths,
-  assetValues,
-  entryWidths,
-  entryValues,
-  playerWidths,
-  playerValues,
-  imageLength,
-  headerBytes,
-  assetBytes,
-  entryBytes,
-  playerBytes,
-  image,
-  lengthOf,
-  markIn,
-  versionIn,
-  assetCountIn,
-  entryCountIn,
-  timeIn,
-  assetIn,
-  entryIn,
-  playerIn,
-  assetTable,
-  entryTable,
-  playerTable,
-  entriesFrom,
-  playersFrom,
-  bookIn,
-  headerBroken,
-  readCode,
-  readBook,
-  Typed,
-}
+use Rattle.model.specs.Book.{assetsIn, entriesIn, grantLength, assetPosition, inBook, flagged, momentary, limit, assetLegal, assetsLegal}
+use Rattle.model.specs.Book.{rangesLegal, limitsLegal, entriesLegal, playerBlank, requestLegal, takenCode, answerLegal, insideDates}
+use Rattle.model.specs.Book.{insideInterval, useLegal, openLegal, playerLegal, playersLegal, meterLegal, startLegal, opens, openUses}
+use Rattle.model.specs.Book.{openSeconds, metersCover, entryMetersLegal, metersLegal, ruleBroken, Legal, Fresh}
+use Rattle.model.specs.Image.{assetWidths, assetValues, entryWidths, entryValues, playerWidths, playerValues, imageLength, headerBytes}
+use Rattle.model.specs.Image.{assetBytes, entryBytes, playerBytes, image, lengthOf, markIn, versionIn, assetCountIn, entryCountIn, timeIn}
+use Rattle.model.specs.Image.{assetIn, entryIn, playerIn, assetTable, entryTable, playerTable, entriesFrom, playersFrom, bookIn}
+use Rattle.model.specs.Image.{headerBroken, readCode, readBook, Typed}
+use Rattle.model.specs.Proof.RoundTrip.{demand2}
 
 -- ## The book with nothing in it
 
-noBook-legal : Legal noBook
+pub noBook-legal : Legal noBook
 unfolding all first sum assetsIn entriesIn assetsLegal entriesLegal playerBlank playerLegal playersLegal metersLegal ruleBroken
 noBook-legal = record {
   assetSlots = refl;
@@ -105,14 +41,14 @@ noBook-legal = record {
   rules = refl;
 }
 
-noBook-typed : Typed noBook
+pub noBook-typed : Typed noBook
 noBook-typed = record {
   assets = λ i. subst (λ (x : Asset). Fit assetWidths (assetValues x)) (sym (blanks 64 i noAsset)) (zeros-fit assetWidths);
   entries = λ i. subst (λ (x : Entry). Fit entryWidths (entryValues x)) (sym (blanks 64 i noEntry)) (zeros-fit entryWidths);
   players = λ i. subst (λ (x : Player). Fit playerWidths (playerValues x)) (sym (blanks 16 i noPlayer)) (zeros-fit playerWidths);
 }
 
-noBook-fresh : Fresh noBook
+pub noBook-fresh : Fresh noBook
 noBook-fresh = record {
   time = refl;
   meters = λ i. ap (λ (x : Entry). x .meters) (blanks 64 i noEntry);
@@ -154,7 +90,7 @@ greatPlayer p = record {
   current = record { on = 1; entry = 48 + p; begin = 3999999990; until = 4000000001 };
 }
 
-greatest : Book
+unfoldable pub greatest : Book
 greatest = record {
   time = 4000000000;
   assetcount = 64;
@@ -164,8 +100,10 @@ greatest = record {
   players = listed greatPlayer 16;
 }
 
-greatest-legal : Legal greatest
-unfolding greatest all first sum listed assetsIn entriesIn grantLength assetPosition inBook flagged momentary limit assetLegal assetsLegal rangesLegal limitsLegal entriesLegal playerBlank requestLegal takenCode answerLegal insideDates insideInterval useLegal openLegal playerLegal playersLegal meterLegal startLegal opens openUses openSeconds metersCover entryMetersLegal metersLegal ruleBroken
+pub greatest-legal : Legal greatest
+unfolding greatest all first sum listed assetsIn entriesIn grantLength assetPosition inBook flagged momentary limit assetLegal assetsLegal
+    rangesLegal limitsLegal entriesLegal playerBlank requestLegal takenCode answerLegal insideDates insideInterval useLegal openLegal
+    playerLegal playersLegal meterLegal startLegal opens openUses openSeconds metersCover entryMetersLegal metersLegal ruleBroken
 greatest-legal = record {
   assetSlots = refl;
   entrySlots = refl;
@@ -185,7 +123,7 @@ at-each P f n d each blank i =
     (λ h. subst P (sym (ap (λ l. getD l i d) (sym (append-nil (listed f n))) ∙ listed-at f n i d [] h)) (each i h))
     (λ h. subst P (sym (List·getD-eq-default (listed f n) d (rw (length-listed) h))) blank)
 
-greatest-typed : Typed greatest
+pub greatest-typed : Typed greatest
 unfolding greatest
 greatest-typed = record {
   assets = at-each (λ (x : Asset). Fit assetWidths (assetValues x)) greatAsset 64 noAsset (λ i h. omega arith) (zeros-fit assetWidths);
@@ -193,17 +131,26 @@ greatest-typed = record {
   players = at-each (λ (x : Player). Fit playerWidths (playerValues x)) greatPlayer 16 noPlayer (λ i h. omega arith) (zeros-fit playerWidths);
 }
 
-greatest-read : readCode (image greatest) ≡ 0
-unfolding greatest all first sum listed assetsIn entriesIn grantLength assetPosition inBook flagged momentary limit assetLegal assetsLegal rangesLegal limitsLegal entriesLegal playerBlank requestLegal takenCode answerLegal insideDates insideInterval useLegal openLegal playerLegal playersLegal meterLegal startLegal opens openUses openSeconds metersCover entryMetersLegal metersLegal ruleBroken joined imageLength headerBytes assetBytes entryBytes playerBytes image lengthOf markIn versionIn assetCountIn entryCountIn timeIn assetIn entryIn playerIn assetTable entryTable playerTable entriesFrom playersFrom bookIn headerBroken readCode
+-- the reader run on its 3,979 bytes
+pub greatest-read : readCode (image greatest) ≡ 0
+unfolding greatest all first sum listed assetsIn entriesIn grantLength assetPosition inBook flagged momentary limit assetLegal assetsLegal
+    rangesLegal limitsLegal entriesLegal playerBlank requestLegal takenCode answerLegal insideDates insideInterval useLegal openLegal
+    playerLegal playersLegal meterLegal startLegal opens openUses openSeconds metersCover entryMetersLegal metersLegal ruleBroken
+    joined imageLength headerBytes assetBytes entryBytes playerBytes image lengthOf markIn versionIn assetCountIn entryCountIn timeIn
+    assetIn entryIn playerIn assetTable entryTable playerTable entriesFrom playersFrom bookIn headerBroken readCode
 greatest-read = refl
 
-greatest-length : lengthOf greatest ≡ 3979
+-- and demand 2 of it
+pub greatest-back : readBook noBook (image greatest) ≡ greatest
+greatest-back = demand2 .readsBack noBook greatest greatest-legal greatest-typed .1
+
+pub greatest-length : lengthOf greatest ≡ 3979
 unfolding greatest assetsIn entriesIn imageLength lengthOf
 greatest-length = refl
 
 -- ## A small book: an asset with a parent, an entry with every limit, a print without limits, one player with an open use
 
-small : Book
+unfoldable pub small : Book
 small = record {
   time = 168496141;
   assetcount = 2;
@@ -258,7 +205,7 @@ small = record {
 }
 
 -- its bytes, one line for each of the header, the assets, the entries and the players
-small-bytes : image small
+pub small-bytes : image small
     ≡ 82 ∷ 66 ∷ 75 ∷ 0 ∷ 1 ∷ 2 ∷ 2 ∷ 10 ∷ 11 ∷ 12 ∷ 13 ∷ []
     ++ 1 ∷ 2 ∷ 0 ∷ 2 ∷ 1 ∷ []
     ++ 0 ∷ 2 ∷ 0 ∷ 0 ∷ 0 ∷ []
@@ -271,11 +218,11 @@ unfolding small joined headerBytes assetBytes entryBytes playerBytes assetsIn en
 small-bytes = refl
 
 -- the reader's answer where one byte of the image is another
-abbrev with : ℕ → ℕ → ℕ
+abbrev pub with : ℕ → ℕ → ℕ
 with k v = readCode (set (image small) k v)
 
 -- one line for each of 20 to 25, two for 26, one for 27; the last are accepted, most of them just on a bound
-damaged : (readCode (take 10 (image small)) ∷ readCode (take 506 (image small)) ∷ readCode (image small ++ (0 ∷ [])) ∷ with 6 1 ∷ [])
+pub damaged : (readCode (take 10 (image small)) ∷ readCode (take 506 (image small)) ∷ readCode (image small ++ (0 ∷ [])) ∷ with 6 1 ∷ [])
     ∷ (with 0 83 ∷ with 1 75 ∷ with 2 66 ∷ readCode (replicate 11 0) ∷ [])
     ∷ (with 3 1 ∷ with 4 0 ∷ with 4 2 ∷ [])
     ∷ (with 5 65 ∷ with 6 65 ∷ with 7 239 ∷ [])
@@ -297,5 +244,9 @@ damaged : (readCode (take 10 (image small)) ∷ readCode (take 506 (image small)
     ∷ replicate 7 27
     ∷ replicate 11 0
     ∷ []
-unfolding small all first sum listed assetsIn entriesIn grantLength assetPosition inBook flagged momentary limit assetLegal assetsLegal rangesLegal limitsLegal entriesLegal playerBlank requestLegal takenCode answerLegal insideDates insideInterval useLegal openLegal playerLegal playersLegal meterLegal startLegal opens openUses openSeconds metersCover entryMetersLegal metersLegal ruleBroken joined imageLength headerBytes assetBytes entryBytes playerBytes image lengthOf markIn versionIn assetCountIn entryCountIn timeIn assetIn entryIn playerIn assetTable entryTable playerTable entriesFrom playersFrom bookIn headerBroken readCode
+unfolding small all first sum listed assetsIn entriesIn grantLength assetPosition inBook flagged momentary limit assetLegal assetsLegal
+    rangesLegal limitsLegal entriesLegal playerBlank requestLegal takenCode answerLegal insideDates insideInterval useLegal openLegal
+    playerLegal playersLegal meterLegal startLegal opens openUses openSeconds metersCover entryMetersLegal metersLegal ruleBroken
+    joined imageLength headerBytes assetBytes entryBytes playerBytes image lengthOf markIn versionIn assetCountIn entryCountIn timeIn
+    assetIn entryIn playerIn assetTable entryTable playerTable entriesFrom playersFrom bookIn headerBroken readCode
 damaged = refl

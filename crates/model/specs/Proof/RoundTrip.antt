@@ -1,67 +1,30 @@
 -- Demand 2: a book that is written reads back as the same book, and an image that is accepted is written back byte for byte.
-use Prim.Native.Nat.{ℕ, zero, suc, _+_, _*_, _-_, _<_, _≤_, min}
+use Prim.Native.Nat.{ℕ, suc, _+_, _*_, _-_, _<_, _≤_}
 use mathlib.Core.Path.{_≡_, refl, sym, ap, ap₂, subst, _∙_}
 use mathlib.Core.Bool.{Bool, true, false, cond, _&&_, _||_, not, true≢false}
 use mathlib.Core.List.{List, [], _∷_, _++_, append-assoc, append-nil}
 use native.Mathlib.Omega.{arith}
 use native.Mathlib.Nat.{mul-suc, mul-le-mul-left, min-eq-left}
-use lib.ListN.{length, getD, take, drop, replicate, length-append, length-drop, take-append-drop, List·getD-eq-default}
+use lib.ListN.{length, getD, take, drop, replicate, length-append, List·getD-eq-default}
 use lib.Seq.{take-at, drop-at, take-add, take-all}
 use lib.Dec.{ltb, leb, eqb}
 use borrow.Author.Tests.{ltb-false, eqb-true, eqb-false, not-false, eq-eqb, ne-eqb, le-ltb, le-leb}
 use Rattle.laws.specs.Count.{joined, listed}
 use Rattle.laws.specs.Fields.{Width, size, laidOut, valuesAt, Fit}
-use Rattle.laws.specs.FieldLaws.{values-back, values-from, values-fit, length-values, length-laid, laid-back, drop-bytes, zeros-fit}
-use Rattle.laws.specs.TableLaws.{below-or-not, joined-same, listed-same, length-joined, piece-begins, pieces-joined, listed-at, blank-at, length-listed, length-slots, slots-back}
+use Rattle.laws.specs.FieldLaws.{values-back, values-from, values-fit, length-laid, laid-back, drop-bytes, zeros-fit}
+use Rattle.laws.specs.TableLaws.{below-or-not, joined-same, listed-same, length-joined, piece-begins, pieces-joined, listed-at, blank-at}
+use Rattle.laws.specs.TableLaws.{length-listed, length-slots, slots-back}
 use Rattle.book.specs.declared.Asset.{Asset}
 use Rattle.book.specs.declared.Entry.{Entry}
 use Rattle.book.specs.declared.Player.{Player}
 use Rattle.book.specs.declared.Book.{Book}
 use Rattle.book.specs.Blank.{noAsset, noEntry, noPlayer}
 use Rattle.model.specs.Book.{assetAt, playerAt, assetsIn, entriesIn, latestTime, ruleBroken, Legal}
-use Rattle.model.specs.Image.{
-  headerWidths,
-  headerValues,
-  newest,
-  assetWidths,
-  assetValues,
-  assetOf,
-  entryWidths,
-  entryValues,
-  entryOf,
-  playerWidths,
-  playerValues,
-  playerOf,
-  imageLength,
-  headerBytes,
-  assetBytes,
-  entryBytes,
-  playerBytes,
-  image,
-  lengthOf,
-  writeAnswer,
-  writeBuffer,
-  headerField,
-  markIn,
-  versionIn,
-  assetCountIn,
-  entryCountIn,
-  timeIn,
-  assetIn,
-  entryIn,
-  playerIn,
-  assetTable,
-  entryTable,
-  playerTable,
-  entriesFrom,
-  playersFrom,
-  bookIn,
-  headerBroken,
-  readCode,
-  readBook,
-  Typed,
-  Bytes,
-}
+use Rattle.model.specs.Image.{headerWidths, headerValues, newest, assetWidths, assetValues, assetOf, entryWidths, entryValues, entryOf}
+use Rattle.model.specs.Image.{playerWidths, playerValues, playerOf, imageLength, headerBytes, assetBytes, entryBytes, playerBytes, image}
+use Rattle.model.specs.Image.{lengthOf, writeAnswer, writeBuffer, headerField, markIn, versionIn, assetCountIn, entryCountIn, timeIn}
+use Rattle.model.specs.Image.{assetIn, entryIn, playerIn, assetTable, entryTable, playerTable, entriesFrom, playersFrom, bookIn}
+use Rattle.model.specs.Image.{headerBroken, readCode, readBook, Typed, Bytes}
 use Rattle.model.specs.Demand2.{Demand2}
 
 -- ## One table of records of any layout
