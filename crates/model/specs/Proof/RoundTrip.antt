@@ -11,9 +11,10 @@ use lib.Dec.{ltb, leb, eqb}
 use borrow.Author.Tests.{ltb-false, eqb-true, eqb-false, not-false, eq-eqb, ne-eqb, le-ltb, le-leb}
 use Rattle.laws.specs.Count.{joined, listed}
 use Rattle.laws.specs.Fields.{Width, size, laidOut, valuesAt, Fit}
-use Rattle.laws.specs.FieldLaws.{values-back, values-from, values-fit, length-laid, laid-back, drop-bytes, zeros-fit}
+use Rattle.laws.specs.FieldLaws.{values-back, values-from, values-fit, length-laid, laid-back, laid-bytes, append-bytes, drop-bytes}
+use Rattle.laws.specs.FieldLaws.{zeros-fit}
 use Rattle.laws.specs.TableLaws.{below-or-not, joined-same, listed-same, length-joined, piece-begins, pieces-joined, listed-at, blank-at}
-use Rattle.laws.specs.TableLaws.{length-listed, length-slots, slots-back}
+use Rattle.laws.specs.TableLaws.{length-listed, length-slots, slots-back, joined-bytes}
 use Rattle.book.specs.declared.Asset.{Asset}
 use Rattle.book.specs.declared.Entry.{Entry}
 use Rattle.book.specs.declared.Player.{Player}
@@ -236,6 +237,19 @@ module _ (b : Book) (l : Legal b) where
         let code : readCode (image b) ≡ 0 = rw (header-holds, book-back) (l .rules) in
         (code, rw (code) book-back)
 
+    image-bytes : Bytes (image b)
+    unfolding image headerBytes assetBytes entryBytes playerBytes
+    image-bytes =
+        let fits : Fit headerWidths (headerValues (assetsIn b) (entriesIn b) (b .time)) =
+        rw (assets-in, entries-in) (header-fits (b .assetcount) (b .entrycount) (b .time) (l .assetCount) (l .entryCount) (l .time)) in
+        append-bytes (headerPart b ++ assetPart b ++ entryPart b) (playerPart b)
+        (append-bytes (headerPart b ++ assetPart b) (entryPart b)
+        (append-bytes (headerPart b) (assetPart b)
+        (laid-bytes headerWidths (headerValues (assetsIn b) (entriesIn b) (b .time)) fits)
+        (joined-bytes _ (λ i. laid-bytes assetWidths (assetValues (assetAt (b .assets) i)) (y .assets i)) (assetsIn b)))
+        (joined-bytes _ (λ i. laid-bytes entryWidths (entryValues (getD (b .entries) i noEntry)) (y .entries i)) (entriesIn b)))
+        (joined-bytes _ (λ i. laid-bytes playerWidths (playerValues (playerAt (b .players) i)) (y .players i)) 16)
+
 -- ## Read and written back
 
 both-zero : (h r : ℕ) → cond (eqb h 0) r h ≡ 0 → (h ≡ 0) × (r ≡ 0)
@@ -422,6 +436,7 @@ module _ (b : Book) (old : List ℕ) (h : lengthOf b ≤ length old) where
 pub demand2 : Demand2
 demand2 = record {
   readsBack = λ held b l y. reads-back b l y held;
+  imageBytes = image-bytes;
   writesBack = writes-back;
   acceptedLegal = accepted-legal;
   refusedKeeps = refused-keeps;
