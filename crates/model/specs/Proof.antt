@@ -1,1 +1,5 @@
 pub mod Afternoon
+pub mod Facts
+pub mod Sums
+pub mod Figures
+pub mod Held
