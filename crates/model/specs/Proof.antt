@@ -3,3 +3,4 @@ pub mod Facts
 pub mod Sums
 pub mod Figures
 pub mod Held
+pub mod Concrete
