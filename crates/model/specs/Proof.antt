@@ -4,3 +4,4 @@ pub mod Sums
 pub mod Figures
 pub mod Held
 pub mod Concrete
+pub mod Grounds
