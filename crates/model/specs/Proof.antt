@@ -5,3 +5,4 @@ pub mod Figures
 pub mod Held
 pub mod Concrete
 pub mod Grounds
+pub mod Steps
