@@ -6,3 +6,5 @@ pub mod Held
 pub mod Concrete
 pub mod Grounds
 pub mod Steps
+pub mod Suitable
+pub mod Choice
