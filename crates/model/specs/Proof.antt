@@ -8,3 +8,4 @@ pub mod Grounds
 pub mod Steps
 pub mod Suitable
 pub mod Choice
+pub mod Until

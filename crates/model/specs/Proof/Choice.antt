@@ -1,4 +1,4 @@
--- The choice: the entry chosen goes first among those allowed, by the statement's words, and its until is the least of the statement's bounds.
+-- The order of the choice: the entry chosen goes before every other that is allowed, by the statement's words.
 use mathlib.Core.Path.{_≡_, refl, sym, ap, _∙_, subst}
 use mathlib.Core.Logic.{_↔_, _⊎_, inl, inr}
 use Prim.Native.Nat.{ℕ, zero, suc, _+_, _-_, _*_, _≤_, _<_, min}
