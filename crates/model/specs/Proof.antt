@@ -9,3 +9,4 @@ pub mod Steps
 pub mod Suitable
 pub mod Choice
 pub mod Until
+pub mod Run
