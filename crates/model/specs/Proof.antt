@@ -10,3 +10,4 @@ pub mod Suitable
 pub mod Choice
 pub mod Until
 pub mod Run
+pub mod Demand3
