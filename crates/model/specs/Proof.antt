@@ -1,4 +1,3 @@
-pub mod Afternoon
 pub mod Facts
 pub mod Sums
 pub mod Figures
@@ -11,3 +10,4 @@ pub mod Choice
 pub mod Until
 pub mod Run
 pub mod Demand3
+pub mod Afternoon
