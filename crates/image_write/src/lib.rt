@@ -9,9 +9,9 @@ ghost use Rattle.book.specs.Blank.{noEntry};
 ghost use Rattle.model.specs.Book.{assetAt, playerAt};
 ghost use Rattle.model.specs.Image.{assetBytes, entryBytes, playerBytes, writeAnswer, writeBuffer};
 use book::Asset;
+use book::Book;
 use book::Entry;
 use book::Player;
-use book::Book;
 
 // Lays src into buf from at on, and returns the place behind it.
 fn put(buf: &mut [u8], at: usize, src: &[u8]) -> usize
@@ -27,7 +27,7 @@ fn put(buf: &mut [u8], at: usize, src: &[u8]) -> usize
 }
 
 // The three tables: the first n records from at on, and the place behind them.
-fn put_assets(table: [Asset; 64], n: usize, buf: &mut [u8], at: usize) -> usize
+fn put_assets(buf: &mut [u8], at: usize, table: [Asset; 64], n: usize) -> usize
     requires { ⌜ (n ≤ 64) × (at + 5 * n ≤ length (now buf)) ⌝ }
     ensures { λ r. ⌜ (r ≡ at + 5 * n) × (now (buf .exit) ≡ lay (now (buf .entry)) at (joined (λ i. assetBytes (assetAt table i)) n)) ⌝ }
 {
@@ -42,7 +42,7 @@ fn put_assets(table: [Asset; 64], n: usize, buf: &mut [u8], at: usize) -> usize
     o
 }
 
-fn put_entries(table: [Entry; 64], n: usize, buf: &mut [u8], at: usize) -> usize
+fn put_entries(buf: &mut [u8], at: usize, table: [Entry; 64], n: usize) -> usize
     requires { ⌜ (n ≤ 64) × (at + 51 * n ≤ length (now buf)) ⌝ }
     ensures { λ r. ⌜ (r ≡ at + 51 * n) × (now (buf .exit) ≡ lay (now (buf .entry)) at (joined (λ i. entryBytes (getD table i noEntry)) n)) ⌝ }
 {
@@ -57,7 +57,7 @@ fn put_entries(table: [Entry; 64], n: usize, buf: &mut [u8], at: usize) -> usize
     o
 }
 
-fn put_players(table: [Player; 16], buf: &mut [u8], at: usize) -> usize
+fn put_players(buf: &mut [u8], at: usize, table: [Player; 16]) -> usize
     requires { ⌜ at + 384 ≤ length (now buf) ⌝ }
     ensures { λ r. ⌜ (r ≡ at + 384) × (now (buf .exit) ≡ lay (now (buf .entry)) at (joined (λ p. playerBytes (playerAt table p)) 16)) ⌝ }
 {
@@ -93,9 +93,9 @@ pub fn write(b: Book, buf: &mut [u8]) -> usize
     let head = image_records::header_bytes(assets, entries, b.time);
     let o = put(buf, 0, &head);
     let ats = b.assets;
-    let o = put_assets(ats, a, buf, o);
+    let o = put_assets(buf, o, ats, a);
     let es = b.entries;
-    let o = put_entries(es, n, buf, o);
+    let o = put_entries(buf, o, es, n);
     let ps = b.players;
-    put_players(ps, buf, o)
+    put_players(buf, o, ps)
 }

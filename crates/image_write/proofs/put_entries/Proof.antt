@@ -15,11 +15,11 @@ use Rattle.image_write.proofs.put_entries.Statement.{statement}
 use Rattle.image_write.proofs.put_entries.Tie as tie
 
 abbrev Inv-loop : tie.InvT-loop
-Inv-loop n buf₀ at table i₀ o₀ buf i o =
+Inv-loop buf₀ at n table i₀ o₀ buf i o =
     (i ≤ n) × (o ≡ at + 51 * i) × (buf ≡ lay buf₀ at (joined (λ k. entryBytes (getD table k noEntry)) i)) × (length buf ≡ length buf₀)
 
 abbrev μ-loop : tie.MeasureT-loop
-μ-loop n buf₀ at table i₀ o₀ buf i o = n - i
+μ-loop buf₀ at n table i₀ o₀ buf i o = n - i
 
 loop-holds : tie.Need-loop-holds Inv-loop μ-loop
 unfolding joined
@@ -55,14 +55,14 @@ loop-again c =
     let l = c .before .before .before .before .before .before .before .before .loop in
     let b = c .before .before .before .before .before .entry-bytes in
     let p = c .before .before .put in
-    let f : ℕ → List ℕ = λ k. entryBytes (getD (a .t1) k noEntry) in
+    let f : ℕ → List ℕ = λ k. entryBytes (getD (a .t3) k noEntry) in
     let s : b .result ≡ f (l .i) = b .ensures ∙ entry-shut _ in
     let n : length (b .result) ≡ 51 = ap length s ∙ entry-length _ in
     let room : a .at + 51 * (l .i + 1) ≤ length (now (a .buf)) = omega arith in (
       omega arith,
       omega arith,
       p .ensures .1
-      ∙ (rw (l .inv .2, l .inv .1, s) (joined-turn f 51 (λ k. entry-length _) (now (a .buf)) (a .at) (l .i) room)),
+          ∙ (rw (l .inv .2, l .inv .1, s) (joined-turn f 51 (λ k. entry-length _) (now (a .buf)) (a .at) (l .i) room)),
       p .kept .0 ∙ l .inv .3,
     )
 
@@ -74,7 +74,7 @@ returns c =
     let a = c .before .before .before .args in
     let l = c .before .loop in
     let e : l .i ≡ a .n = omega arith in
-    (omega arith, l .inv .2 ∙ ap (λ (k : ℕ). lay (now (a .buf)) (a .at) (joined (λ j. entryBytes (getD (a .t1) j noEntry)) k)) e)
+    (omega arith, l .inv .2 ∙ ap (λ (k : ℕ). lay (now (a .buf)) (a .at) (joined (λ j. entryBytes (getD (a .t3) j noEntry)) k)) e)
 
 pub put-entries-spec : {M : Type 1} → statement M
 put-entries-spec =

@@ -55,14 +55,14 @@ loop-again c =
     let l = c .before .before .before .before .before .before .before .before .loop in
     let b = c .before .before .before .before .before .player-bytes in
     let p = c .before .before .put in
-    let f : ℕ → List ℕ = λ k. playerBytes (playerAt (a .t1) k) in
+    let f : ℕ → List ℕ = λ k. playerBytes (playerAt (a .t3) k) in
     let s : b .result ≡ f (l .i) = b .ensures ∙ player-shut _ in
     let n : length (b .result) ≡ 24 = ap length s ∙ player-length _ in
     let room : a .at + 24 * (l .i + 1) ≤ length (now (a .buf)) = omega arith in (
       omega arith,
       omega arith,
       p .ensures .1
-      ∙ (rw (l .inv .2, l .inv .1, s) (joined-turn f 24 (λ k. player-length _) (now (a .buf)) (a .at) (l .i) room)),
+          ∙ (rw (l .inv .2, l .inv .1, s) (joined-turn f 24 (λ k. player-length _) (now (a .buf)) (a .at) (l .i) room)),
       p .kept .0 ∙ l .inv .3,
     )
 
@@ -74,7 +74,7 @@ returns c =
     let a = c .before .before .before .args in
     let l = c .before .loop in
     let e : l .i ≡ 16 = omega arith in
-    (omega arith, l .inv .2 ∙ ap (λ (k : ℕ). lay (now (a .buf)) (a .at) (joined (λ j. playerBytes (playerAt (a .t1) j)) k)) e)
+    (omega arith, l .inv .2 ∙ ap (λ (k : ℕ). lay (now (a .buf)) (a .at) (joined (λ j. playerBytes (playerAt (a .t3) j)) k)) e)
 
 pub put-players-spec : {M : Type 1} → statement M
 put-players-spec =

@@ -1,86 +1,101 @@
+-- `write` meets its contract: with no room the answer is 30 and nothing is laid; with room the four parts are, each behind the one before.
+use mathlib.Core.Path.{_≡_, refl, sym, ap, _∙_}
+use mathlib.Core.List.{List}
+use Prim.Native.Nat.{ℕ, _+_, _*_, _<_, _≤_}
+use native.Mathlib.Omega.{arith}
 use borrow.Author.Needs.{needs}
+use borrow.Author.Tests.{le-leb, lt-leb}
+use denote.Ref.{now}
+use lib.ListN.{length}
+use Rattle.laws.specs.Buffer.{lay}
+use Rattle.model.specs.Book.{assetsIn, entriesIn}
+use Rattle.model.specs.Image.{imageLength, lengthOf, writeAnswer, writeBuffer}
+use Rattle.image_records.specs.Records.{header-shut, header-length}
+use Rattle.image_write.specs.Laid.{header, withHeader, withAssets, withEntries, withPlayers, entriesFrom, playersFrom, length-is, laid-image}
 use Rattle.image_write.proofs.write.Statement.{statement}
 use Rattle.image_write.proofs.write.Tie as tie
-use Rattle.image_write.proofs.write.Reads as reads
-use Rattle.image_write.proofs.write.Lts as lts
-use Rattle.image_records.proofs.header_bytes.Reads as header-bytes-reads
-use Rattle.image_write.proofs.at_most_64.Reads as at-most-64-reads
-use Rattle.image_write.proofs.put.Reads as put-reads
-use Rattle.image_write.proofs.put_assets.Reads as put-assets-reads
-use Rattle.image_write.proofs.put_entries.Reads as put-entries-reads
-use Rattle.image_write.proofs.put_players.Reads as put-players-reads
 
--- src/lib.rt:85:9
 at-most-64-requires : tie.Need-at-most-64-requires
 at-most-64-requires c κs = search needs
 
--- src/lib.rt:86:9
 at-most-64-requires-2 : tie.Need-at-most-64-requires-2
 at-most-64-requires-2 c κs = search needs
 
--- src/lib.rt:87:13
 cast-a : tie.Need-cast-a
 cast-a c = search needs
 
--- src/lib.rt:88:13
 cast-n : tie.Need-cast-n
 cast-n c = search needs
 
--- src/lib.rt:89:20
 mul-len : tie.Need-mul-len
 mul-len c = search needs
 
--- src/lib.rt:89:15
 add-len : tie.Need-add-len
 add-len c = search needs
 
--- src/lib.rt:89:28
 mul-len-2 : tie.Need-mul-len-2
 mul-len-2 c = search needs
 
--- src/lib.rt:89:15
 add-len-2 : tie.Need-add-len-2
 add-len-2 c = search needs
 
--- src/lib.rt:89:15
 add-len-3 : tie.Need-add-len-3
 add-len-3 c = search needs
 
--- src/lib.rt:91:9
 returns : tie.Need-returns
-returns c = ?
+unfolding writeAnswer writeBuffer lengthOf imageLength assetsIn entriesIn
+returns c =
+    let a = c .before .before .before .before .args in
+    let short : length (now (a .buf)) < lengthOf (a .b) = omega arith in
+    (rw (lt-leb _ _ short), rw (lt-leb _ _ short))
 
--- src/lib.rt:93:16
 header-bytes-requires : tie.Need-header-bytes-requires
 header-bytes-requires c κs = search needs
 
--- src/lib.rt:94:25
 slice-aggregate-put : tie.Need-slice-aggregate-put
 slice-aggregate-put c = search needs
 
--- src/lib.rt:94:9
 put-requires : tie.Need-put-requires
 put-requires c κs = search needs
 
--- src/lib.rt:96:9
 put-assets-requires : tie.Need-put-assets-requires
 put-assets-requires c κs = search needs
 
--- src/lib.rt:98:9
 put-entries-requires : tie.Need-put-entries-requires
 put-entries-requires c κs = search needs
 
--- src/lib.rt:100:5
 put-players-requires : tie.Need-put-players-requires
 put-players-requires c κs = search needs
 
--- src/lib.rt:82:1
 same-length : tie.Need-same-length
 same-length c = search needs
 
--- src/lib.rt:82:1
 returns-2 : tie.Need-returns-2
-returns-2 c = ?
+unfolding writeAnswer writeBuffer assetsIn entriesIn
+returns-2 c =
+    let a = c .before .before .before .before .before .before .before .before .before .before .before .before .before .before .before .before .before .before .before .before .before .before .before .before .before .args in
+    let b = a .b in
+    let old = now (a .buf) in
+    let na : c .before .before .before .before .before .before .before .before .before .before .before .before .before .before .before .before .before .before .before .before .before .before .before .at-most-64 .result ≡ assetsIn b = c .before .before .before .before .before .before .before .before .before .before .before .before .before .before .before .before .before .before .before .before .before .before .before .at-most-64 .ensures in
+    let ne : c .before .before .before .before .before .before .before .before .before .before .before .before .before .before .before .before .before .before .before .before .before .before .at-most-642 .result ≡ entriesIn b = c .before .before .before .before .before .before .before .before .before .before .before .before .before .before .before .before .before .before .before .before .before .before .at-most-642 .ensures in
+    let h = c .before .before .before .before .before .before .before .before .before .before .before .before .before .before .before .before .before .before .before .before .header-bytes in
+    let p = c .before .before .before .before .before .before .before .before .before .before .before .before .before .before .before .before .before .put in
+    let pa = c .before .before .before .before .before .before .before .before .before .before .before .before .put-assets in
+    let pe = c .before .before .before .before .before .before .before .put-entries in
+    let pp = c .before .before .put-players in
+    let room : playersFrom b + 384 ≤ length old = omega (arith, c .before .before .before .before .before .before .before .before .before .before .before .before .before .before .before .before .before .before .before .before .before .if1 .left) in
+    let fits : lengthOf b ≤ length old = rw (length-is b) room in
+    let head : h .result ≡ header b = h .ensures ∙ header-shut _ _ _ ∙ (rw (na, ne) refl) in
+    let o₁ : p .result ≡ 11 = p .ensures .0 ∙ (rw (head, header-length) refl) in
+    let o₂ : pa .result ≡ entriesFrom b = pa .ensures .0 ∙ (rw (o₁, na) refl) in
+    let o₃ : pe .result ≡ playersFrom b = pe .ensures .0 ∙ (rw (o₂, ne) refl) in
+    let one : p .last .0 ≡ withHeader b old = p .ensures .1 ∙ (rw head refl) in
+    let two : pa .last .0 ≡ withAssets b old = pa .ensures .1 ∙ (rw (one, o₁, na) refl) in
+    let three : pe .last .0 ≡ withEntries b old = pe .ensures .1 ∙ (rw (two, o₂, ne) refl) in
+    let four : pp .last .0 ≡ withPlayers b old = pp .ensures .1 ∙ (rw (three, o₃) refl) in (
+      rw (le-leb _ _ fits) (pp .ensures .0 ∙ ap (λ (k : ℕ). k + 384) o₃ ∙ sym (length-is b)),
+      rw (le-leb _ _ fits) (four ∙ laid-image b old room),
+    )
 
 pub write-spec : {M : Type 1} → statement M
 write-spec =
