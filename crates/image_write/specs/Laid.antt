@@ -10,7 +10,8 @@ use Rattle.book.specs.declared.Book.{Book}
 use Rattle.book.specs.Blank.{noEntry}
 use Rattle.model.specs.Book.{assetAt, playerAt, assetsIn, entriesIn}
 use Rattle.model.specs.Image.{headerBytes, assetBytes, entryBytes, playerBytes, image, imageLength, lengthOf}
-use Rattle.image_records.specs.Records.{header-length, asset-length, entry-length, player-length}
+use Rattle.image_records.specs.Records.{header-length, asset-length, player-length}
+use Rattle.image_entry.specs.Entry.{entry-length}
 
 module _ (b : Book) where
   abbrev pub header : List ℕ

@@ -50,7 +50,7 @@ fn put_entries(buf: &mut [u8], at: usize, table: [Entry; 64], n: usize) -> usize
     let mut o: usize = at;
     while i < n {
         let e = table[i];
-        let s = image_records::entry_bytes(e);
+        let s = image_entry::entry_bytes(e);
         o = put(buf, o, &s);
         i = i + 1;
     }
@@ -78,7 +78,8 @@ fn at_most_64(n: u8) -> u8
     if n < 64 { n } else { 64 }
 }
 
-// The length of the image, or 30 where the buffer has no room for it.
+// The length of the image, or 30 where the buffer has no room for it. The contract rules out a writer that returns 30 but
+// has begun to write, and one that writes the image and a byte more behind it.
 pub fn write(b: Book, buf: &mut [u8]) -> usize
     ensures { λ r. ⌜ (r ≡ writeAnswer b (length (now (buf .entry)))) × (now (buf .exit) ≡ writeBuffer b (now (buf .entry))) ⌝ }
 {

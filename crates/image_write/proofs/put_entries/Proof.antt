@@ -10,7 +10,7 @@ use Rattle.laws.specs.Count.{joined}
 use Rattle.laws.specs.Buffer.{lay, lay-nil, joined-turn}
 use Rattle.book.specs.Blank.{noEntry}
 use Rattle.model.specs.Image.{entryBytes}
-use Rattle.image_records.specs.Records.{entry-shut, entry-length}
+use Rattle.image_entry.specs.Entry.{entry-shut, entry-length}
 use Rattle.image_write.proofs.put_entries.Statement.{statement}
 use Rattle.image_write.proofs.put_entries.Tie as tie
 
