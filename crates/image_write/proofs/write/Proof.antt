@@ -1,13 +1,11 @@
 -- `write` meets its contract: with no room the answer is 30 and nothing is laid; with room the four parts are, each behind the one before.
 use mathlib.Core.Path.{_≡_, refl, sym, ap, _∙_}
-use mathlib.Core.List.{List}
-use Prim.Native.Nat.{ℕ, _+_, _*_, _<_, _≤_}
+use Prim.Native.Nat.{ℕ, _+_, _<_, _≤_}
 use native.Mathlib.Omega.{arith}
 use borrow.Author.Needs.{needs}
 use borrow.Author.Tests.{le-leb, lt-leb}
 use denote.Ref.{now}
 use lib.ListN.{length}
-use Rattle.laws.specs.Buffer.{lay}
 use Rattle.model.specs.Book.{assetsIn, entriesIn}
 use Rattle.model.specs.Image.{imageLength, lengthOf, writeAnswer, writeBuffer}
 use Rattle.image_records.specs.Records.{header-shut, header-length}
