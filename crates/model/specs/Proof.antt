@@ -1,0 +1,6 @@
+-- Lemmas and proofs about the definitions above: nothing here has to be believed.
+pub mod RoundTrip
+pub mod BookExamples
+pub mod KeptFacts
+pub mod KeptRules
+pub mod KeptMeters
