@@ -174,3 +174,261 @@ module _ {T n : ℕ} {lim : ℕ → Limits} {met : ℕ → Meters} {opn : ℕ �
             meter-ended (o .begin) (o .until) e (h .meters i (use₁ .entry)) g k s
             (omega (arith, x, ap one on)) (omega (arith, y, cond-on (isOn o) (o .until - o .begin) 0 on));
       })
+
+-- ## Until
+
+-- a grant gives some time, and at most so much
+
+pub grant-some : (k : ℕ) → 1 ≤ grantLength k
+unfolding grantLength
+grant-some k = omega arith
+
+pub grant-most : (k : ℕ) → grantLength k ≤ 300
+unfolding grantLength
+grant-most k = omega arith
+
+module _ (t from : ℕ) (l : Limits) (m : Meters) where
+  abbrev by-seconds : ℕ
+  by-seconds = cap (flagged 32 l) (from + (l .accumulated - m .seconds)) (t + grantLength (l .kind))
+
+  abbrev by-interval : ℕ
+  by-interval = cap (flagged 16 l) (intervalFrom t m + l .interval) by-seconds
+
+  seconds-le : by-seconds ≤ t + grantLength (l .kind)
+  seconds-le = cap-le (flagged 32 l) (from + (l .accumulated - m .seconds)) (t + grantLength (l .kind))
+
+  interval-le : by-interval ≤ by-seconds
+  interval-le = cap-le (flagged 16 l) (intervalFrom t m + l .interval) by-seconds
+
+  least-le : leastUntil t from l m ≤ by-interval
+  unfolding leastUntil
+  least-le = cap-le (flagged 8 l) (l .end + 1) by-interval
+
+  least-near : leastUntil t from l m ≤ t + grantLength (l .kind)
+  least-near = omega (arith, least-le, interval-le, seconds-le)
+
+  least-last : flagged 8 l ≡ true → leastUntil t from l m ≤ l .end + 1
+  unfolding leastUntil
+  least-last f = cap-at (flagged 8 l) (l .end + 1) by-interval f
+
+  least-span : flagged 16 l ≡ true → leastUntil t from l m ≤ intervalFrom t m + l .interval
+  least-span f = omega (arith, least-le, cap-at (flagged 16 l) (intervalFrom t m + l .interval) by-seconds f)
+
+  least-unused : flagged 32 l ≡ true → leastUntil t from l m ≤ from + (l .accumulated - m .seconds)
+  least-unused f = omega (arith, least-le, interval-le, cap-at (flagged 32 l) (from + (l .accumulated - m .seconds)) (t + grantLength (l .kind)) f)
+
+  least-ge : (x : ℕ) → x ≤ t + grantLength (l .kind) → (flagged 8 l ≡ true → x ≤ l .end + 1) → (flagged 16 l ≡ true → x ≤ intervalFrom t m + l .interval) →
+      (flagged 32 l ≡ true → x ≤ from + (l .accumulated - m .seconds)) → x ≤ leastUntil t from l m
+  unfolding leastUntil
+  least-ge x a b c d =
+      cap-ge (flagged 8 l) (l .end + 1) by-interval x
+      (cap-ge (flagged 16 l) (intervalFrom t m + l .interval) by-seconds x (cap-ge (flagged 32 l) (from + (l .accumulated - m .seconds)) (t + grantLength (l .kind)) x a d) c)
+      b
+
+since-first : (t : ℕ) (m : Meters) → m .started ≡ 1 → intervalFrom t m ≡ m .first
+since-first t m e = cond-on (isStarted m) (m .first) t (eq-eqb (m .started) 1 e)
+
+-- ## Continue
+
+meter-continued : {T : ℕ} {l : Limits} {m : Meters} {K S : ℕ} (b u v : ℕ) → MeterOk T l m K S → b ≤ u → u ≤ v → (flagged 32 l ≡ true → m .seconds + (v - u) ≤ l .accumulated) →
+    (k s : ℕ) → k ≡ K → s + (u - b) ≡ S + (v - b) → MeterOk T l (continued u v l m) k s
+unfolding continued
+meter-continued {l = l} {m = m} b u v h g g′ z k s x y = record {
+  count = record { within = h .count .within; covers = λ f. omega (arith, h .count .covers f); unused = h .count .unused };
+  timed = record { within = h .timed .within; covers = λ f. omega (arith, h .timed .covers f); unused = h .timed .unused };
+  seconds = record {
+    within = λ f. rw f (z f);
+    covers = λ f. rw f (omega (arith, h .seconds .covers f));
+    unused = λ f. rw f (omega (arith, h .seconds .unused f));
+  };
+  mark = h .mark;
+  unstarted = h .unstarted;
+  unset = h .unset;
+  past = h .past;
+}
+
+module _ {T n : ℕ} {lim : ℕ → Limits} {met : ℕ → Meters} {opn : ℕ → Open} (h : Sound T n lim met opn) (p : ℕ) (pl : p < 16) (on : isOn (opn p) ≡ true) (live : T < opn p .until) where
+  abbrev oₚ : Open
+  oₚ = opn p
+
+  abbrev lₚ : Limits
+  lₚ = lim (oₚ .entry)
+
+  abbrev mₚ : Meters
+  mₚ = met (oₚ .entry)
+
+  abbrev useₚ : UseOk T n lₚ mₚ oₚ
+  useₚ = h .opens p .runs on
+
+  abbrev v : ℕ
+  v = moreUntil T (oₚ .until) lₚ mₚ
+
+  more-unused : flagged 32 lₚ ≡ true → mₚ .seconds + (v - oₚ .until) ≤ lₚ .accumulated
+  unfolding moreUntil
+  more-unused f = omega (arith, least-unused T (oₚ .until) lₚ mₚ f, h .meters (oₚ .entry) (useₚ .entry) .seconds .within f)
+
+  pub continued-sound : oₚ .until < v → Sound T n lim (upd (oₚ .entry) (continued (oₚ .until) v lₚ mₚ) met) (upd p (record { on = 1; entry = oₚ .entry; begin = oₚ .begin; until = v }) opn)
+  unfolding continued moreUntil
+  continued-sound g =
+      changed h p (oₚ .entry) (continued (oₚ .until) v lₚ mₚ) (record { on = 1; entry = oₚ .entry; begin = oₚ .begin; until = v })
+      (record {
+        player = pl;
+        entry = useₚ .entry;
+        before = λ q. refl;
+        after = λ q. refl;
+        stays = λ f s. (s, refl);
+        shut = λ q. clash refl q;
+        runs = λ q. record {
+          begun = useₚ .begun;
+          near = least-near T (oₚ .until) lₚ mₚ;
+          entry = useₚ .entry;
+          kind = useₚ .kind;
+          from = useₚ .from;
+          last = least-last T (oₚ .until) lₚ mₚ;
+          started = useₚ .started;
+          since = useₚ .since;
+          span = λ f. omega (arith, least-span T (oₚ .until) lₚ mₚ f, since-first T mₚ (useₚ .started f));
+        };
+        meter = λ k s x y.
+            meter-continued (oₚ .begin) (oₚ .until) v (h .meters (oₚ .entry) (useₚ .entry)) (omega (arith, useₚ .begun)) (omega arith) more-unused k s
+            (omega (arith, x, ap one on)) (omega (arith, y, cond-on (isOn oₚ) (oₚ .until - oₚ .begin) 0 on));
+      })
+
+  pub more-near : v ≤ T + 300
+  unfolding moreUntil
+  more-near = omega (arith, least-near T (oₚ .until) lₚ mₚ, grant-most (lₚ .kind))
+
+-- ## Begin
+
+pub record Grant (t : ℕ) (l : Limits) (m : Meters) : Type 0 where
+  pub count : flagged 1 l ≡ true → m .count < l .count
+  pub timed : flagged 2 l ≡ true → m .timed < l .timed
+  pub from : flagged 4 l ≡ true → l .start ≤ t
+  pub upto : flagged 8 l ≡ true → t ≤ l .end
+  pub interval : flagged 16 l ≡ true → isStarted m ≡ true → t < m .first + l .interval
+  pub seconds : flagged 32 l ≡ true → m .seconds < l .accumulated
+
+pub grant-from : (t : ℕ) (l : Limits) (m : Meters) → grantable t l m ≡ true → Grant t l m
+unfolding grantable countLeft timedLeft inDates intervalLeft secondsLeft
+grant-from t l m e =
+    let h = row-passed (countLeft l m) (timedLeft l m ∷ inDates t l ∷ intervalLeft t l m ∷ secondsLeft l m ∷ []) e in
+    let d = row-passed (asked (flagged 4 l) (leb (l .start) t)) (asked (flagged 8 l) (leb t (l .end)) ∷ []) (h .1 .1 .0) in
+    record {
+      count = λ f. ltb-true _ _ (asked-on (flagged 1 l) _ (h .0) f);
+      timed = λ f. ltb-true _ _ (asked-on (flagged 2 l) _ (h .1 .0) f);
+      from = λ f. leb-true _ _ (asked-on (flagged 4 l) _ (d .0) f);
+      upto = λ f. leb-true _ _ (asked-on (flagged 8 l) _ (d .1 .0) f);
+      interval = λ f s. ltb-true _ _ (implied-at (isStarted m) _ (asked-on (flagged 16 l) _ (h .1 .1 .1 .0) f) s);
+      seconds = λ f. ltb-true _ _ (asked-on (flagged 32 l) _ (h .1 .1 .1 .1 .0) f);
+    }
+
+from-le : (T : ℕ) (m : Meters) → m .first ≤ T → intervalFrom T m ≤ T
+from-le T m h =
+    on-test (isStarted m)
+    (λ q. omega (arith, cond-on (isStarted m) (m .first) T q))
+    (λ q. omega (arith, cond-off (isStarted m) (m .first) T q))
+
+one-le : (f : Bool) → one f ≤ 1
+one-le true = omega arith
+one-le false = omega arith
+
+one-off : (f : Bool) (v : ℕ) → eqb (one f) 1 ≡ false → where-flagged f v ≡ 0
+one-off true v q = clash refl q
+one-off false v q = refl
+
+meter-begun : {T : ℕ} {l : Limits} {m : Meters} {K S : ℕ} (u : ℕ) → MeterOk T l m K S → Grant T l m → (flagged 32 l ≡ true → m .seconds + (u - T) ≤ l .accumulated) →
+    (k s : ℕ) → k ≤ K + 1 → s ≤ S + (u - T) → MeterOk T l (begun T u l m) k s
+unfolding begun
+meter-begun {T = T} {l = l} {m = m} u h g z k s x y = record {
+  count = record {
+    within = λ f. rw f (omega (arith, g .count f));
+    covers = λ f. rw f (omega (arith, h .count .covers f));
+    unused = λ f. rw f (omega (arith, h .count .unused f));
+  };
+  timed = record {
+    within = λ f. rw f (omega (arith, g .timed f));
+    covers = λ f. rw f (omega (arith, h .timed .covers f));
+    unused = λ f. rw f (omega (arith, h .timed .unused f));
+  };
+  seconds = record {
+    within = λ f. rw f (z f);
+    covers = λ f. rw f (omega (arith, h .seconds .covers f));
+    unused = λ f. rw f (omega (arith, h .seconds .unused f));
+  };
+  mark = one-le (flagged 16 l);
+  unstarted = λ f. ap one f;
+  unset = one-off (flagged 16 l) (intervalFrom T m);
+  past = omega (arith, flag-le (flagged 16 l) (intervalFrom T m), from-le T m (h .past));
+}
+
+module _ {T n : ℕ} {lim : ℕ → Limits} {met : ℕ → Meters} {opn : ℕ → Open} (h : Sound T n lim met opn) (p : ℕ) (pl : p < 16) (off : isOn (opn p) ≡ false) (j : ℕ) (jn : j < n) (g : Grant T (lim j) (met j)) where
+  abbrev lⱼ : Limits
+  lⱼ = lim j
+
+  abbrev mⱼ : Meters
+  mⱼ = met j
+
+  begun-stays : (u : ℕ) → Stays lⱼ mⱼ (begun T u lⱼ mⱼ)
+  unfolding begun
+  begun-stays u f s = (ap one f, ap (λ (b : Bool). where-flagged b (intervalFrom T mⱼ)) f ∙ since-first T mⱼ s)
+
+  pub momentary-sound : Sound T n lim (upd j (begun T T lⱼ mⱼ) met) (upd p (opn p) opn)
+  momentary-sound =
+      changed h p j (begun T T lⱼ mⱼ) (opn p)
+      (record {
+        player = pl;
+        entry = jn;
+        before = λ q. clash q off;
+        after = λ q. clash q off;
+        stays = begun-stays T;
+        shut = h .opens p .shut;
+        runs = λ q. clash q off;
+        meter = λ k s x y. meter-begun T (h .meters j jn) g (λ f. omega (arith, g .seconds f)) k s (omega (arith, x)) (omega (arith, y));
+      })
+
+  module _ (kind : between 1 3 (lⱼ .kind) ≡ true) where
+    abbrev w : ℕ
+    w = leastUntil T T lⱼ mⱼ
+
+    pub begun-sound : Sound T n lim (upd j (begun T w lⱼ mⱼ) met) (upd p (record { on = 1; entry = j; begin = T; until = w }) opn)
+    unfolding begun
+    begun-sound =
+        changed h p j (begun T w lⱼ mⱼ) (record { on = 1; entry = j; begin = T; until = w })
+        (record {
+          player = pl;
+          entry = jn;
+          before = λ q. clash q off;
+          after = λ q. refl;
+          stays = begun-stays w;
+          shut = λ q. clash refl q;
+          runs = λ q. record {
+            begun = omega arith;
+            near = least-near T T lⱼ mⱼ;
+            entry = jn;
+            kind = kind;
+            from = g .from;
+            last = least-last T T lⱼ mⱼ;
+            started = λ f. ap one f;
+            since = λ f. omega (arith, flag-le (flagged 16 lⱼ) (intervalFrom T mⱼ), from-le T mⱼ (h .meters j jn .past));
+            span = λ f. omega (arith, least-span T T lⱼ mⱼ f, ap (λ (b : Bool). where-flagged b (intervalFrom T mⱼ)) f);
+          };
+          meter = λ k s x y.
+              meter-begun w (h .meters j jn) g (λ f. omega (arith, least-unused T T lⱼ mⱼ f, g .seconds f)) k s
+              (omega (arith, x)) (omega (arith, y));
+        })
+
+  -- a granted use runs for at least one second, as a flagged interval does
+  pub begun-live : (flagged 16 lⱼ ≡ true → 1 ≤ lⱼ .interval) → T < leastUntil T T lⱼ mⱼ
+  begun-live z =
+      least-ge T T lⱼ mⱼ (suc T) (omega (arith, grant-some (lⱼ .kind))) (λ f. omega (arith, g .upto f))
+      (λ f. on-test (isStarted mⱼ)
+      (λ s. omega (arith, g .interval f s, cond-on (isStarted mⱼ) (mⱼ .first) T s))
+      (λ s. omega (arith, z f, cond-off (isStarted mⱼ) (mⱼ .first) T s)))
+      (λ f. omega (arith, g .seconds f))
+
+pub grant-near : (t : ℕ) (l : Limits) (m : Meters) → grantUntil t l m ≤ t + 300
+unfolding grantUntil
+grant-near t l m =
+    on-test (momentary (l .kind))
+    (λ q. omega (arith, cond-on (momentary (l .kind)) t (leastUntil t t l m) q))
+    (λ q. omega (arith, cond-off (momentary (l .kind)) t (leastUntil t t l m) q, least-near t t l m, grant-most (l .kind)))
