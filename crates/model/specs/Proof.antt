@@ -4,3 +4,4 @@ pub mod BookExamples
 pub mod KeptFacts
 pub mod KeptRules
 pub mod KeptMeters
+pub mod KeptEvents
