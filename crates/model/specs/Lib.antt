@@ -4,4 +4,5 @@ pub mod Events
 pub mod Ledger
 pub mod Demand2
 pub mod Demand3
+pub mod Saved
 pub mod Proof

@@ -5,3 +5,4 @@ pub mod KeptFacts
 pub mod KeptRules
 pub mod KeptMeters
 pub mod KeptEvents
+pub mod Kept

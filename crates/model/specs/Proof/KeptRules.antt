@@ -207,7 +207,7 @@ closed-ok T n lim met = record { shut = λ q. refl; runs = λ q. clash q refl }
 
 -- ## Players
 
-blank-current : (x : Player) → playerBlank x ≡ true → x .current ≡ closed
+pub blank-current : (x : Player) → playerBlank x ≡ true → x .current ≡ closed
 unfolding playerBlank
 blank-current x e =
     let h =
@@ -219,11 +219,11 @@ blank-current x e =
     open-closed (x .current) (eqb-true _ _ (c .0)) (eqb-true _ _ (c .1 .0)) (eqb-true _ _ (c .1 .1 .0)) (eqb-true _ _ (c .1 .1 .1 .0))
 
 module _ (b : Book) (x : Player) where
-  unused-from : eqb (x .last .number) 0 ≡ true → playerLegal b x ≡ true → playerBlank x ≡ true
+  pub unused-from : eqb (x .last .number) 0 ≡ true → playerLegal b x ≡ true → playerBlank x ≡ true
   unfolding playerLegal
   unused-from q e = sym (cond-on (eqb (x .last .number) 0) _ _ q) ∙ e
 
-  used-from : eqb (x .last .number) 0 ≡ false → playerLegal b x ≡ true → (requestLegal (x .last .operation) (x .last .asset) (x .last .kind) ≡ true) × Pass (answerLegal b (x .last .answer) ∷ openLegal b (x .current) ∷ [])
+  pub used-from : eqb (x .last .number) 0 ≡ false → playerLegal b x ≡ true → (requestLegal (x .last .operation) (x .last .asset) (x .last .kind) ≡ true) × Pass (answerLegal b (x .last .answer) ∷ openLegal b (x .current) ∷ [])
   unfolding playerLegal
   used-from q e = row-passed _ (answerLegal b (x .last .answer) ∷ openLegal b (x .current) ∷ []) (sym (cond-off (eqb (x .last .number) 0) _ _ q) ∙ e)
 
@@ -238,6 +238,13 @@ module _ (b : Book) (x : Player) where
       on-test (eqb (x .last .number) 0)
       (λ q. clash on (ap isOn (blank-current x (unused-from q e))))
       (λ q. open-live b (x .current) (used-from q e .1 .1 .0) on)
+
+  pub player-to : (eqb (x .last .number) 0 ≡ true → playerBlank x ≡ true) → (eqb (x .last .number) 0 ≡ false → (requestLegal (x .last .operation) (x .last .asset) (x .last .kind) ≡ true) × (answerLegal b (x .last .answer) ≡ true)) → openLegal b (x .current) ≡ true → playerLegal b x ≡ true
+  unfolding playerLegal
+  player-to blank used runs =
+      on-test (eqb (x .last .number) 0)
+      (λ q. cond-on (eqb (x .last .number) 0) _ _ q ∙ blank q)
+      (λ q. cond-off (eqb (x .last .number) 0) _ _ q ∙ and-both (and-both (used q .0) (used q .1)) runs)
 
 -- ## Meters
 
@@ -294,7 +301,7 @@ module _ (b : Book) (i : ℕ) where
         past = leb-true _ _ (s .1 .1 .1 .0);
       }
 
-  meter-to : MeterOk (b .time) lᵢ mᵢ (openUses b i) (openSeconds b i) → entryMetersLegal b i ≡ true
+  pub meter-to : MeterOk (b .time) lᵢ mᵢ (openUses b i) (openSeconds b i) → entryMetersLegal b i ≡ true
   unfolding entryMetersLegal startLegal metersCover
   meter-to h =
       and-both (and-both (and-both (and-both
