@@ -66,7 +66,7 @@ pub record Saved : Type 0 where
   pub finalLegal : (b : Book) (ds : List Decoded) → Legal b → Legal (final b ds)
   -- and numbers that fit their types
   pub stepTyped : (b : Book) (e : Event) → Legal b → Typed b → Fits e → Typed (step b e .book)
-  pub decodedFits : (s : List ℕ) (e : Event) → Bytes s → decoded s ≡ Valid e → Fits e
+  pub decodedFits : (s : List ℕ) → Bytes s → FitsRead (decoded s)
   -- so the book survives saving, after every event and after every record of bytes
   pub stepSurvives : (b : Book) (e : Event) → Legal b → Typed b → Fits e → Survives (step b e .book)
   pub recordSurvives : (b : Book) (s : List ℕ) → Legal b → Typed b → Bytes s → Survives (stepRecord b s .book)

@@ -1,6 +1,6 @@
 -- Every event on a legal book leaves a legal book, so saving and reading back between any two events changes nothing.
 use mathlib.Core.Path.{_≡_, refl, sym, ap, _∙_, subst, fun-ext}
-use Prim.Native.Nat.{ℕ, zero, suc, _+_, _-_, _≤_, _<_}
+use Prim.Native.Nat.{ℕ, _+_, _≤_, _<_}
 use mathlib.Core.Bool.{Bool, true, false, not, _&&_, _||_, cond}
 use mathlib.Core.List.{List, [], _∷_, map}
 use mathlib.Core.Option.{Option, none, some}
@@ -8,8 +8,8 @@ use lib.ListN.{length, getD, set, length-set, length-map}
 use lib.Seq.{getD-set-same, getD-set-other}
 use lib.Dec.{leb, ltb, eqb}
 use native.Mathlib.Omega.{arith}
-use borrow.Author.Tests.{eqb-true, eq-eqb, ne-eqb, ltb-true, ltb-false, lt-ltb, leb-true}
-use Rattle.laws.specs.Fields.{bits16, Fit}
+use borrow.Author.Tests.{eqb-true, eq-eqb, ltb-true, ltb-false, lt-ltb, leb-true}
+use Rattle.laws.specs.Fields.{bits16, size, Fit}
 use Rattle.laws.specs.FieldLaws.{number-fits}
 use Rattle.laws.specs.TableLaws.{below-or-not}
 use Rattle.book.specs.declared.Limits.{Limits}
@@ -21,7 +21,6 @@ use Rattle.book.specs.declared.Open.{Open}
 use Rattle.book.specs.declared.Player.{Player}
 use Rattle.book.specs.declared.Book.{Book}
 use Rattle.book.specs.declared.Event.{Event}
-use Rattle.book.specs.declared.Kind.{Kind}
 use Rattle.book.specs.declared.Kind.the-variants.{Play, Display, Execute, Print, Export}
 use Rattle.book.specs.declared.Request.{Request}
 use Rattle.book.specs.declared.Request.the-variants.{Begin, Continue, Stop}
@@ -58,42 +57,13 @@ use Rattle.model.specs.Book.{
   openSeconds,
   Legal,
 }
-use Rattle.model.specs.Image.{entryWidths, entryValues, playerWidths, playerValues, Typed, Bytes, image, readCode, readBook}
-use Rattle.model.specs.Events.{
-  kindNumber,
-  operationNumber,
-  requestAsset,
-  requestKind,
-  recordField,
-  requestOf,
-  eventIn,
-  decoded,
-  sameRequest,
-  sameNumber,
-  inLine,
-  timely,
-  gate,
-  isOn,
-  expired,
-  shut,
-  settled,
-  catalogOf,
-  Done,
-  done,
-  lastAt,
-  openAt,
-  noted,
-  takenStep,
-  stepBy,
-  step,
-  arrive,
-  stepRecord,
-}
+use Rattle.model.specs.Image.{entryWidths, entryValues, playerWidths, playerValues, Typed, Bytes}
+use Rattle.model.specs.Events.{operationNumber, requestAsset, requestKind, recordWidths, recordField, kindOf, requestOf, eventIn, decoded, sameRequest, sameNumber, inLine, timely, gate, isOn, expired, shut, settled, catalogOf, Done, done, lastAt, openAt, noted, takenStep, stepBy, step, arrive, stepRecord}
 use Rattle.model.specs.Demand3.{answers, final}
 use Rattle.model.specs.Saved.{Survives, Fits, FitsRead, Turn, handedOn, eventOf, savedAnswers, savedFinal, AllFit, Saved}
 use Rattle.model.specs.Proof.RoundTrip.{demand2}
-use Rattle.model.specs.Proof.KeptFacts.{on-test, on-same, clash, Pass, row-passed, and-left, and-right, and-both, cond-on, cond-off, upd, upd-same, upd-other, all-at, all-of}
-use Rattle.model.specs.Proof.KeptRules.{Counted, MeterOk, UseOk, OpenOk, Sound, Live, open-to, blank-current, unused-from, used-from, player-to, meter-to, Stages, stages-from, stages-to, entries-counted, no-player, sound-of}
+use Rattle.model.specs.Proof.KeptFacts.{on-test, on-same, clash, row-passed, and-left, and-right, and-both, otherwise-at, cond-on, cond-off, upd, upd-same, upd-other, all-at, all-of}
+use Rattle.model.specs.Proof.KeptRules.{Counted, MeterOk, OpenOk, Sound, Live, open-to, blank-current, unused-from, used-from, player-to, meter-to, Stages, stages-from, stages-to, entries-counted, no-player, sound-of}
 use Rattle.model.specs.Proof.KeptMeters.{grant-most}
 use Rattle.model.specs.Proof.KeptEvents.{store-open, shutO, shut-at, shut-open, Part, settled-part, settled-live, AnswerOk, DoneOk, done-ok}
 
@@ -156,6 +126,120 @@ interval-some b l e f =
     ∷ limit (flagged 4 l) 0 latestTime (l .start) ∷ limit (flagged 8 l) 0 latestTime (l .end)
     ∷ limit (flagged 16 l) leastLimit 100000000 (l .interval) ∷ limit (flagged 32 l) leastLimit 100000000 (l .accumulated) ∷ []) (h .1 .1 .1 .1 .0) in
     leb-true 1 (l .interval) (and-left (leb 1 (l .interval)) _ (sym (cond-on (flagged 16 l) _ _ f) ∙ r .1 .1 .1 .1 .1 .0))
+
+-- ## Numbers that fit
+
+counted-fits : {f : Bool} {z v k : ℕ} → Counted f z v k → z < 4294967296 → v < 4294967296
+counted-fits {f} c h = on-test f (λ q. omega (arith, c .within q)) (λ q. omega (arith, c .unused q))
+
+-- meters that keep to the rules fit where the limits do
+meters-fit : (T : ℕ) (l : Limits) (m m′ : Meters) {k s : ℕ} → T ≤ latestTime → MeterOk T l m′ k s → Fit entryWidths (entryValues (record { limits = l; meters = m })) →
+    Fit entryWidths (entryValues (record { limits = l; meters = m′ }))
+meters-fit T l m m′ h w (object, (asset, (kind, (flags, (count, (timed, (timer, (start, (end, (interval, (accumulated, rest))))))))))) = (
+  object,
+  (
+    asset,
+    (
+      kind,
+      (
+        flags,
+        (
+          count,
+          (
+            timed,
+            (
+              timer,
+              (
+                start,
+                (
+                  end,
+                  (
+                    interval,
+                    (
+                      accumulated,
+                      (counted-fits (w .count) count, (counted-fits (w .timed) timed, (omega (arith, w .past), (counted-fits (w .seconds) accumulated, (omega (arith, w .mark), tt))))),
+                    ),
+                  ),
+                ),
+              ),
+            ),
+          ),
+        ),
+      ),
+    ),
+  ),
+)
+
+code-fits : (c : ℕ) → takenCode c ≡ true → c < 256
+unfolding takenCode
+code-fits c e =
+    on-test (eqb c 0)
+    (λ q. omega (arith, eqb-true c 0 q))
+    (λ q. omega (arith, leb-true c 15 (and-right (leb 10 c) (leb c 15) (otherwise-at (eqb c 0) (between 10 15 c) e q))))
+
+entry-fits : (T n : ℕ) (a : Answer) → n ≤ 64 → AnswerOk T n a → a .entry < 256
+entry-fits T n a k h =
+    on-test (eqb (a .code) 0)
+    (λ q. omega (arith, h .grants q))
+    (λ q. omega (arith, h .refuses q .0))
+
+operation-fits : (r : Request) → operationNumber r < 256
+operation-fits (Begin kind asset) = omega arith
+operation-fits Continue = omega arith
+operation-fits Stop = omega arith
+
+kind-fits : (r : Request) → requestKind r < 256
+kind-fits (Begin Play asset) = omega arith
+kind-fits (Begin Display asset) = omega arith
+kind-fits (Begin Execute asset) = omega arith
+kind-fits (Begin Print asset) = omega arith
+kind-fits (Begin Export asset) = omega arith
+kind-fits Continue = omega arith
+kind-fits Stop = omega arith
+
+record OpenFits (o : Open) : Type 0 where
+  on : o .on < 256
+  entry : o .entry < 256
+  begin : o .begin < 4294967296
+  until : o .until < 4294967296
+
+record LastFits (l : Last) : Type 0 where
+  number : l .number < 4294967296
+  operation : l .operation < 256
+  asset : l .asset < 65536
+  kind : l .kind < 256
+  code : l .answer .code < 256
+  entry : l .answer .entry < 256
+  until : l .answer .until < 4294967296
+
+last-fits : (x : Player) → Fit playerWidths (playerValues x) → LastFits (x .last)
+last-fits x (number, (operation, (asset, (kind, (code, (entry, (until, rest))))))) = record {
+  number = number;
+  operation = operation;
+  asset = asset;
+  kind = kind;
+  code = code;
+  entry = entry;
+  until = until;
+}
+
+player-fits : (x : Player) {l : Last} → l ≡ x .last → OpenFits (x .current) → LastFits l → Fit playerWidths (playerValues x)
+player-fits x e o h =
+    let l = subst LastFits e h in
+    (l .number, (l .operation, (l .asset, (l .kind, (l .code, (l .entry, (l .until, (o .on, (o .entry, (o .begin, (o .until, tt)))))))))))
+
+open-fits : (T n : ℕ) (lim : ℕ → Limits) (met : ℕ → Meters) (o : Open) → n ≤ 64 → T ≤ latestTime → OpenOk T n lim met o → OpenFits o
+open-fits T n lim met o k h w =
+    on-test (isOn o)
+    (λ q.
+    let u = w .runs q in
+    record {
+      on = omega (arith, eqb-true (o .on) 1 q);
+      entry = omega (arith, u .entry);
+      begin = omega (arith, u .begun);
+      until = omega (arith, u .near, grant-most (lim (o .entry) .kind));
+    })
+    (λ q. subst OpenFits (sym (w .shut q)) (record { on = omega arith; entry = omega arith; begin = omega arith; until = omega arith }))
 
 module _ (b : Book) (e : Event) (h : Legal b) (t : Passed b e) where
   abbrev T : ℕ
@@ -292,3 +376,130 @@ module _ (b : Book) (e : Event) (h : Legal b) (t : Passed b e) where
         λ j. record { limits = l j; meters = m j };
     rules = stages-to new new-stages;
   }
+
+  module _ (y : Typed b) (f : Fits e) where
+    entries-typed : (i : ℕ) → Fit entryWidths (entryValues (getD (new .entries) i noEntry))
+    unfolding entriesIn
+    entries-typed i =
+        below-or-not i (entriesIn b)
+        (λ k.
+        meters-fit T (limitsAt (new .entries) i) (metersAt (b .entries) i) (metersAt (new .entries) i) (t .early) (new-sound .meters i k)
+        (subst (λ (x : Limits). Fit entryWidths (entryValues (record { limits = x; meters = metersAt (b .entries) i }))) (sym (limits-kept i)) (y .entries i)))
+        (λ k. subst (λ (x : Entry). Fit entryWidths (entryValues x)) (sym (new-legal .entriesBlank i (omega (arith, entries-counted b h)))) (omega arith))
+
+    players-typed : (p : ℕ) → Fit playerWidths (playerValues (playerAt (new .players) p))
+    unfolding shut
+    players-typed p =
+        let o = open-fits T (entriesIn b) (limitsAt (new .entries)) (metersAt (new .entries)) (openAt (new .players) p) room (t .early) (new-sound .opens p) in
+        on-same p (e .player)
+        (λ x. player-fits (playerAt (new .players) p) (sym (ap (lastAt (new .players)) x ∙ ap (λ (z : Player). z .last) (getD-set-same ps (e .player) _ noPlayer (omega (arith, slots, t .player))))) o own-fits)
+        (λ x. player-fits (playerAt (new .players) p) (sym (ap (λ (z : Player). z .last) (getD-set-other ps (e .player) p _ noPlayer x ∙ shut-at T (b .players) p))) o (last-fits (playerAt (b .players) p) (y .players p)))
+      where
+        own-fits : LastFits (noted e (did .answer))
+        own-fits = record {
+          number = t .fits;
+          operation = operation-fits (e .request);
+          asset = f;
+          kind = kind-fits (e .request);
+          code = code-fits (did .answer .code) (did-ok .answer .code);
+          entry = entry-fits T (entriesIn b) (did .answer) room (did-ok .answer);
+          until = omega (arith, did-ok .answer .near, t .early);
+        }
+
+    new-typed : Typed new
+    new-typed = record { assets = y .assets; entries = entries-typed; players = players-typed }
+
+-- ## The claims
+
+-- a book after an event is the book before it, or the one that a taken event leaves
+on-step : (P : Book → Type 0) (b : Book) (e : Event) → P b → (Passed b e → P (takenStep b e .book)) → P (step b e .book)
+unfolding step stepBy
+on-step P b e same taken = go (gate (b .time) (lastAt (b .players) (e .player)) e) refl
+  where
+    go : (g : Gate) → gate (b .time) (lastAt (b .players) (e .player)) e ≡ g → P (stepBy g b e .book)
+    go (Refuse code) q = same
+    go Resend q = same
+    go Take q = taken (gate-passed b e q)
+
+pub step-legal : (b : Book) (e : Event) → Legal b → Legal (step b e .book)
+unfolding takenStep
+step-legal b e h = on-step Legal b e h (λ t. new-legal b e h t)
+
+pub step-typed : (b : Book) (e : Event) → Legal b → Typed b → Fits e → Typed (step b e .book)
+unfolding takenStep
+step-typed b e h y f = on-step Typed b e y (λ t. new-typed b e h t y f)
+
+pub arrive-legal : (b : Book) (d : Decoded) → Legal b → Legal (arrive b d .book)
+unfolding arrive
+arrive-legal b (Invalid code) h = h
+arrive-legal b (Valid e) h = step-legal b e h
+
+pub arrive-typed : (b : Book) (d : Decoded) → Legal b → Typed b → FitsRead d → Typed (arrive b d .book)
+unfolding arrive
+arrive-typed b (Invalid code) h y f = y
+arrive-typed b (Valid e) h y f = step-typed b e h y f
+
+final-legal : (b : Book) (ds : List Decoded) → Legal b → Legal (final b ds)
+unfolding final
+final-legal b [] h = h
+final-legal b (d ∷ ds) h = final-legal (arrive b d .book) ds (arrive-legal b d h)
+
+-- what is read from bytes fits
+decoded-fits : (s : List ℕ) → Bytes s → FitsRead (decoded s)
+unfolding decoded eventIn requestOf
+decoded-fits s b =
+    on-test (eqb (length s) (size recordWidths))
+    (λ p. rw p
+    (on-test (ltb 15 (recordField 0 s))
+    (λ q. rw q tt)
+    (λ q. rw q
+    (on-test (requestLegal (recordField 2 s) (recordField 3 s) (recordField 4 s))
+    (λ r. rw r (asset-fits (eqb (recordField 2 s) 1) (eqb (recordField 2 s) 2)))
+    (λ r. rw r tt)))))
+    (λ p. rw p tt)
+  where
+    asset-fits : (x z : Bool) → requestAsset (cond x (Begin (kindOf (recordField 4 s)) (recordField 3 s)) (cond z Continue Stop)) < 65536
+    asset-fits true z = number-fits bits16 6 s b
+    asset-fits false true = omega arith
+    asset-fits false false = omega arith
+
+survives : (b : Book) → Legal b → Typed b → Survives b
+survives b h y = record { accepted = demand2 .readsBack b b h y .0; same = λ held. demand2 .readsBack held b h y .1 }
+
+handed-same : (r : Option Book) (b : Book) → Legal b → Typed b → handedOn r b ≡ b
+unfolding handedOn
+handed-same none b h y = refl
+handed-same (some held) b h y = survives b h y .same held
+
+same-answers : (b : Book) (ts : List Turn) → Legal b → Typed b → AllFit ts → savedAnswers b ts ≡ answers b (map eventOf ts)
+unfolding savedAnswers answers
+same-answers b [] h y f = refl
+same-answers b (t ∷ ts) h y (f, fs) =
+    let next : Book = arrive b (t .event) .book in
+    let l : Legal next = arrive-legal b (t .event) h in
+    let w : Typed next = arrive-typed b (t .event) h y f in
+    ap (λ (rs : List Answer). arrive b (t .event) .answer ∷ rs)
+    (ap (λ (x : Book). savedAnswers x ts) (handed-same (t .rereader) next l w) ∙ same-answers next ts l w fs)
+
+same-final : (b : Book) (ts : List Turn) → Legal b → Typed b → AllFit ts → savedFinal b ts ≡ final b (map eventOf ts)
+unfolding savedFinal final
+same-final b [] h y f = refl
+same-final b (t ∷ ts) h y (f, fs) =
+    let next : Book = arrive b (t .event) .book in
+    let l : Legal next = arrive-legal b (t .event) h in
+    let w : Typed next = arrive-typed b (t .event) h y f in
+    ap (λ (x : Book). savedFinal x ts) (handed-same (t .rereader) next l w) ∙ same-final next ts l w fs
+
+pub saved : Saved
+unfolding stepRecord
+saved = record {
+  stepLegal = step-legal;
+  arriveLegal = arrive-legal;
+  finalLegal = final-legal;
+  stepTyped = step-typed;
+  decodedFits = decoded-fits;
+  stepSurvives = λ b e h y f. survives (step b e .book) (step-legal b e h) (step-typed b e h y f);
+  recordSurvives = λ b s h y k. survives (arrive b (decoded s) .book) (arrive-legal b (decoded s) h) (arrive-typed b (decoded s) h y (decoded-fits s k));
+  sameAnswers = same-answers;
+  sameFinal = same-final;
+}

@@ -1,20 +1,19 @@
 -- From lists of entries and players to functions of a position: settling all players, and then the event itself, keep the rules.
 use mathlib.Core.Path.{_≡_, refl, sym, ap, _∙_, subst, fun-ext}
-use Prim.Native.Nat.{ℕ, zero, suc, _+_, _-_, _≤_, _<_, zero-le}
+use Prim.Native.Nat.{ℕ, zero, suc, _+_, _≤_, _<_, zero-le}
 use mathlib.Core.Bool.{Bool, true, false, not, _&&_, _||_, cond}
 use mathlib.Core.List.{List, [], _∷_, map}
-use lib.ListN.{length, getD, set, length-set, length-map, List·getD-map}
+use lib.ListN.{length, getD, set, length-set, List·getD-map}
 use lib.Seq.{getD-set-same, getD-set-other, set-out}
 use lib.Dec.{leb, ltb, eqb}
 use native.Mathlib.Omega.{arith}
 use native.Mathlib.Nat.{add-zero, zero-add}
-use borrow.Author.Tests.{eqb-true, ltb-true, ltb-false, lt-ltb, le-ltb, leb-true, leb-false, not-true, not-false, le-leb}
+use borrow.Author.Tests.{eqb-true, ltb-true, ltb-false, lt-ltb, le-ltb, leb-false}
 use Rattle.laws.specs.TableLaws.{below-or-not}
 use Rattle.book.specs.declared.Limits.{Limits}
 use Rattle.book.specs.declared.Meters.{Meters}
 use Rattle.book.specs.declared.Entry.{Entry}
 use Rattle.book.specs.declared.Answer.{Answer}
-use Rattle.book.specs.declared.Last.{Last}
 use Rattle.book.specs.declared.Open.{Open}
 use Rattle.book.specs.declared.Player.{Player}
 use Rattle.book.specs.declared.Kind.{Kind}
@@ -22,51 +21,10 @@ use Rattle.book.specs.declared.Kind.the-variants.{Play, Display, Execute, Print
 use Rattle.book.specs.declared.Request.{Request}
 use Rattle.book.specs.declared.Request.the-variants.{Begin, Continue, Stop}
 use Rattle.book.specs.Blank.{noEntry, noPlayer, closed}
-use Rattle.model.specs.Book.{limitsAt, metersAt, playerAt, between, flagged, momentary, takenCode}
-use Rattle.model.specs.Events.{
-  kindNumber,
-  amend,
-  begun,
-  continued,
-  ended,
-  isOn,
-  expired,
-  shut,
-  released,
-  settled,
-  Catalog,
-  suitable,
-  usable,
-  parentOf,
-  own,
-  grantable,
-  Choice,
-  nobody,
-  chosen,
-  prefer,
-  chooseOf,
-  anyOf,
-  suits,
-  allowed,
-  goesBefore,
-  choose,
-  leastUntil,
-  grantUntil,
-  Done,
-  unchanged,
-  granted,
-  doBegin,
-  more,
-  lengthened,
-  doContinue,
-  halted,
-  doStop,
-  done,
-  lastAt,
-  openAt,
-}
-use Rattle.model.specs.Proof.KeptFacts.{on-test, on-same, clash, and-left, and-right, and-both, cond-on, cond-off, upd, upd-same, upd-other, upd-own}
-use Rattle.model.specs.Proof.KeptRules.{Counted, MeterOk, UseOk, OpenOk, usesOf, secondsOf, Sound, Live}
+use Rattle.model.specs.Book.{limitsAt, metersAt, between, flagged, momentary, takenCode}
+use Rattle.model.specs.Events.{kindNumber, amend, begun, continued, ended, isOn, expired, shut, released, settled, Catalog, suitable, usable, parentOf, own, grantable, Choice, nobody, chosen, prefer, chooseOf, anyOf, suits, allowed, goesBefore, choose, leastUntil, grantUntil, Done, unchanged, granted, doBegin, more, doContinue, doStop, done, openAt}
+use Rattle.model.specs.Proof.KeptFacts.{on-test, on-same, clash, and-left, and-right, cond-on, cond-off, upd, upd-same, upd-other, upd-own}
+use Rattle.model.specs.Proof.KeptRules.{MeterOk, UseOk, Sound, Live}
 use Rattle.model.specs.Proof.KeptMeters.{ended-sound, continued-sound, more-near, Grant, grant-from, momentary-sound, begun-sound, begun-live, grant-near}
 
 -- ## Amending an entry
@@ -94,12 +52,6 @@ amend-meters i g es h j =
 
 -- ## Players
 
-pub store-last : (p : ℕ) (x : Player) (ps : List Player) → p < length ps → (q : ℕ) → lastAt (set ps p x) q ≡ upd p (x .last) (lastAt ps) q
-store-last p x ps h q =
-    on-same q p
-    (λ e. rw e (ap (λ (y : Player). y .last) (getD-set-same ps p x noPlayer h) ∙ sym (upd-same p (x .last) (lastAt ps))))
-    (λ e. ap (λ (y : Player). y .last) (getD-set-other ps p q x noPlayer e) ∙ sym (upd-other p (x .last) (lastAt ps) q e))
-
 pub store-open : (p : ℕ) (x : Player) (ps : List Player) → p < length ps → (q : ℕ) → openAt (set ps p x) q ≡ upd p (x .current) (openAt ps) q
 store-open p x ps h q =
     on-same q p
@@ -112,10 +64,6 @@ shutO T o = cond (expired T o) closed o
 pub shut-at : (T : ℕ) (ps : List Player) (p : ℕ) → getD (map (shut T) ps) p noPlayer ≡ shut T (getD ps p noPlayer)
 unfolding shut expired
 shut-at T ps p = List·getD-map (shut T) ps p noPlayer
-
-pub shut-last : (T : ℕ) (ps : List Player) (p : ℕ) → lastAt (map (shut T) ps) p ≡ lastAt ps p
-unfolding shut
-shut-last T ps p = ap (λ (y : Player). y .last) (shut-at T ps p)
 
 pub shut-open : (T : ℕ) (ps : List Player) (p : ℕ) → openAt (map (shut T) ps) p ≡ shutO T (openAt ps p)
 unfolding shut
@@ -210,6 +158,7 @@ module _ (T n : ℕ) (room : n ≤ 64) (lim : ℕ → Limits) where
     where
       on : expired T o ≡ true → isOn o ≡ true
       on x = and-left (isOn o) (leb (o .until) T) x
+
       entry : expired T o ≡ true → o .entry < n
       entry x = subst (λ (y : Open). y .entry < n) e (h .sound .opens q .runs (ap isOn e ∙ on x) .entry)
 

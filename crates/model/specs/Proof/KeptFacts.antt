@@ -1,12 +1,12 @@
 -- Tests, updates by position, and counting: what the proofs that an event leaves a legal book use of them.
 use mathlib.Core.Path.{_≡_, refl, sym, ap, _∙_, fun-ext}
-use Prim.Native.Nat.{ℕ, zero, suc, _+_, _-_, _≤_, _<_, min}
+use Prim.Native.Nat.{ℕ, zero, suc, _+_, _≤_, _<_}
 use mathlib.Core.Bool.{Bool, true, false, not, _&&_, _||_, cond, true≢false, false≢true}
 use mathlib.Core.List.{List, [], _∷_}
-use lib.Dec.{leb, ltb, eqb}
+use lib.Dec.{eqb}
 use native.Mathlib.Omega.{arith}
 use borrow.Author.Tests.{eqb-true, eqb-false, eq-eqb, ne-eqb}
-use Rattle.laws.specs.Count.{all, sum, one}
+use Rattle.laws.specs.Count.{all, sum}
 use Rattle.model.specs.Events.{where-flagged, cap, asked}
 
 -- ## Tests
@@ -140,9 +140,10 @@ sum-upd w p x f (suc n) h =
     on-same n p
     (λ e.
     omega (
-    arith,
-    ap (λ (k : ℕ). w (upd p x f k)) e,
-    ap (λ (k : ℕ). w (f k)) e,
-    ap w (upd-same p x f),
-    sum-same (λ q. w (upd p x f q)) (λ q. w (f q)) n (λ i j. ap w (upd-other p x f i (λ z. omega arith)))))
+      arith,
+      ap (λ (k : ℕ). w (upd p x f k)) e,
+      ap (λ (k : ℕ). w (f k)) e,
+      ap w (upd-same p x f),
+      sum-same (λ q. w (upd p x f q)) (λ q. w (f q)) n (λ i j. ap w (upd-other p x f i (λ z. omega arith))),
+    ))
     (λ e. omega (arith, sum-upd w p x f n (omega arith), ap w (upd-other p x f n e)))

@@ -1,12 +1,12 @@
 -- What a begin, a continue and the end of a use do to the meters and to the open uses: the rules on both still hold.
 use mathlib.Core.Path.{_≡_, refl, sym, ap, _∙_, subst}
-use Prim.Native.Nat.{ℕ, zero, suc, _+_, _-_, _≤_, _<_, min}
-use mathlib.Core.Bool.{Bool, true, false, not, _&&_, _||_, cond}
-use mathlib.Core.List.{List, [], _∷_}
+use Prim.Native.Nat.{ℕ, suc, _+_, _-_, _≤_, _<_}
+use mathlib.Core.Bool.{Bool, true, false, _&&_, cond}
+use mathlib.Core.List.{[], _∷_}
 use lib.Dec.{leb, ltb, eqb}
 use native.Mathlib.Omega.{arith}
-use borrow.Author.Tests.{eqb-true, eqb-false, eq-eqb, ne-eqb, ltb-true, leb-true, lt-leb, le-leb}
-use Rattle.laws.specs.Count.{sum, one}
+use borrow.Author.Tests.{eq-eqb, ne-eqb, ltb-true, leb-true}
+use Rattle.laws.specs.Count.{one}
 use Rattle.book.specs.declared.Limits.{Limits}
 use Rattle.book.specs.declared.Meters.{Meters}
 use Rattle.book.specs.declared.Open.{Open}
@@ -32,8 +32,8 @@ use Rattle.model.specs.Events.{
   grantUntil,
   moreUntil,
 }
-use Rattle.model.specs.Proof.KeptFacts.{on-test, on-same, clash, Pass, row-passed, and-both, implied-at, otherwise-at, asked-on, cond-on, cond-off, flag-le, cap-le, cap-at, cap-ge, upd, upd-same, upd-other, upd-own, sum-upd}
-use Rattle.model.specs.Proof.KeptRules.{Counted, MeterOk, UseOk, OpenOk, useIn, secondsIn, usesOf, secondsOf, Sound}
+use Rattle.model.specs.Proof.KeptFacts.{on-test, on-same, clash, row-passed, implied-at, asked-on, cond-on, cond-off, flag-le, cap-le, cap-at, cap-ge, upd, upd-same, upd-other, sum-upd}
+use Rattle.model.specs.Proof.KeptRules.{MeterOk, UseOk, OpenOk, useIn, secondsIn, usesOf, secondsOf, Sound}
 
 -- ## One player's use and one entry's meters change
 

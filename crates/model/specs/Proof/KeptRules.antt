@@ -1,14 +1,14 @@
 -- The rules on players and meters as facts about numbers, from the tests of the image reader and back to them.
 -- Limits, meters and open uses are functions of a position here.
 use mathlib.Core.Path.{_≡_, refl, sym, ap, _∙_}
-use Prim.Native.Nat.{ℕ, zero, suc, _+_, _-_, _≤_, _<_}
+use Prim.Native.Nat.{ℕ, _+_, _-_, _≤_, _<_}
 use mathlib.Core.Bool.{Bool, true, false, not, _&&_, _||_, cond}
-use mathlib.Core.List.{List, [], _∷_}
-use lib.ListN.{length, getD, List·getD-eq-default}
+use mathlib.Core.List.{[], _∷_}
+use lib.ListN.{List·getD-eq-default}
 use lib.Dec.{leb, ltb, eqb}
 use native.Mathlib.Omega.{arith}
 use borrow.Author.Tests.{eqb-true, eq-eqb, ltb-true, lt-ltb, leb-true, le-leb}
-use Rattle.laws.specs.Count.{all, sum, one}
+use Rattle.laws.specs.Count.{sum, one}
 use Rattle.laws.specs.TableLaws.{below-or-not}
 use Rattle.book.specs.declared.Limits.{Limits}
 use Rattle.book.specs.declared.Meters.{Meters}
@@ -16,7 +16,7 @@ use Rattle.book.specs.declared.Entry.{Entry}
 use Rattle.book.specs.declared.Open.{Open}
 use Rattle.book.specs.declared.Player.{Player}
 use Rattle.book.specs.declared.Book.{Book}
-use Rattle.book.specs.Blank.{noMeters, noEntry, closed, noPlayer}
+use Rattle.book.specs.Blank.{noMeters, closed, noPlayer}
 use Rattle.model.specs.Book.{
   limitsAt,
   metersAt,
@@ -48,7 +48,7 @@ use Rattle.model.specs.Book.{
   Legal,
 }
 use Rattle.model.specs.Events.{isOn, openAt}
-use Rattle.model.specs.Proof.KeptFacts.{on-test, clash, Pass, row-passed, and-left, and-right, and-both, implied, implied-at, otherwise, otherwise-at, cond-on, cond-off, all-at, all-of}
+use Rattle.model.specs.Proof.KeptFacts.{on-test, clash, Pass, row-passed, and-both, implied, implied-at, otherwise, otherwise-at, cond-on, cond-off, all-at, all-of}
 
 -- ## The facts
 
@@ -149,9 +149,6 @@ module _ (b : Book) (o : Open) where
         span = λ f. leb-true _ _ (interval-tests (h .1 .1 .1 .1 .1 .1 .0) f .1 .1 .0);
       }
 
-  use-live : useLegal b o ≡ true → b .time < o .until
-  use-live e = ltb-true _ _ (use-tests e .1 .0)
-
   use-to : UseOk (b .time) (entriesIn b) l m o → b .time < o .until → useLegal b o ≡ true
   unfolding useLegal insideDates insideInterval
   use-to u h =
@@ -188,9 +185,6 @@ module _ (b : Book) (o : Open) where
     shut = λ q. on-test (eqb (o .on) 0) (λ z. closed-tests z e) (λ z. clash (open-tests z e .0) q);
     runs = λ q. use-from (on-use e q);
   }
-
-  pub open-live : openLegal b o ≡ true → isOn o ≡ true → b .time < o .until
-  open-live e q = use-live (on-use e q)
 
   pub open-to : OpenOk (b .time) (entriesIn b) (limitsAt (b .entries)) (metersAt (b .entries)) o → (isOn o ≡ true → b .time < o .until) → openLegal b o ≡ true
   unfolding openLegal
@@ -232,12 +226,6 @@ module _ (b : Book) (x : Player) where
       on-test (eqb (x .last .number) 0)
       (λ q. rw (blank-current x (unused-from q e)) (closed-ok (b .time) (entriesIn b) (limitsAt (b .entries)) (metersAt (b .entries))))
       (λ q. open-from b (x .current) (used-from q e .1 .1 .0))
-
-  player-live : playerLegal b x ≡ true → isOn (x .current) ≡ true → b .time < x .current .until
-  player-live e on =
-      on-test (eqb (x .last .number) 0)
-      (λ q. clash on (ap isOn (blank-current x (unused-from q e))))
-      (λ q. open-live b (x .current) (used-from q e .1 .1 .0) on)
 
   pub player-to : (eqb (x .last .number) 0 ≡ true → playerBlank x ≡ true) → (eqb (x .last .number) 0 ≡ false → (requestLegal (x .last .operation) (x .last .asset) (x .last .kind) ≡ true) × (answerLegal b (x .last .answer) ≡ true)) → openLegal b (x .current) ≡ true → playerLegal b x ≡ true
   unfolding playerLegal
@@ -369,10 +357,3 @@ module _ (b : Book) (h : Legal b) where
         meters = λ i k. meter-from b i (s .meters i k);
         blank = λ i k. ap (λ (e : Entry). e .meters) (h .entriesBlank i (omega (arith, entries-counted)));
       }
-
-  pub live-of : Live (b .time) (openAt (b .players))
-  live-of p on =
-      let s = stages-from b (h .rules) in
-      below-or-not p 16
-      (λ k. player-live b (playerAt (b .players) p) (s .players p k) on)
-      (λ k. clash on (ap (λ (x : Player). isOn (x .current)) (no-player p k)))
