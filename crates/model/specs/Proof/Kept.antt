@@ -135,40 +135,9 @@ counted-fits {f} c h = on-test f (λ q. omega (arith, c .within q)) (λ q. omega
 -- meters that keep to the rules fit where the limits do
 meters-fit : (T : ℕ) (l : Limits) (m m′ : Meters) {k s : ℕ} → T ≤ latestTime → MeterOk T l m′ k s → Fit entryWidths (entryValues (record { limits = l; meters = m })) →
     Fit entryWidths (entryValues (record { limits = l; meters = m′ }))
-meters-fit T l m m′ h w (object, (asset, (kind, (flags, (count, (timed, (timer, (start, (end, (interval, (accumulated, rest))))))))))) = (
-  object,
-  (
-    asset,
-    (
-      kind,
-      (
-        flags,
-        (
-          count,
-          (
-            timed,
-            (
-              timer,
-              (
-                start,
-                (
-                  end,
-                  (
-                    interval,
-                    (
-                      accumulated,
-                      (counted-fits (w .count) count, (counted-fits (w .timed) timed, (omega (arith, w .past), (counted-fits (w .seconds) accumulated, (omega (arith, w .mark), tt))))),
-                    ),
-                  ),
-                ),
-              ),
-            ),
-          ),
-        ),
-      ),
-    ),
-  ),
-)
+meters-fit T l m m′ h w fits =
+    let f = fits .1 .1 .1 .1 in
+    omega (arith, fits, counted-fits (w .count) (f .0), counted-fits (w .timed) (f .1 .0), counted-fits (w .seconds) (f .1 .1 .1 .1 .1 .1 .0), w .past, w .mark)
 
 code-fits : (c : ℕ) → takenCode c ≡ true → c < 256
 unfolding takenCode
@@ -254,6 +223,9 @@ module _ (b : Book) (e : Event) (h : Legal b) (t : Passed b e) where
   abbrev did : Done
   did = done (e .request) (catalogOf b) es (openAt ps (e .player)) T
 
+  abbrev asker : Player
+  asker = record { last = noted e (did .answer); current = did .current }
+
   abbrev new : Book
   new = record {
     time = T;
@@ -261,7 +233,7 @@ module _ (b : Book) (e : Event) (h : Legal b) (t : Passed b e) where
     entrycount = b .entrycount;
     assets = b .assets;
     entries = did .entries;
-    players = set ps (e .player) (record { last = noted e (did .answer); current = did .current });
+    players = set ps (e .player) asker;
   }
 
   room : entriesIn b ≤ 64
@@ -278,7 +250,7 @@ module _ (b : Book) (e : Event) (h : Legal b) (t : Passed b e) where
   did-ok =
       done-ok room es (before .slots)
       (subst (λ (lim : ℕ → Limits). Sound T (entriesIn b) lim (metersAt es) (openAt ps)) (sym (fun-ext (before .limits))) (before .sound))
-      (settled-live (b .time) T (entriesIn b) (b .entries) (b .players)) (e .player) (t .player)
+      (settled-live T (b .players)) (e .player) (t .player)
       (λ i k f.
       subst (λ (l : Limits). flagged 16 l ≡ true → 1 ≤ l .interval) (sym (before .limits i))
       (interval-some b (limitsAt (b .entries) i) (all-at (λ j. limitsLegal b (limitsAt (b .entries) j)) (entriesIn b) (stages-from b (h .rules) .entries) i k)) f)
@@ -290,23 +262,38 @@ module _ (b : Book) (e : Event) (h : Legal b) (t : Passed b e) where
   slots : length ps ≡ 16
   slots = length-map (b .players) (shut T) ∙ h .playerSlots
 
+  own-slot : e .player < length ps
+  own-slot = omega (arith, slots, t .player)
+
+  opens-kept : (p : ℕ) → openAt (new .players) p ≡ upd (e .player) (did .current) (openAt ps) p
+  opens-kept = store-open (e .player) asker ps own-slot
+
+  own-open : openAt (new .players) (e .player) ≡ did .current
+  own-open = opens-kept (e .player) ∙ upd-same (e .player) (did .current) (openAt ps)
+
+  other-open : (p : ℕ) → (p ≡ e .player → ⊥) → openAt (new .players) p ≡ openAt ps p
+  other-open p x = opens-kept p ∙ upd-other (e .player) (did .current) (openAt ps) p x
+
   new-sound : Sound T (entriesIn b) (limitsAt (new .entries)) (metersAt (new .entries)) (openAt (new .players))
-  new-sound =
-      rw (fun-ext (did-ok .part .limits), fun-ext (store-open (e .player) (record { last = noted e (did .answer); current = did .current }) ps (omega (arith, slots, t .player))))
-      (did-ok .part .sound)
+  new-sound = rw (fun-ext (did-ok .part .limits), fun-ext opens-kept) (did-ok .part .sound)
 
   new-live : Live T (openAt (new .players))
   new-live p =
-      let x = store-open (e .player) (record { last = noted e (did .answer); current = did .current }) ps (omega (arith, slots, t .player)) p in
       on-same p (e .player)
-      (λ q. subst (λ (o : Open). isOn o ≡ true → T < o .until) (sym (x ∙ ap (upd (e .player) (did .current) (openAt ps)) q ∙ upd-same (e .player) (did .current) (openAt ps))) (did-ok .live))
-      (λ q. subst (λ (o : Open). isOn o ≡ true → T < o .until) (sym (x ∙ upd-other (e .player) (did .current) (openAt ps) p q)) (settled-live (b .time) T (entriesIn b) (b .entries) (b .players) p))
+      (λ x. subst (λ (o : Open). isOn o ≡ true → T < o .until) (sym (ap (openAt (new .players)) x ∙ own-open)) (did-ok .live))
+      (λ x. subst (λ (o : Open). isOn o ≡ true → T < o .until) (sym (other-open p x)) (settled-live T (b .players) p))
 
   new-open : (p : ℕ) → openLegal new (openAt (new .players) p) ≡ true
   unfolding entriesIn
   new-open p = open-to new (openAt (new .players) p) (new-sound .opens p) (new-live p)
 
   -- ## The players' records
+
+  own-record : (p : ℕ) → p ≡ e .player → playerAt (new .players) p ≡ asker
+  own-record p x = ap (playerAt (new .players)) x ∙ getD-set-same ps (e .player) asker noPlayer own-slot
+
+  other-record : (p : ℕ) → (p ≡ e .player → ⊥) → playerAt (new .players) p ≡ shut T (playerAt (b .players) p)
+  other-record p x = getD-set-other ps (e .player) p asker noPlayer x ∙ shut-at T (b .players) p
 
   answer-legal : answerLegal new (did .answer) ≡ true
   unfolding answerLegal entriesIn
@@ -317,14 +304,12 @@ module _ (b : Book) (e : Event) (h : Legal b) (t : Passed b e) where
       (λ q. cond-on (eqb (did .answer .code) 0) _ _ q ∙ lt-ltb _ _ (a .grants q))
       (λ q. cond-off (eqb (did .answer .code) 0) _ _ q ∙ and-both (eq-eqb _ _ (a .refuses q .0)) (eq-eqb _ _ (a .refuses q .1))))
 
-  own-legal : playerLegal new (record { last = noted e (did .answer); current = did .current }) ≡ true
+  own-legal : playerLegal new asker ≡ true
   own-legal =
-      player-to new (record { last = noted e (did .answer); current = did .current })
+      player-to new asker
       (λ q. absurd (omega (arith, eqb-true (e .number) 0 q, t .number)))
       (λ q. (request-legal (e .request), answer-legal))
-      (subst (λ (o : Open). openLegal new o ≡ true)
-      (store-open (e .player) (record { last = noted e (did .answer); current = did .current }) ps (omega (arith, slots, t .player)) (e .player) ∙ upd-same (e .player) (did .current) (openAt ps))
-      (new-open (e .player)))
+      (subst (λ (o : Open). openLegal new o ≡ true) own-open (new-open (e .player)))
 
   other-legal : (p : ℕ) → p < 16 → (p ≡ e .player → ⊥) → playerLegal new (shut T (playerAt (b .players) p)) ≡ true
   unfolding shut expired answerLegal entriesIn
@@ -334,9 +319,7 @@ module _ (b : Book) (e : Event) (h : Legal b) (t : Passed b e) where
       player-to new (shut T y)
       (λ q. ap (λ (o : Open). playerBlank (record { last = y .last; current = o })) (still y (blank-current y (unused-from b y q l))) ∙ unused-from b y q l)
       (λ q. (used-from b y q l .0, used-from b y q l .1 .0))
-      (subst (λ (o : Open). openLegal new o ≡ true)
-      (store-open (e .player) (record { last = noted e (did .answer); current = did .current }) ps (omega (arith, slots, t .player)) p ∙ upd-other (e .player) (did .current) (openAt ps) p x ∙ shut-open T (b .players) p)
-      (new-open p))
+      (subst (λ (o : Open). openLegal new o ≡ true) (other-open p x ∙ shut-open T (b .players) p) (new-open p))
     where
       still : (y : Player) → y .current ≡ closed → shutO T (y .current) ≡ y .current
       still y c = ap (shutO T) c ∙ sym c
@@ -344,8 +327,8 @@ module _ (b : Book) (e : Event) (h : Legal b) (t : Passed b e) where
   players-legal : (p : ℕ) → p < 16 → playerLegal new (playerAt (new .players) p) ≡ true
   players-legal p k =
       on-same p (e .player)
-      (λ x. subst (λ (y : Player). playerLegal new y ≡ true) (sym (ap (playerAt (new .players)) x ∙ getD-set-same ps (e .player) _ noPlayer (omega (arith, slots, t .player)))) own-legal)
-      (λ x. subst (λ (y : Player). playerLegal new y ≡ true) (sym (getD-set-other ps (e .player) p _ noPlayer x ∙ shut-at T (b .players) p)) (other-legal p k x))
+      (λ x. subst (λ (y : Player). playerLegal new y ≡ true) (sym (own-record p x)) own-legal)
+      (λ x. subst (λ (y : Player). playerLegal new y ≡ true) (sym (other-record p x)) (other-legal p k x))
 
   -- ## The stages
 
@@ -392,8 +375,8 @@ module _ (b : Book) (e : Event) (h : Legal b) (t : Passed b e) where
     players-typed p =
         let o = open-fits T (entriesIn b) (limitsAt (new .entries)) (metersAt (new .entries)) (openAt (new .players) p) room (t .early) (new-sound .opens p) in
         on-same p (e .player)
-        (λ x. player-fits (playerAt (new .players) p) (sym (ap (lastAt (new .players)) x ∙ ap (λ (z : Player). z .last) (getD-set-same ps (e .player) _ noPlayer (omega (arith, slots, t .player))))) o own-fits)
-        (λ x. player-fits (playerAt (new .players) p) (sym (ap (λ (z : Player). z .last) (getD-set-other ps (e .player) p _ noPlayer x ∙ shut-at T (b .players) p))) o (last-fits (playerAt (b .players) p) (y .players p)))
+        (λ x. player-fits (playerAt (new .players) p) (sym (ap (λ (z : Player). z .last) (own-record p x))) o own-fits)
+        (λ x. player-fits (playerAt (new .players) p) (sym (ap (λ (z : Player). z .last) (other-record p x))) o (last-fits (playerAt (b .players) p) (y .players p)))
       where
         own-fits : LastFits (noted e (did .answer))
         own-fits = record {

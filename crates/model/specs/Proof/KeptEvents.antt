@@ -197,8 +197,8 @@ module _ (S T n : ℕ) (es : List Entry) (ps : List Player) where
       (settle-part T n room (limitsAt es) (openAt ps) ps 0 es (omega arith) (λ j. ap (openAt ps) (sym (zero-add j)))
       (record { slots = slots; limits = λ i. refl; sound = subst (Sound T n (limitsAt es) (metersAt es)) (sym (stage-none T (openAt ps))) (later-sound later h) }))
 
-  pub settled-live : Live T (openAt (map (shut T) ps))
-  settled-live p = subst (λ (o : Open). isOn o ≡ true → T < o .until) (sym (shut-open T ps p)) (shut-live T (openAt ps p))
+pub settled-live : (T : ℕ) (ps : List Player) → Live T (openAt (map (shut T) ps))
+settled-live T ps p = subst (λ (o : Open). isOn o ≡ true → T < o .until) (sym (shut-open T ps p)) (shut-live T (openAt ps p))
 
 -- ## The choice
 
