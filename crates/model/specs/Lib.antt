@@ -5,4 +5,5 @@ pub mod Ledger
 pub mod Demand2
 pub mod Demand3
 pub mod Saved
+pub mod Exact
 pub mod Proof

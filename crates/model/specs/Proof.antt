@@ -6,3 +6,4 @@ pub mod KeptRules
 pub mod KeptMeters
 pub mod KeptEvents
 pub mod Kept
+pub mod KeptExact

@@ -70,12 +70,12 @@ use Rattle.model.specs.Proof.KeptEvents.{store-open, shutO, shut-at, shu
 -- ## An event that is taken
 
 -- the checks that it has passed
-record Passed (b : Book) (e : Event) : Type 0 where
-  player : e .player < 16
-  number : e .number ≡ lastAt (b .players) (e .player) .number + 1
-  fits : e .number < 4294967296
-  later : b .time ≤ e .time
-  early : e .time ≤ latestTime
+pub record Passed (b : Book) (e : Event) : Type 0 where
+  pub player : e .player < 16
+  pub number : e .number ≡ lastAt (b .players) (e .player) .number + 1
+  pub fits : e .number < 4294967296
+  pub later : b .time ≤ e .time
+  pub early : e .time ≤ latestTime
 
 only-take : (p s r n t : Bool) → _≡_ {A = Gate} (cond p (Refuse 2) (cond s (cond r Resend (Refuse 4)) (cond (not n) (Refuse 3) (cond (not t) (Refuse 5) Take)))) Take →
     (p ≡ false) × ((n ≡ true) × (t ≡ true))
@@ -86,7 +86,7 @@ only-take false true true n t e = let w : true ≡ false = cc in clash refl w
 only-take false true false n t e = let w : true ≡ false = cc in clash refl w
 only-take true s r n t e = let w : true ≡ false = cc in clash refl w
 
-gate-passed : (b : Book) (e : Event) → gate (b .time) (lastAt (b .players) (e .player)) e ≡ Take → Passed b e
+pub gate-passed : (b : Book) (e : Event) → gate (b .time) (lastAt (b .players) (e .player)) e ≡ Take → Passed b e
 unfolding gate inLine timely
 gate-passed b e g =
     let l : Last = lastAt (b .players) (e .player) in
@@ -245,11 +245,14 @@ module _ (b : Book) (e : Event) (h : Legal b) (t : Passed b e) where
       settled-part (b .time) T (entriesIn b) (b .entries) (b .players) room (t .later) (h .entrySlots) (h .playerSlots)
       (λ p k. ap (λ (x : Player). x .current) (no-player b h p k)) (sound-of b h)
 
+  pub settled-sound : Sound T (entriesIn b) (limitsAt es) (metersAt es) (openAt ps)
+  settled-sound = rw (fun-ext (before .limits)) (before .sound)
+
   did-ok : DoneOk T (entriesIn b) (e .player) (limitsAt es) (openAt ps) did
   unfolding catalogOf entriesLegal
   did-ok =
       done-ok room es (before .slots)
-      (subst (λ (lim : ℕ → Limits). Sound T (entriesIn b) lim (metersAt es) (openAt ps)) (sym (fun-ext (before .limits))) (before .sound))
+      settled-sound
       (settled-live T (b .players)) (e .player) (t .player)
       (λ i k f.
       subst (λ (l : Limits). flagged 16 l ≡ true → 1 ≤ l .interval) (sym (before .limits i))

@@ -294,6 +294,35 @@ module _ {T n : ℕ} {lim : ℕ → Limits} {met : ℕ → Meters} {opn : ℕ �
             (omega (arith, x, ap one on)) (omega (arith, y, cond-on (isOn oₚ) (oₚ .until - oₚ .begin) 0 on));
       })
 
+  pub more-ge : oₚ .until ≤ v
+  unfolding moreUntil
+  more-ge =
+      least-ge T (oₚ .until) lₚ mₚ (oₚ .until) (useₚ .near) (useₚ .last)
+      (λ f. omega (arith, useₚ .span f, since-first T mₚ (useₚ .started f))) (λ f. omega arith)
+
+  -- the meters cover the player's own use
+  pub own-timed : flagged 2 lₚ ≡ true → 1 ≤ mₚ .timed
+  unfolding opens
+  own-timed f =
+      omega (
+        arith,
+        sum-upd (useIn (oₚ .entry)) p closed opn 16 pl,
+        own-use (oₚ .entry) oₚ (λ q. refl),
+        ap one on,
+        h .meters (oₚ .entry) (useₚ .entry) .timed .covers f,
+      )
+
+  pub own-spent : flagged 32 lₚ ≡ true → oₚ .until - oₚ .begin ≤ mₚ .seconds
+  unfolding opens
+  own-spent f =
+      omega (
+        arith,
+        sum-upd (secondsIn (oₚ .entry)) p closed opn 16 pl,
+        own-seconds (oₚ .entry) oₚ (λ q. refl),
+        cond-on (isOn oₚ) (oₚ .until - oₚ .begin) 0 on,
+        h .meters (oₚ .entry) (useₚ .entry) .seconds .covers f,
+      )
+
   pub more-near : v ≤ T + 300
   unfolding moreUntil
   more-near = omega (arith, least-near T (oₚ .until) lₚ mₚ, grant-most (lₚ .kind))
