@@ -84,6 +84,25 @@ first-bytes bits32 (x ∷ y ∷ z ∷ u ∷ s) b h =
     let t : v % 256 ≡ u = omega arith in
     λ i. p i ∷ q i ∷ r i ∷ t i ∷ []
 
+-- a number that fits its width is laid out in bytes
+number-bytes : (w : Width) (v : ℕ) → v < bound w → (k : ℕ) → getD (bigEndian w v) k 0 < 256
+number-bytes bits8 v h zero = h
+number-bytes bits8 v h (suc k) = omega arith
+number-bytes bits16 v h zero = omega arith
+number-bytes bits16 v h (suc zero) = omega arith
+number-bytes bits16 v h (suc (suc k)) = omega arith
+number-bytes bits32 v h zero = omega arith
+number-bytes bits32 v h (suc zero) = omega arith
+number-bytes bits32 v h (suc (suc zero)) = omega arith
+number-bytes bits32 v h (suc (suc (suc zero))) = omega arith
+number-bytes bits32 v h (suc (suc (suc (suc k)))) = omega arith
+
+-- bytes behind bytes are bytes
+pub append-bytes : (s t : List ℕ) → ((k : ℕ) → getD s k 0 < 256) → ((k : ℕ) → getD t k 0 < 256) → (k : ℕ) → getD (s ++ t) k 0 < 256
+append-bytes [] t hs ht k = ht k
+append-bytes (x ∷ s) t hs ht zero = hs 0
+append-bytes (x ∷ s) t hs ht (suc k) = append-bytes s t (λ j. hs (suc j)) ht k
+
 -- what stands from an offset on is bytes too
 pub drop-bytes : (o : ℕ) (s : List ℕ) → ((k : ℕ) → getD s k 0 < 256) → (k : ℕ) → getD (drop o s) k 0 < 256
 drop-bytes o s b k = rw (getD-drop) (b (o + k))
@@ -115,15 +134,16 @@ values-drop (w ∷ ws) o k s = λ i. number-drop w o k s i ∷ (values-drop ws o
 pub values-from : (ws : List Width) (o : ℕ) (s : List ℕ) → valuesAt ws 0 (drop o s) ≡ valuesAt ws o s
 values-from ws o s = values-drop ws o 0 s ∙ ap (λ (n : ℕ). valuesAt ws n s) (add-zero o)
 
-pub length-values : (ws : List Width) (o : ℕ) (s : List ℕ) → length (valuesAt ws o s) ≡ length ws
-length-values [] o s = refl
-length-values (w ∷ ws) o s = ap suc (length-values ws (o + bytes w) s)
-
 -- the bytes of a layout do not depend on the values
 pub length-laid : (ws : List Width) (vs : List ℕ) → length vs ≡ length ws → length (laidOut ws vs) ≡ size ws
 length-laid [] vs e = refl
 length-laid (w ∷ ws) [] e = absurd (omega arith)
 length-laid (w ∷ ws) (v ∷ vs) e = rw (length-append, length-number, length-laid ws vs (omega arith))
+
+pub laid-bytes : (ws : List Width) (vs : List ℕ) → Fit ws vs → (k : ℕ) → getD (laidOut ws vs) k 0 < 256
+laid-bytes [] vs f k = omega arith
+laid-bytes (w ∷ ws) [] f k = absurd f
+laid-bytes (w ∷ ws) (v ∷ vs) f k = append-bytes (bigEndian w v) (laidOut ws vs) (number-bytes w v (f .0)) (laid-bytes ws vs (f .1)) k
 
 -- values that are laid out read back
 values-first : (ws : List Width) (vs rest : List ℕ) → length vs ≡ length ws → Fit ws vs → valuesAt ws 0 (laidOut ws vs ++ rest) ≡ vs

@@ -11,6 +11,8 @@ use Rattle.model.specs.Image.{Typed, Bytes, image, lengthOf, writeAnswer
 pub record Demand2 : Type 0 where
   -- "a book written and read back is the same book", whatever book was held before
   pub readsBack : (held b : Book) → Legal b → Typed b → (readCode (image b) ≡ 0) × (readBook held (image b) ≡ b)
+  -- what is written is bytes, so that the statements below hold of it too
+  pub imageBytes : (b : Book) → Legal b → Typed b → Bytes (image b)
   -- "an accepted image writes the same bytes"
   pub writesBack : (held : Book) (s : List ℕ) → Bytes s → readCode s ≡ 0 → image (readBook held s) ≡ s
   -- what is accepted is a legal book, so the two hold of it in turn

@@ -1,67 +1,31 @@
 -- Demand 2: a book that is written reads back as the same book, and an image that is accepted is written back byte for byte.
-use Prim.Native.Nat.{ℕ, zero, suc, _+_, _*_, _-_, _<_, _≤_, min}
+use Prim.Native.Nat.{ℕ, suc, _+_, _*_, _-_, _<_, _≤_}
 use mathlib.Core.Path.{_≡_, refl, sym, ap, ap₂, subst, _∙_}
 use mathlib.Core.Bool.{Bool, true, false, cond, _&&_, _||_, not, true≢false}
 use mathlib.Core.List.{List, [], _∷_, _++_, append-assoc, append-nil}
 use native.Mathlib.Omega.{arith}
 use native.Mathlib.Nat.{mul-suc, mul-le-mul-left, min-eq-left}
-use lib.ListN.{length, getD, take, drop, replicate, length-append, length-drop, take-append-drop, List·getD-eq-default}
+use lib.ListN.{length, getD, take, drop, replicate, length-append, List·getD-eq-default}
 use lib.Seq.{take-at, drop-at, take-add, take-all}
 use lib.Dec.{ltb, leb, eqb}
 use borrow.Author.Tests.{ltb-false, eqb-true, eqb-false, not-false, eq-eqb, ne-eqb, le-ltb, le-leb}
 use Rattle.laws.specs.Count.{joined, listed}
 use Rattle.laws.specs.Fields.{Width, size, laidOut, valuesAt, Fit}
-use Rattle.laws.specs.FieldLaws.{values-back, values-from, values-fit, length-values, length-laid, laid-back, drop-bytes, zeros-fit}
-use Rattle.laws.specs.TableLaws.{below-or-not, joined-same, listed-same, length-joined, piece-begins, pieces-joined, listed-at, blank-at, length-listed, length-slots, slots-back}
+use Rattle.laws.specs.FieldLaws.{values-back, values-from, values-fit, length-laid, laid-back, laid-bytes, append-bytes, drop-bytes}
+use Rattle.laws.specs.FieldLaws.{zeros-fit}
+use Rattle.laws.specs.TableLaws.{below-or-not, joined-same, listed-same, length-joined, piece-begins, pieces-joined, listed-at, blank-at}
+use Rattle.laws.specs.TableLaws.{length-listed, length-slots, slots-back, joined-bytes}
 use Rattle.book.specs.declared.Asset.{Asset}
 use Rattle.book.specs.declared.Entry.{Entry}
 use Rattle.book.specs.declared.Player.{Player}
 use Rattle.book.specs.declared.Book.{Book}
 use Rattle.book.specs.Blank.{noAsset, noEntry, noPlayer}
 use Rattle.model.specs.Book.{assetAt, playerAt, assetsIn, entriesIn, latestTime, ruleBroken, Legal}
-use Rattle.model.specs.Image.{
-  headerWidths,
-  headerValues,
-  newest,
-  assetWidths,
-  assetValues,
-  assetOf,
-  entryWidths,
-  entryValues,
-  entryOf,
-  playerWidths,
-  playerValues,
-  playerOf,
-  imageLength,
-  headerBytes,
-  assetBytes,
-  entryBytes,
-  playerBytes,
-  image,
-  lengthOf,
-  writeAnswer,
-  writeBuffer,
-  headerField,
-  markIn,
-  versionIn,
-  assetCountIn,
-  entryCountIn,
-  timeIn,
-  assetIn,
-  entryIn,
-  playerIn,
-  assetTable,
-  entryTable,
-  playerTable,
-  entriesFrom,
-  playersFrom,
-  bookIn,
-  headerBroken,
-  readCode,
-  readBook,
-  Typed,
-  Bytes,
-}
+use Rattle.model.specs.Image.{headerWidths, headerValues, newest, assetWidths, assetValues, assetOf, entryWidths, entryValues, entryOf}
+use Rattle.model.specs.Image.{playerWidths, playerValues, playerOf, imageLength, headerBytes, assetBytes, entryBytes, playerBytes, image}
+use Rattle.model.specs.Image.{lengthOf, writeAnswer, writeBuffer, headerField, markIn, versionIn, assetCountIn, entryCountIn, timeIn}
+use Rattle.model.specs.Image.{assetIn, entryIn, playerIn, assetTable, entryTable, playerTable, entriesFrom, playersFrom, bookIn}
+use Rattle.model.specs.Image.{headerBroken, readCode, readBook, Typed, Bytes}
 use Rattle.model.specs.Demand2.{Demand2}
 
 -- ## One table of records of any layout
@@ -152,8 +116,7 @@ passed false c x e = (refl, e)
 -- ## Written and read back
 
 header-fits : (assets entries time : ℕ) → assets ≤ 64 → entries ≤ 64 → time ≤ latestTime → Fit headerWidths (headerValues assets entries time)
-header-fits assets entries time ha he ht =
-    (omega arith, (omega arith, (omega arith, (omega arith, (omega arith, (omega arith, (omega arith, tt)))))))
+header-fits assets entries time ha he ht = omega arith
 
 module _ (b : Book) (l : Legal b) where
   assets-in : assetsIn b ≡ b .assetcount
@@ -273,6 +236,19 @@ module _ (b : Book) (l : Legal b) where
     reads-back held =
         let code : readCode (image b) ≡ 0 = rw (header-holds, book-back) (l .rules) in
         (code, rw (code) book-back)
+
+    image-bytes : Bytes (image b)
+    unfolding image headerBytes assetBytes entryBytes playerBytes
+    image-bytes =
+        let fits : Fit headerWidths (headerValues (assetsIn b) (entriesIn b) (b .time)) =
+        rw (assets-in, entries-in) (header-fits (b .assetcount) (b .entrycount) (b .time) (l .assetCount) (l .entryCount) (l .time)) in
+        append-bytes (headerPart b ++ assetPart b ++ entryPart b) (playerPart b)
+        (append-bytes (headerPart b ++ assetPart b) (entryPart b)
+        (append-bytes (headerPart b) (assetPart b)
+        (laid-bytes headerWidths (headerValues (assetsIn b) (entriesIn b) (b .time)) fits)
+        (joined-bytes _ (λ i. laid-bytes assetWidths (assetValues (assetAt (b .assets) i)) (y .assets i)) (assetsIn b)))
+        (joined-bytes _ (λ i. laid-bytes entryWidths (entryValues (getD (b .entries) i noEntry)) (y .entries i)) (entriesIn b)))
+        (joined-bytes _ (λ i. laid-bytes playerWidths (playerValues (playerAt (b .players) i)) (y .players i)) 16)
 
 -- ## Read and written back
 
@@ -460,6 +436,7 @@ module _ (b : Book) (old : List ℕ) (h : lengthOf b ≤ length old) where
 pub demand2 : Demand2
 demand2 = record {
   readsBack = λ held b l y. reads-back b l y held;
+  imageBytes = image-bytes;
   writesBack = writes-back;
   acceptedLegal = accepted-legal;
   refusedKeeps = refused-keeps;
