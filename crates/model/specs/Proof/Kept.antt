@@ -1,7 +1,7 @@
 -- Every event on a legal book leaves a legal book, so saving and reading back between any two events changes nothing.
 use mathlib.Core.Path.{_≡_, refl, sym, ap, _∙_, subst, fun-ext}
 use Prim.Native.Nat.{ℕ, _+_, _≤_, _<_}
-use mathlib.Core.Bool.{Bool, true, false, not, _&&_, _||_, cond}
+use mathlib.Core.Bool.{Bool, true, false, not, cond}
 use mathlib.Core.List.{List, [], _∷_, map}
 use mathlib.Core.Option.{Option, none, some}
 use lib.ListN.{length, getD, set, length-set, length-map}
@@ -29,43 +29,20 @@ use Rattle.book.specs.declared.Decoded.the-variants.{Invalid, Valid}
 use Rattle.book.specs.declared.Gate.{Gate}
 use Rattle.book.specs.declared.Gate.the-variants.{Refuse, Resend, Take}
 use Rattle.book.specs.Blank.{noEntry, noPlayer, closed}
-use Rattle.model.specs.Book.{
-  limitsAt,
-  metersAt,
-  playerAt,
-  assetsIn,
-  entriesIn,
-  latestTime,
-  inBook,
-  flagged,
-  momentary,
-  leastLimit,
-  limit,
-  between,
-  assetLegal,
-  assetsLegal,
-  rangesLegal,
-  limitsLegal,
-  entriesLegal,
-  playerBlank,
-  requestLegal,
-  takenCode,
-  answerLegal,
-  openLegal,
-  playerLegal,
-  openUses,
-  openSeconds,
-  Legal,
-}
+use Rattle.model.specs.Book.{limitsAt, metersAt, playerAt, assetsIn, entriesIn, latestTime, inBook, between, assetLegal, assetsLegal, limitsLegal, entriesLegal, playerBlank, requestLegal, takenCode, answerLegal, openLegal, playerLegal, openUses, openSeconds, Legal}
 use Rattle.model.specs.Image.{entryWidths, entryValues, playerWidths, playerValues, Typed, Bytes}
 use Rattle.model.specs.Events.{operationNumber, requestAsset, requestKind, recordWidths, recordField, kindOf, requestOf, eventIn, decoded, sameRequest, sameNumber, inLine, timely, gate, isOn, expired, shut, settled, catalogOf, Done, done, lastAt, openAt, noted, takenStep, stepBy, step, arrive, stepRecord}
 use Rattle.model.specs.Demand3.{answers, final}
 use Rattle.model.specs.Saved.{Survives, Fits, FitsRead, Turn, handedOn, eventOf, savedAnswers, savedFinal, AllFit, Saved}
 use Rattle.model.specs.Proof.RoundTrip.{demand2}
-use Rattle.model.specs.Proof.KeptFacts.{on-test, on-same, clash, row-passed, and-left, and-right, and-both, otherwise-at, cond-on, cond-off, upd, upd-same, upd-other, all-at, all-of}
+use Rattle.model.specs.Proof.Facts.{on-test, on-same, clash, and-right, and-both, cond-on, cond-off, upd, upd-same, upd-other}
+use Rattle.model.specs.Proof.Held.{Lawful, shutO}
+use Rattle.model.specs.Proof.Concrete.{store-open, shut-at, shut-open}
+use Rattle.model.specs.Proof.Grounds.{all-below, legal-grounds}
+use Rattle.model.specs.Proof.KeptFacts.{row-passed, otherwise-at, all-of}
 use Rattle.model.specs.Proof.KeptRules.{Counted, MeterOk, OpenOk, Sound, Live, open-to, blank-current, unused-from, used-from, player-to, meter-to, Stages, stages-from, stages-to, entries-counted, no-player, sound-of}
 use Rattle.model.specs.Proof.KeptMeters.{grant-most}
-use Rattle.model.specs.Proof.KeptEvents.{store-open, shutO, shut-at, shut-open, Part, settled-part, settled-live, AnswerOk, DoneOk, done-ok}
+use Rattle.model.specs.Proof.KeptEvents.{Part, settled-part, settled-live, AnswerOk, DoneOk, done-ok}
 
 -- ## An event that is taken
 
@@ -110,22 +87,6 @@ request-legal (Begin Print asset) = refl
 request-legal (Begin Export asset) = refl
 request-legal Continue = refl
 request-legal Stop = refl
-
--- a flagged interval lasts at least a second
-interval-some : (b : Book) (l : Limits) → limitsLegal b l ≡ true → flagged 16 l ≡ true → 1 ≤ l .interval
-unfolding limitsLegal rangesLegal limit
-interval-some b l e f =
-    let h =
-    row-passed (between 1 65535 (l .object))
-    (inBook b (l .asset) ∷ between 1 5 (l .kind) ∷ leb (l .flags) 63 ∷ rangesLegal l
-    ∷ (not (flagged 4 l && flagged 8 l) || leb (l .start) (l .end))
-    ∷ (not (momentary (l .kind)) || (not (flagged 32 l) && eqb (l .timer) 0)) ∷ []) e in
-    let r =
-    row-passed (limit (flagged 1 l) leastLimit 1000000 (l .count))
-    (limit (flagged 2 l) leastLimit 1000000 (l .timed) ∷ limit (flagged 2 l) 0 1000000 (l .timer)
-    ∷ limit (flagged 4 l) 0 latestTime (l .start) ∷ limit (flagged 8 l) 0 latestTime (l .end)
-    ∷ limit (flagged 16 l) leastLimit 100000000 (l .interval) ∷ limit (flagged 32 l) leastLimit 100000000 (l .accumulated) ∷ []) (h .1 .1 .1 .1 .0) in
-    leb-true 1 (l .interval) (and-left (leb 1 (l .interval)) _ (sym (cond-on (flagged 16 l) _ _ f) ∙ r .1 .1 .1 .1 .1 .0))
 
 -- ## Numbers that fit
 
@@ -254,9 +215,7 @@ module _ (b : Book) (e : Event) (h : Legal b) (t : Passed b e) where
       done-ok room es (before .slots)
       settled-sound
       (settled-live T (b .players)) (e .player) (t .player)
-      (λ i k f.
-      subst (λ (l : Limits). flagged 16 l ≡ true → 1 ≤ l .interval) (sym (before .limits i))
-      (interval-some b (limitsAt (b .entries) i) (all-at (λ j. limitsLegal b (limitsAt (b .entries) j)) (entriesIn b) (stages-from b (h .rules) .entries) i k)) f)
+      (λ i. subst Lawful (sym (before .limits i)) (legal-grounds b h .limits i))
       (catalogOf b) refl (e .request)
 
   limits-kept : (i : ℕ) → limitsAt (new .entries) i ≡ limitsAt (b .entries) i
@@ -342,7 +301,7 @@ module _ (b : Book) (e : Event) (h : Legal b) (t : Passed b e) where
       record {
         assets = s .assets;
         entries = all-of (λ i. limitsLegal new (limitsAt (new .entries) i)) (entriesIn new)
-            (λ i k. subst (λ (l : Limits). limitsLegal b l ≡ true) (sym (limits-kept i)) (all-at (λ j. limitsLegal b (limitsAt (b .entries) j)) (entriesIn b) (s .entries) i k));
+            (λ i k. subst (λ (l : Limits). limitsLegal b l ≡ true) (sym (limits-kept i)) (all-below (λ j. limitsLegal b (limitsAt (b .entries) j)) (entriesIn b) (s .entries) i k));
         players = players-legal;
         meters = λ i k. meter-to new i (new-sound .meters i k);
       }

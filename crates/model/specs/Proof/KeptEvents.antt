@@ -1,14 +1,13 @@
 -- From lists of entries and players to functions of a position: settling all players, and then the event itself, keep the rules.
 use mathlib.Core.Path.{_≡_, refl, sym, ap, _∙_, subst, fun-ext}
-use Prim.Native.Nat.{ℕ, zero, suc, _+_, _≤_, _<_, zero-le}
-use mathlib.Core.Bool.{Bool, true, false, not, _&&_, _||_, cond}
+use Prim.Native.Nat.{ℕ, suc, _+_, _≤_, _<_, zero-le}
+use mathlib.Core.Bool.{true, false, not, _&&_, _||_, cond}
 use mathlib.Core.List.{List, [], _∷_, map}
-use lib.ListN.{length, getD, set, length-set, List·getD-map}
-use lib.Seq.{getD-set-same, getD-set-other, set-out}
+use lib.ListN.{length}
 use lib.Dec.{leb, ltb, eqb}
 use native.Mathlib.Omega.{arith}
 use native.Mathlib.Nat.{add-zero, zero-add}
-use borrow.Author.Tests.{eqb-true, ltb-true, ltb-false, lt-ltb, le-ltb, leb-false}
+use borrow.Author.Tests.{eqb-true, lt-ltb, le-ltb, leb-false}
 use Rattle.laws.specs.TableLaws.{below-or-not}
 use Rattle.book.specs.declared.Limits.{Limits}
 use Rattle.book.specs.declared.Meters.{Meters}
@@ -20,54 +19,15 @@ use Rattle.book.specs.declared.Kind.{Kind}
 use Rattle.book.specs.declared.Kind.the-variants.{Play, Display, Execute, Print, Export}
 use Rattle.book.specs.declared.Request.{Request}
 use Rattle.book.specs.declared.Request.the-variants.{Begin, Continue, Stop}
-use Rattle.book.specs.Blank.{noEntry, noPlayer, closed}
-use Rattle.model.specs.Book.{limitsAt, metersAt, between, flagged, momentary, takenCode}
-use Rattle.model.specs.Events.{kindNumber, amend, begun, continued, ended, isOn, expired, shut, released, settled, Catalog, suitable, usable, parentOf, own, grantable, Choice, nobody, chosen, prefer, chooseOf, anyOf, suits, allowed, goesBefore, choose, leastUntil, grantUntil, Done, unchanged, granted, doBegin, more, doContinue, doStop, done, openAt}
-use Rattle.model.specs.Proof.KeptFacts.{on-test, on-same, clash, and-left, and-right, cond-on, cond-off, upd, upd-same, upd-other, upd-own}
+use Rattle.book.specs.Blank.{closed}
+use Rattle.model.specs.Book.{limitsAt, metersAt, between, momentary, takenCode}
+use Rattle.model.specs.Events.{kindNumber, amend, begun, continued, ended, isOn, expired, shut, released, settled, Catalog, suitable, usable, parentOf, own, grantable, Choice, nobody, chosen, anyOf, suits, allowed, goesBefore, choose, leastUntil, grantUntil, Done, unchanged, granted, doBegin, more, doContinue, doStop, done, openAt}
+use Rattle.model.specs.Proof.Facts.{on-test, on-same, clash, and-left, and-right, cond-on, cond-off, upd, upd-same, upd-other}
+use Rattle.model.specs.Proof.KeptFacts.{upd-own}
+use Rattle.model.specs.Proof.Held.{Lawful, shutO}
+use Rattle.model.specs.Proof.Concrete.{amend-length, amend-limits, amend-meters, shut-open, Sure, choose-sound}
 use Rattle.model.specs.Proof.KeptRules.{MeterOk, UseOk, Sound, Live}
-use Rattle.model.specs.Proof.KeptMeters.{ended-sound, continued-sound, more-near, Grant, grant-from, momentary-sound, begun-sound, begun-live, grant-near}
-
--- ## Amending an entry
-
-pub amend-length : (i : ℕ) (g : Limits → Meters → Meters) (es : List Entry) → length (amend i g es) ≡ length es
-unfolding amend
-amend-length i g es = length-set es i _
-
-pub amend-limits : (i : ℕ) (g : Limits → Meters → Meters) (es : List Entry) (j : ℕ) → limitsAt (amend i g es) j ≡ limitsAt es j
-unfolding amend
-amend-limits i g es j =
-    on-same j i
-    (λ x. rw x
-    (on-test (ltb i (length es))
-    (λ q. ap (λ (e : Entry). e .limits) (getD-set-same es i _ noEntry (ltb-true i (length es) q)))
-    (λ q. ap (λ (e : List Entry). limitsAt e i) (set-out es i _ (ltb-false i (length es) q)))))
-    (λ x. ap (λ (e : Entry). e .limits) (getD-set-other es i j _ noEntry x))
-
-pub amend-meters : (i : ℕ) (g : Limits → Meters → Meters) (es : List Entry) → i < length es → (j : ℕ) → metersAt (amend i g es) j ≡ upd i (g (limitsAt es i) (metersAt es i)) (metersAt es) j
-unfolding amend
-amend-meters i g es h j =
-    on-same j i
-    (λ x. rw x (ap (λ (e : Entry). e .meters) (getD-set-same es i _ noEntry h) ∙ sym (upd-same i (g (limitsAt es i) (metersAt es i)) (metersAt es))))
-    (λ x. ap (λ (e : Entry). e .meters) (getD-set-other es i j _ noEntry x) ∙ sym (upd-other i (g (limitsAt es i) (metersAt es i)) (metersAt es) j x))
-
--- ## Players
-
-pub store-open : (p : ℕ) (x : Player) (ps : List Player) → p < length ps → (q : ℕ) → openAt (set ps p x) q ≡ upd p (x .current) (openAt ps) q
-store-open p x ps h q =
-    on-same q p
-    (λ e. rw e (ap (λ (y : Player). y .current) (getD-set-same ps p x noPlayer h) ∙ sym (upd-same p (x .current) (openAt ps))))
-    (λ e. ap (λ (y : Player). y .current) (getD-set-other ps p q x noPlayer e) ∙ sym (upd-other p (x .current) (openAt ps) q e))
-
-abbrev pub shutO : ℕ → Open → Open
-shutO T o = cond (expired T o) closed o
-
-pub shut-at : (T : ℕ) (ps : List Player) (p : ℕ) → getD (map (shut T) ps) p noPlayer ≡ shut T (getD ps p noPlayer)
-unfolding shut expired
-shut-at T ps p = List·getD-map (shut T) ps p noPlayer
-
-pub shut-open : (T : ℕ) (ps : List Player) (p : ℕ) → openAt (map (shut T) ps) p ≡ shutO T (openAt ps p)
-unfolding shut
-shut-open T ps p = ap (λ (y : Player). y .current) (shut-at T ps p)
+use Rattle.model.specs.Proof.KeptMeters.{ended-sound, continued-sound, more-near, Grant, grant-of, momentary-sound, begun-sound, begun-live, grant-near}
 
 -- ## A later time
 
@@ -200,24 +160,7 @@ module _ (S T n : ℕ) (es : List Entry) (ps : List Player) where
 pub settled-live : (T : ℕ) (ps : List Player) → Live T (openAt (map (shut T) ps))
 settled-live T ps p = subst (λ (o : Open). isOn o ≡ true → T < o .until) (sym (shut-open T ps p)) (shut-live T (openAt ps p))
 
--- ## The choice
-
-pub record Sure (ok : ℕ → Bool) (k j : ℕ) : Type 0 where
-  pub below : j < k
-  pub passes : ok j ≡ true
-
-pub choose-sound : (ok : ℕ → Bool) (first : ℕ → ℕ → Bool) (k j : ℕ) → chooseOf ok first k ≡ chosen j → Sure ok k j
-unfolding chooseOf
-choose-sound ok first zero j e = let z : _≡_ {A = ℕ} 0 1 = cc in absurd (omega arith)
-choose-sound ok first (suc k) j e = go (ok k) refl (chooseOf ok first k) refl e (choose-sound ok first k j)
-  where
-    go : (b : Bool) → ok k ≡ b → (c : Choice) → chooseOf ok first k ≡ c → prefer b k (first k) c ≡ chosen j → (chooseOf ok first k ≡ chosen j → Sure ok k j) → Sure ok (suc k) j
-    go false q c r z ih = let w = ih (r ∙ z) in record { below = omega (arith, w .below); passes = w .passes }
-    go true q nobody r z ih = let x : k ≡ j = cc in record { below = omega arith; passes = rw (← x) q }
-    go true q (chosen i) r z ih =
-        on-test (first k i)
-        (λ y. let x : k ≡ j = cc in record { below = omega arith; passes = rw (← x) q })
-        (λ y. let x : i ≡ j = cc in let w = ih (r ∙ ap chosen x) in record { below = omega (arith, w .below); passes = w .passes })
+-- ## What a taken event does
 
 -- a kind that is asked for and is not momentary
 kind-runs : (k : Kind) (n : ℕ) → eqb n (kindNumber k) ≡ true → momentary n ≡ false → between 1 3 n ≡ true
@@ -230,8 +173,6 @@ kind-runs k n e f = rw (eqb-true n (kindNumber k) e) (go k (rw (eqb-true n (kind
     go Execute q = refl
     go Print q = clash refl q
     go Export q = clash refl q
-
--- ## What a taken event does
 
 -- what rule 26 asks of an answer
 pub record AnswerOk (T n : ℕ) (a : Answer) : Type 0 where
@@ -291,14 +232,14 @@ module _ {T n : ℕ} (room : n ≤ 64) (es : List Entry) {opn : ℕ → Open} (s
       use₁ : isOn (opn p) ≡ true → UseOk T n (limitsAt es (opn p .entry)) (metersAt es (opn p .entry)) (opn p)
       use₁ on = h .opens p .runs on
 
-  module _ (spans : (i : ℕ) → i < n → flagged 16 (limitsAt es i) ≡ true → 1 ≤ limitsAt es i .interval) where
+  module _ (lawful : (i : ℕ) → Lawful (limitsAt es i)) where
     chosen-ok : (kind : Kind) (i : ℕ) → isOn (opn p) ≡ false → i < n → eqb (limitsAt es i .kind) (kindNumber kind) ≡ true → grantable T (limitsAt es i) (metersAt es i) ≡ true →
         DoneOk T n p (limitsAt es) opn (granted T es (opn p) (chosen i))
     unfolding grantUntil takenCode
     chosen-ok kind i off k e g =
         let a : AnswerOk T n (record { code = 0; entry = i; until = grantUntil T (limitsAt es i) (metersAt es i) }) =
         record { code = refl; grants = λ q. k; refuses = λ q. clash refl q; near = grant-near T (limitsAt es i) (metersAt es i) } in
-        let grant : Grant T (limitsAt es i) (metersAt es i) = grant-from T (limitsAt es i) (metersAt es i) g in
+        let grant : Grant T (limitsAt es i) (metersAt es i) = grant-of T (limitsAt es i) (metersAt es i) g (lawful i) in
         on-test (momentary (limitsAt es i .kind))
         (λ q. record {
           answer = a;
@@ -311,7 +252,7 @@ module _ {T n : ℕ} (room : n ≤ 64) (es : List Entry) {opn : ℕ → Open} (s
               (amend-part T n room (limitsAt es) es (upd p (record { on = 1; entry = i; begin = T; until = leastUntil T T (limitsAt es i) (metersAt es i) }) opn) i
               (begun T (leastUntil T T (limitsAt es i) (metersAt es i))) k slots (λ j. refl)
               (begun-sound h p pl off i k grant (kind-runs kind (limitsAt es i .kind) e q)));
-          live = rw q (λ z. begun-live h p pl off i k grant (spans i k));
+          live = rw q (λ z. begun-live h p pl off i k grant);
         })
 
     module _ (c : Catalog) (counted : c .entryCount ≡ n) where

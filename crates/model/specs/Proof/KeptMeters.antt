@@ -2,37 +2,19 @@
 use mathlib.Core.Path.{_≡_, refl, sym, ap, _∙_, subst}
 use Prim.Native.Nat.{ℕ, suc, _+_, _-_, _≤_, _<_}
 use mathlib.Core.Bool.{Bool, true, false, _&&_, cond}
-use mathlib.Core.List.{[], _∷_}
-use lib.Dec.{leb, ltb, eqb}
+use lib.Dec.{ltb, eqb}
 use native.Mathlib.Omega.{arith}
-use borrow.Author.Tests.{eq-eqb, ne-eqb, ltb-true, leb-true}
+use borrow.Author.Tests.{eq-eqb, ne-eqb}
 use Rattle.laws.specs.Count.{one}
 use Rattle.book.specs.declared.Limits.{Limits}
 use Rattle.book.specs.declared.Meters.{Meters}
 use Rattle.book.specs.declared.Open.{Open}
 use Rattle.book.specs.Blank.{closed}
 use Rattle.model.specs.Book.{grantLength, between, flagged, momentary, opens}
-use Rattle.model.specs.Events.{
-  where-flagged,
-  isStarted,
-  intervalFrom,
-  begun,
-  continued,
-  ended,
-  isOn,
-  asked,
-  countLeft,
-  timedLeft,
-  inDates,
-  intervalLeft,
-  secondsLeft,
-  grantable,
-  cap,
-  leastUntil,
-  grantUntil,
-  moreUntil,
-}
-use Rattle.model.specs.Proof.KeptFacts.{on-test, on-same, clash, row-passed, implied-at, asked-on, cond-on, cond-off, flag-le, cap-le, cap-at, cap-ge, upd, upd-same, upd-other, sum-upd}
+use Rattle.model.specs.Events.{where-flagged, isStarted, intervalFrom, begun, continued, ended, isOn, grantable, leastUntil, grantUntil, moreUntil}
+use Rattle.model.specs.Proof.Facts.{on-test, on-same, clash, cond-on, cond-off, flag-le, upd, upd-same, upd-other}
+use Rattle.model.specs.Proof.KeptFacts.{sum-upd}
+use Rattle.model.specs.Proof.Held.{Lawful, length-pos, caps, caps-le, caps-first, caps-second, caps-third, caps-ge, grant-count, grant-timed, grant-start, grant-end, grant-from, grant-seconds}
 use Rattle.model.specs.Proof.KeptRules.{MeterOk, UseOk, OpenOk, useIn, secondsIn, usesOf, secondsOf, Sound}
 
 -- ## One player's use and one entry's meters change
@@ -177,53 +159,33 @@ module _ {T n : ℕ} {lim : ℕ → Limits} {met : ℕ → Meters} {opn : ℕ �
 
 -- ## Until
 
--- a grant gives some time, and at most so much
-
-pub grant-some : (k : ℕ) → 1 ≤ grantLength k
-unfolding grantLength
-grant-some k = omega arith
+-- a grant gives at most so much
 
 pub grant-most : (k : ℕ) → grantLength k ≤ 300
 unfolding grantLength
 grant-most k = omega arith
 
 module _ (t from : ℕ) (l : Limits) (m : Meters) where
-  abbrev by-seconds : ℕ
-  by-seconds = cap (flagged 32 l) (from + (l .accumulated - m .seconds)) (t + grantLength (l .kind))
-
-  abbrev by-interval : ℕ
-  by-interval = cap (flagged 16 l) (intervalFrom t m + l .interval) by-seconds
-
-  seconds-le : by-seconds ≤ t + grantLength (l .kind)
-  seconds-le = cap-le (flagged 32 l) (from + (l .accumulated - m .seconds)) (t + grantLength (l .kind))
-
-  interval-le : by-interval ≤ by-seconds
-  interval-le = cap-le (flagged 16 l) (intervalFrom t m + l .interval) by-seconds
-
-  least-le : leastUntil t from l m ≤ by-interval
-  unfolding leastUntil
-  least-le = cap-le (flagged 8 l) (l .end + 1) by-interval
-
   least-near : leastUntil t from l m ≤ t + grantLength (l .kind)
-  least-near = omega (arith, least-le, interval-le, seconds-le)
+  unfolding leastUntil caps
+  least-near = caps-le (flagged 8 l) (flagged 16 l) (flagged 32 l) _ _ _ _
 
   least-last : flagged 8 l ≡ true → leastUntil t from l m ≤ l .end + 1
-  unfolding leastUntil
-  least-last f = cap-at (flagged 8 l) (l .end + 1) by-interval f
+  unfolding leastUntil caps
+  least-last f = caps-first (flagged 8 l) (flagged 16 l) (flagged 32 l) _ _ _ _ f
 
   least-span : flagged 16 l ≡ true → leastUntil t from l m ≤ intervalFrom t m + l .interval
-  least-span f = omega (arith, least-le, cap-at (flagged 16 l) (intervalFrom t m + l .interval) by-seconds f)
+  unfolding leastUntil caps
+  least-span f = caps-second (flagged 8 l) (flagged 16 l) (flagged 32 l) _ _ _ _ f
 
   least-unused : flagged 32 l ≡ true → leastUntil t from l m ≤ from + (l .accumulated - m .seconds)
-  least-unused f = omega (arith, least-le, interval-le, cap-at (flagged 32 l) (from + (l .accumulated - m .seconds)) (t + grantLength (l .kind)) f)
+  unfolding leastUntil caps
+  least-unused f = caps-third (flagged 8 l) (flagged 16 l) (flagged 32 l) _ _ _ _ f
 
   least-ge : (x : ℕ) → x ≤ t + grantLength (l .kind) → (flagged 8 l ≡ true → x ≤ l .end + 1) → (flagged 16 l ≡ true → x ≤ intervalFrom t m + l .interval) →
       (flagged 32 l ≡ true → x ≤ from + (l .accumulated - m .seconds)) → x ≤ leastUntil t from l m
-  unfolding leastUntil
-  least-ge x a b c d =
-      cap-ge (flagged 8 l) (l .end + 1) by-interval x
-      (cap-ge (flagged 16 l) (intervalFrom t m + l .interval) by-seconds x (cap-ge (flagged 32 l) (from + (l .accumulated - m .seconds)) (t + grantLength (l .kind)) x a d) c)
-      b
+  unfolding leastUntil caps
+  least-ge x a b c d = caps-ge (flagged 8 l) (flagged 16 l) (flagged 32 l) _ _ _ _ x b c d a
 
 since-first : (t : ℕ) (m : Meters) → m .started ≡ 1 → intervalFrom t m ≡ m .first
 since-first t m e = cond-on (isStarted m) (m .first) t (eq-eqb (m .started) 1 e)
@@ -334,22 +296,18 @@ pub record Grant (t : ℕ) (l : Limits) (m : Meters) : Type 0 where
   pub timed : flagged 2 l ≡ true → m .timed < l .timed
   pub from : flagged 4 l ≡ true → l .start ≤ t
   pub upto : flagged 8 l ≡ true → t ≤ l .end
-  pub interval : flagged 16 l ≡ true → isStarted m ≡ true → t < m .first + l .interval
+  pub interval : flagged 16 l ≡ true → t < intervalFrom t m + l .interval
   pub seconds : flagged 32 l ≡ true → m .seconds < l .accumulated
 
-pub grant-from : (t : ℕ) (l : Limits) (m : Meters) → grantable t l m ≡ true → Grant t l m
-unfolding grantable countLeft timedLeft inDates intervalLeft secondsLeft
-grant-from t l m e =
-    let h = row-passed (countLeft l m) (timedLeft l m ∷ inDates t l ∷ intervalLeft t l m ∷ secondsLeft l m ∷ []) e in
-    let d = row-passed (asked (flagged 4 l) (leb (l .start) t)) (asked (flagged 8 l) (leb t (l .end)) ∷ []) (h .1 .1 .0) in
-    record {
-      count = λ f. ltb-true _ _ (asked-on (flagged 1 l) _ (h .0) f);
-      timed = λ f. ltb-true _ _ (asked-on (flagged 2 l) _ (h .1 .0) f);
-      from = λ f. leb-true _ _ (asked-on (flagged 4 l) _ (d .0) f);
-      upto = λ f. leb-true _ _ (asked-on (flagged 8 l) _ (d .1 .0) f);
-      interval = λ f s. ltb-true _ _ (implied-at (isStarted m) _ (asked-on (flagged 16 l) _ (h .1 .1 .1 .0) f) s);
-      seconds = λ f. ltb-true _ _ (asked-on (flagged 32 l) _ (h .1 .1 .1 .1 .0) f);
-    }
+pub grant-of : (t : ℕ) (l : Limits) (m : Meters) → grantable t l m ≡ true → Lawful l → Grant t l m
+grant-of t l m e h = record {
+  count = grant-count t l m e h;
+  timed = grant-timed t l m e h;
+  from = grant-start t l m e h;
+  upto = grant-end t l m e h;
+  interval = grant-from t l m e h;
+  seconds = grant-seconds t l m e h;
+}
 
 from-le : (T : ℕ) (m : Meters) → m .first ≤ T → intervalFrom T m ≤ T
 from-le T m h =
@@ -446,14 +404,9 @@ module _ {T n : ℕ} {lim : ℕ → Limits} {met : ℕ → Meters} {opn : ℕ �
               (omega (arith, x)) (omega (arith, y));
         })
 
-  -- a granted use runs for at least one second, as a flagged interval does
-  pub begun-live : (flagged 16 lⱼ ≡ true → 1 ≤ lⱼ .interval) → T < leastUntil T T lⱼ mⱼ
-  begun-live z =
-      least-ge T T lⱼ mⱼ (suc T) (omega (arith, grant-some (lⱼ .kind))) (λ f. omega (arith, g .upto f))
-      (λ f. on-test (isStarted mⱼ)
-      (λ s. omega (arith, g .interval f s, cond-on (isStarted mⱼ) (mⱼ .first) T s))
-      (λ s. omega (arith, z f, cond-off (isStarted mⱼ) (mⱼ .first) T s)))
-      (λ f. omega (arith, g .seconds f))
+  -- a granted use runs for at least one second
+  pub begun-live : T < leastUntil T T lⱼ mⱼ
+  begun-live = least-ge T T lⱼ mⱼ (suc T) (omega (arith, length-pos (lⱼ .kind))) (λ f. omega (arith, g .upto f)) (g .interval) (λ f. omega (arith, g .seconds f))
 
 pub grant-near : (t : ℕ) (l : Limits) (m : Meters) → grantUntil t l m ≤ t + 300
 unfolding grantUntil

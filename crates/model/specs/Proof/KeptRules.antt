@@ -48,7 +48,9 @@ use Rattle.model.specs.Book.{
   Legal,
 }
 use Rattle.model.specs.Events.{isOn, openAt}
-use Rattle.model.specs.Proof.KeptFacts.{on-test, clash, Pass, row-passed, and-both, implied, implied-at, otherwise, otherwise-at, cond-on, cond-off, all-at, all-of}
+use Rattle.model.specs.Proof.Facts.{on-test, clash, and-both, cond-on, cond-off}
+use Rattle.model.specs.Proof.Grounds.{all-below}
+use Rattle.model.specs.Proof.KeptFacts.{Pass, row-passed, implied, implied-at, otherwise, otherwise-at, all-of}
 
 -- ## The facts
 
@@ -325,7 +327,7 @@ stages-from b e =
     let q = passed (entriesLegal b) 25 _ (omega arith) (p .1) in
     let r = passed (playersLegal b) 26 _ (omega arith) (q .1) in
     let s = passed (metersLegal b) 27 _ (omega arith) (r .1) in
-    record { assets = p .0; entries = q .0; players = all-at _ 16 (r .0); meters = all-at _ (entriesIn b) (s .0) }
+    record { assets = p .0; entries = q .0; players = all-below _ 16 (r .0); meters = all-below _ (entriesIn b) (s .0) }
 
 pub stages-to : (b : Book) → Stages b → ruleBroken b ≡ 0
 unfolding ruleBroken playersLegal metersLegal
