@@ -5,4 +5,6 @@ pub mod Ledger
 pub mod Demand2
 pub mod Demand3
 pub mod Run
+pub mod Saved
+pub mod Exact
 pub mod Proof

@@ -14,3 +14,9 @@ pub mod Until
 pub mod Run
 pub mod Demand3
 pub mod Afternoon
+pub mod KeptFacts
+pub mod KeptRules
+pub mod KeptMeters
+pub mod KeptEvents
+pub mod Kept
+pub mod KeptExact

@@ -37,7 +37,7 @@ pub record Grounds (b : Book) : Type 0 where
   pub once : (i : ℕ) → i < assetsIn b → assetPosition (b .assets) (assetsIn b) (assetAt (b .assets) i .number) ≡ i
   pub numbered : (i : ℕ) → i < assetsIn b → 0 < assetAt (b .assets) i .number
 
-all-below : (f : ℕ → Bool) (n : ℕ) → all f n ≡ true → (i : ℕ) → i < n → f i ≡ true
+pub all-below : (f : ℕ → Bool) (n : ℕ) → all f n ≡ true → (i : ℕ) → i < n → f i ≡ true
 unfolding all
 all-below f zero e i h = absurd (omega arith)
 all-below f (suc n) e i h =

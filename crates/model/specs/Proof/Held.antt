@@ -310,7 +310,7 @@ module _ {T k n : ℕ} {lim : ℕ → Limits} {met : ℕ → Meters} {opn : ℕ 
 -- ## A grant
 
 -- a grant lasts at least a second
-length-pos : (kind : ℕ) → 0 < grantLength kind
+pub length-pos : (kind : ℕ) → 0 < grantLength kind
 unfolding grantLength
 length-pos kind = omega arith
 
