@@ -59,7 +59,11 @@ pub fn assets_legal(b: Book) -> bool
 fn limit_legal(flag: bool, least: u32, most: u32, v: u32) -> bool
     ensures { λ r. ⌜ r ≡ limit flag least most v ⌝ }
 {
-    if flag { (least <= v) & (v <= most) } else { v == 0 }
+    if flag {
+        (least <= v) & (v <= most)
+    } else {
+        v == 0
+    }
 }
 
 fn ranges_legal(l: Limits) -> bool

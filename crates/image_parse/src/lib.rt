@@ -236,7 +236,13 @@ pub fn parse(s: &[u8]) -> Parsed
 {
     let code = header_broken(s);
     if code == 0 {
-        return Parsed { code: 0, book: book_in(s) };
+        return Parsed {
+            code: 0,
+            book: book_in(s),
+        };
     }
-    Parsed { code: code, book: book::blank_book() }
+    Parsed {
+        code: code,
+        book: book::blank_book(),
+    }
 }

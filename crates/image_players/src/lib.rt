@@ -121,7 +121,9 @@ fn player_legal(time: u32, n: usize, e: Entry, p: Player) -> bool
     let l = p.last;
     let a = l.answer;
     let o = p.current;
-    let judged = request_legal(l.operation, l.asset, l.kind) & answer_legal(n, a) & open_legal(time, n, e, o);
+    let judged = request_legal(l.operation, l.asset, l.kind)
+        & answer_legal(n, a)
+        & open_legal(time, n, e, o);
     pick(l.number == 0, player_blank(p), judged)
 }
 

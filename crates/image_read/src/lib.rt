@@ -16,11 +16,20 @@ pub fn read(held: Book, s: &[u8]) -> Loaded
     let parsed = image_parse::parse(s);
     let found = parsed.book;
     if parsed.code != 0 {
-        return Loaded { code: parsed.code, book: held };
+        return Loaded {
+            code: parsed.code,
+            book: held,
+        };
     }
     let code = image_check::rule_broken(found);
     if code != 0 {
-        return Loaded { code: code, book: held };
+        return Loaded {
+            code: code,
+            book: held,
+        };
     }
-    Loaded { code: 0, book: found }
+    Loaded {
+        code: 0,
+        book: found,
+    }
 }

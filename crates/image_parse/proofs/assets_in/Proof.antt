@@ -62,10 +62,11 @@ loop-again c =
     let a = c .before .before .before .before .before .before .args in
     let l = c .before .before .before .loop in
     let o = a .at + 5 * l .i in
-    let e : length (drop o (now (a .s))) ≤ length (now (a .s)) - o = simp length-drop (omega arith) in
-    (omega arith,
-     ap₂ (λ (t : List Asset) (v : Asset). set t (l .i) v) (l .inv .1) (c .asset-in .ensures ∙ ap assetIn (take-all (length (now (a .s)) - o) (drop o (now (a .s))) e))
-     ∙ listed-turn (λ k. assetIn (drop (a .at + 5 * k) (now (a .s)))) noAsset 64 (l .i) (omega arith))
+    let e : length (drop o (now (a .s))) ≤ length (now (a .s)) - o = simp length-drop (omega arith) in (
+      omega arith,
+      ap₂ (λ (t : List Asset) (v : Asset). set t (l .i) v) (l .inv .1) (c .asset-in .ensures ∙ ap assetIn (take-all (length (now (a .s)) - o) (drop o (now (a .s))) e))
+          ∙ listed-turn (λ k. assetIn (drop (a .at + 5 * k) (now (a .s)))) noAsset 64 (l .i) (omega arith),
+    )
 
 returns : tie.Need-returns Inv-loop μ-loop
 unfolding assetTable

@@ -1,71 +1,68 @@
+use native.Mathlib.Omega.{arith}
+use lib.ListN.{getD}
+use denote.Ref.{now}
+use Rattle.model.specs.Image.{bookIn, timeIn, assetCountIn, entryCountIn, entriesFrom, playersFrom}
+use Rattle.image_parse.specs.Header.{HeaderStands, header-stands}
 use Rattle.image_parse.proofs.book_in.Statement.{statement}
 use Rattle.image_parse.proofs.book_in.Tie as tie
-use Rattle.image_parse.proofs.book_in.Reads as reads
-use Rattle.image_parse.proofs.book_in.Lts as lts
-use Rattle.image_parse.proofs.assets_in.Reads as assets-in-reads
-use Rattle.image_parse.proofs.entries_in.Reads as entries-in-reads
-use Rattle.image_parse.proofs.players_in.Reads as players-in-reads
-use Rattle.image_parse.proofs.read32.Reads as read32-reads
 
--- src/lib.rt:218:18
+stands : (c : tie.Start) → HeaderStands (now (c .args .s))
+stands c = header-stands (now (c .args .s)) (c .pre)
+
 shared-slice-read-assets : tie.Need-shared-slice-read-assets
-shared-slice-read-assets c = ?
+shared-slice-read-assets c = let h = stands (c .before .before) in omega arith
 
--- src/lib.rt:218:18
 cast-assets : tie.Need-cast-assets
-cast-assets c = ?
+cast-assets c = let h = stands (c .before .before) in omega arith
 
--- src/lib.rt:219:19
 shared-slice-read-entries : tie.Need-shared-slice-read-entries
-shared-slice-read-entries c = ?
+shared-slice-read-entries c = let h = stands (c .before .before .before) in omega arith
 
--- src/lib.rt:219:19
 cast-entries : tie.Need-cast-entries
-cast-entries c = ?
+cast-entries c = let h = stands (c .before .before .before) in omega arith
 
--- src/lib.rt:220:28
 mul-entriesfrom : tie.Need-mul-entriesfrom
-mul-entriesfrom c = ?
+mul-entriesfrom c = let h = stands (c .before .before .before) in omega arith
 
--- src/lib.rt:220:23
 add-entriesfrom : tie.Need-add-entriesfrom
-add-entriesfrom c = ?
+add-entriesfrom c = let h = stands (c .before .before .before) in omega arith
 
--- src/lib.rt:221:37
 mul-playersfrom : tie.Need-mul-playersfrom
-mul-playersfrom c = ?
+mul-playersfrom c = let h = stands (c .before .before .before) in omega arith
 
--- src/lib.rt:221:23
 add-playersfrom : tie.Need-add-playersfrom
-add-playersfrom c = ?
+add-playersfrom c = let h = stands (c .before .before .before) in omega arith
 
--- src/lib.rt:223:15
 read32-requires : tie.Need-read32-requires
-read32-requires c κs = ?
+read32-requires c κs = let h = stands (c .before .before .before) in omega arith
 
--- src/lib.rt:224:21
 shared-slice-read-t7 : tie.Need-shared-slice-read-t7
-shared-slice-read-t7 c = ?
+shared-slice-read-t7 c = let h = stands (c .before .before .before .before .before) in omega arith
 
--- src/lib.rt:225:21
 shared-slice-read-t13 : tie.Need-shared-slice-read-t13
-shared-slice-read-t13 c = ?
+shared-slice-read-t13 c = let h = stands (c .before .before .before .before .before .before) in omega arith
 
--- src/lib.rt:226:17
 assets-in-requires : tie.Need-assets-in-requires
-assets-in-requires c κs = ?
+assets-in-requires c κs = let h = stands (c .before .before .before .before .before .before) in omega arith
 
--- src/lib.rt:227:18
 entries-in-requires : tie.Need-entries-in-requires
-entries-in-requires c κs = ?
+entries-in-requires c κs = let h = stands (c .before .before .before .before .before .before .before) in omega arith
 
--- src/lib.rt:228:18
 players-in-requires : tie.Need-players-in-requires
-players-in-requires c κs = ?
+players-in-requires c κs =
+    let h = stands (c .before .before .before .before .before .before .before .before) in omega arith
 
--- src/lib.rt:214:1
 returns : tie.Need-returns
-returns c = ?
+unfolding bookIn timeIn assetCountIn entryCountIn entriesFrom playersFrom
+returns c =
+    λ i. record {
+      time = c .before .before .before .before .before .read32 .ensures i;
+      assetcount = getD (now (c .before .before .before .before .before .before .before .before .before .args .s)) 5 0;
+      entrycount = getD (now (c .before .before .before .before .before .before .before .before .before .args .s)) 6 0;
+      assets = c .before .before .assets-in .ensures i;
+      entries = c .before .entries-in .ensures i;
+      players = c .players-in .ensures i;
+    }
 
 pub book-in-spec : {M : Type 1} → statement M
 book-in-spec =

@@ -62,10 +62,11 @@ loop-again c =
     let a = c .before .before .before .before .before .before .args in
     let l = c .before .before .before .loop in
     let o = a .at + 51 * l .i in
-    let e : length (drop o (now (a .s))) ≤ length (now (a .s)) - o = simp length-drop (omega arith) in
-    (omega arith,
-     ap₂ (λ (t : List Entry) (v : Entry). set t (l .i) v) (l .inv .1) (c .entry-in .ensures ∙ ap entryIn (take-all (length (now (a .s)) - o) (drop o (now (a .s))) e))
-     ∙ listed-turn (λ k. entryIn (drop (a .at + 51 * k) (now (a .s)))) noEntry 64 (l .i) (omega arith))
+    let e : length (drop o (now (a .s))) ≤ length (now (a .s)) - o = simp length-drop (omega arith) in (
+      omega arith,
+      ap₂ (λ (t : List Entry) (v : Entry). set t (l .i) v) (l .inv .1) (c .entry-in .ensures ∙ ap entryIn (take-all (length (now (a .s)) - o) (drop o (now (a .s))) e))
+          ∙ listed-turn (λ k. entryIn (drop (a .at + 51 * k) (now (a .s)))) noEntry 64 (l .i) (omega arith),
+    )
 
 returns : tie.Need-returns Inv-loop μ-loop
 unfolding entryTable

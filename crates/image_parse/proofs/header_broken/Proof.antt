@@ -60,7 +60,7 @@ returns-4 c =
     let mark : markIn s ≡ true = not-false _ (c .before .before .before .before .before .before .if2 .left) in
     let version : eqb (versionIn s) 1 ≡ true = eq-eqb _ _ (sym (c .before .before .before .before .before .read16 .ensures) ∙ c .before .before .before .before .if3 .left) in
     let few : (ltb 64 (assetCountIn s) || ltb 64 (entryCountIn s) || ltb 4000000000 (timeIn s)) ≡ true =
-        ap (λ (t : ℕ). ltb 64 (assetCountIn s) || ltb 64 (entryCountIn s) || ltb 4000000000 t) (sym (c .before .read32 .ensures)) ∙ c .if4 .taken in
+    ap (λ (t : ℕ). ltb 64 (assetCountIn s) || ltb 64 (entryCountIn s) || ltb 4000000000 t) (sym (c .before .read32 .ensures)) ∙ c .if4 .taken in
     rw (long, mark, version, few)
 
 cast-if5 : tie.Need-cast-if5
@@ -92,7 +92,7 @@ returns-5 c =
     let mark : markIn s ≡ true = not-false _ (c .before .before .before .before .before .before .before .if2 .left) in
     let version : eqb (versionIn s) 1 ≡ true = eq-eqb _ _ (sym (c .before .before .before .before .before .before .read16 .ensures) ∙ c .before .before .before .before .before .if3 .left) in
     let few : (ltb 64 (assetCountIn s) || ltb 64 (entryCountIn s) || ltb 4000000000 (timeIn s)) ≡ false =
-        ap (λ (t : ℕ). ltb 64 (assetCountIn s) || ltb 64 (entryCountIn s) || ltb 4000000000 t) (sym (c .before .before .read32 .ensures)) ∙ c .before .if4 .left in
+    ap (λ (t : ℕ). ltb 64 (assetCountIn s) || ltb 64 (entryCountIn s) || ltb 4000000000 t) (sym (c .before .before .read32 .ensures)) ∙ c .before .if4 .left in
     rw (long, mark, version, few, ne-eqb _ _ (c .if5 .taken))
 
 returns-6 : tie.Need-returns-6
@@ -103,7 +103,7 @@ returns-6 c =
     let mark : markIn s ≡ true = not-false _ (c .before .before .before .before .before .before .before .if2 .left) in
     let version : eqb (versionIn s) 1 ≡ true = eq-eqb _ _ (sym (c .before .before .before .before .before .before .read16 .ensures) ∙ c .before .before .before .before .before .if3 .left) in
     let few : (ltb 64 (assetCountIn s) || ltb 64 (entryCountIn s) || ltb 4000000000 (timeIn s)) ≡ false =
-        ap (λ (t : ℕ). ltb 64 (assetCountIn s) || ltb 64 (entryCountIn s) || ltb 4000000000 t) (sym (c .before .before .read32 .ensures)) ∙ c .before .if4 .left in
+    ap (λ (t : ℕ). ltb 64 (assetCountIn s) || ltb 64 (entryCountIn s) || ltb 4000000000 t) (sym (c .before .before .read32 .ensures)) ∙ c .before .if4 .left in
     rw (long, mark, version, few, eq-eqb _ _ (c .if5 .left))
 
 pub header-broken-spec : {M : Type 1} → statement M

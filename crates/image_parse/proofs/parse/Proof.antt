@@ -1,31 +1,31 @@
+use mathlib.Core.Path.{_≡_, sym, _∙_}
+use denote.Ref.{now}
+use borrow.Author.Tests.{ne-eqb}
+use Rattle.model.specs.Image.{headerBroken}
 use borrow.Author.Needs.{needs}
 use Rattle.image_parse.proofs.parse.Statement.{statement}
 use Rattle.image_parse.proofs.parse.Tie as tie
-use Rattle.image_parse.proofs.parse.Reads as reads
-use Rattle.image_parse.proofs.parse.Lts as lts
-use Rattle.book.proofs.blank_book.Reads as blank-book-reads
-use Rattle.image_parse.proofs.book_in.Reads as book-in-reads
-use Rattle.image_parse.proofs.header_broken.Reads as header-broken-reads
 
--- src/lib.rt:237:9
 header-broken-requires : tie.Need-header-broken-requires
 header-broken-requires c κs = search needs
 
--- src/lib.rt:239:40
 book-in-requires : tie.Need-book-in-requires
-book-in-requires c κs = search needs
+book-in-requires c κs = sym (c .before .header-broken .ensures) ∙ c .if1 .taken
 
--- src/lib.rt:239:9
 returns : tie.Need-returns
-returns c = ?
+returns c =
+    let z : headerBroken (now (c .before .before .before .before .args .s)) ≡ 0 = sym (c .before .before .header-broken .ensures) ∙ c .before .if1 .taken in
+    (sym z, rw z (c .book-in .ensures))
 
--- src/lib.rt:241:32
 blank-book-requires : tie.Need-blank-book-requires
 blank-book-requires c κs = search needs
 
--- src/lib.rt:234:1
 returns-2 : tie.Need-returns-2
-returns-2 c = ?
+returns-2 c =
+    let s = now (c .before .before .before .before .args .s) in (
+      c .before .before .header-broken .ensures,
+      rw (ne-eqb (headerBroken s) 0 (λ e. c .before .if1 .left (c .before .before .header-broken .ensures ∙ e))) (c .blank-book .ensures),
+    )
 
 pub parse-spec : {M : Type 1} → statement M
 parse-spec =
