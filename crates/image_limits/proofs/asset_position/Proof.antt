@@ -1,45 +1,63 @@
+use mathlib.Core.Path.{_≡_, refl, sym, ap, _∙_}
+use mathlib.Core.Bool.{Bool}
+use mathlib.Core.List.{List}
+use Prim.Native.Nat.{ℕ, _-_, _≤_}
+use native.Mathlib.Omega.{arith}
+use lib.Dec.{eqb}
+use borrow.Author.Tests.{eq-eqb, ne-eqb}
+use Rattle.laws.specs.Count.{first}
+use Rattle.laws.specs.Loops.{first-on, first-found}
+use Rattle.book.specs.declared.Asset.{Asset}
+use Rattle.model.specs.Book.{assetAt, assetPosition}
 use Rattle.image_limits.proofs.asset_position.Statement.{statement}
 use Rattle.image_limits.proofs.asset_position.Tie as tie
-use Rattle.image_limits.proofs.asset_position.Reads as reads
-use Rattle.image_limits.proofs.asset_position.Lts as lts
+
+-- what the search asks of a position
+abbrev numbered : List Asset → ℕ → ℕ → Bool
+numbered ats number k = eqb (assetAt ats k .number) number
 
 abbrev Inv-loop : tie.InvT-loop
-Inv-loop n number assets i₀ i = ?
+Inv-loop n number assets i₀ i = (i ≤ n) × (first (numbered assets number) i ≡ i)
 
 abbrev μ-loop : tie.MeasureT-loop
-μ-loop n number assets i₀ i = ?
+μ-loop n number assets i₀ i = n - i
 
--- src/lib.rt:23:5
 loop-holds : tie.Need-loop-holds Inv-loop μ-loop
-loop-holds c = ?
+unfolding first
+loop-holds c = (omega arith, refl)
 
--- src/lib.rt:24:17
 mul-a : tie.Need-mul-a Inv-loop μ-loop
-mul-a c = ?
+mul-a c = omega arith
 
--- src/lib.rt:24:17
 array-copy-out-a : tie.Need-array-copy-out-a Inv-loop μ-loop
-array-copy-out-a c = ?
+array-copy-out-a c = omega arith
 
--- src/lib.rt:26:13
 returns : tie.Need-returns Inv-loop μ-loop
-returns c = ?
+unfolding assetPosition
+returns c =
+    let a = c .before .before .before .before .before .args in
+    let l = c .before .before .before .before .loop in
+    sym (first-found (numbered (a .t1) (a .number)) (l .i) (a .n) (c .before .before .before .loop-test .taken) (l .inv .1) (eq-eqb _ _ (c .if1 .taken)))
 
--- src/lib.rt:28:13
 add-i : tie.Need-add-i Inv-loop μ-loop
-add-i c = ?
+add-i c = omega arith
 
--- src/lib.rt:23:5
 loop-less : tie.Need-loop-less Inv-loop μ-loop
-loop-less c = ?
+loop-less c = omega arith
 
--- src/lib.rt:23:5
 loop-again : tie.Need-loop-again Inv-loop μ-loop
-loop-again c = ?
+loop-again c =
+    let a = c .before .before .before .before .before .args in
+    let l = c .before .before .before .before .loop in
+    (omega arith, first-on (numbered (a .t1) (a .number)) (l .i) (l .inv .1) (ne-eqb _ _ (c .if1 .left)))
 
--- src/lib.rt:18:1
 returns-2 : tie.Need-returns-2 Inv-loop μ-loop
-returns-2 c = ?
+unfolding assetPosition
+returns-2 c =
+    let a = c .before .before .args in
+    let l = c .before .loop in
+    let e : l .i ≡ a .n = omega arith in
+    sym (ap (first (numbered (a .t1) (a .number))) (sym e) ∙ l .inv .1 ∙ e)
 
 pub asset-position-spec : {M : Type 1} → statement M
 asset-position-spec =
