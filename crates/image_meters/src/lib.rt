@@ -13,7 +13,7 @@ use book::Open;
 use book::Player;
 
 fn at_most_64(count: u8) -> usize
-    ensures { λ r. ⌜ r ≡ min count 64 ⌝ }
+    ensures { λ r. ⌜ (r ≡ min count 64) × (r ≤ 64) ⌝ }
 {
     let n = count as usize;
     if n < 64 { n } else { 64 }

@@ -1,64 +1,71 @@
+use mathlib.Core.Path.{_≡_, refl, sym, ap, ap₂, _∙_}
+use mathlib.Core.Bool.{Bool, cond}
+use mathlib.Core.List.{List}
+use Prim.Native.Nat.{ℕ, _+_, _*_, _-_, _≤_}
+use native.Mathlib.Omega.{arith}
+use Rattle.laws.specs.Loops.{sum-turn}
+use Rattle.book.specs.declared.Player.{Player}
+use Rattle.laws.specs.Count.{sum}
+use Rattle.model.specs.Book.{playerAt, opens, lasts, openSeconds}
+use borrow.Author.Needs.{needs}
 use Rattle.image_meters.proofs.open_seconds.Statement.{statement}
 use Rattle.image_meters.proofs.open_seconds.Tie as tie
-use Rattle.image_meters.proofs.open_seconds.Reads as reads
-use Rattle.image_meters.proofs.open_seconds.Lts as lts
-use Rattle.image_meters.proofs.counted.Reads as counted-reads
-use Rattle.image_meters.proofs.length_of.Reads as length-of-reads
-use Rattle.image_meters.proofs.opens_entry.Reads as opens-entry-reads
+
+abbrev spent : ℕ → List Player → ℕ → ℕ
+spent i ps k = cond (opens i (playerAt ps k .current)) (lasts (playerAt ps k .current)) 0
 
 abbrev Inv-loop : tie.InvT-loop
-Inv-loop i players seconds₀ p₀ seconds p = ?
+Inv-loop i players seconds₀ p₀ seconds p = (p ≤ 16) × (seconds ≤ 4294967295 * p) × (seconds ≡ sum (spent i players) p)
 
 abbrev μ-loop : tie.MeasureT-loop
-μ-loop i players seconds₀ p₀ seconds p = ?
+μ-loop i players seconds₀ p₀ seconds p = 16 - p
 
--- src/lib.rt:85:5
 loop-holds : tie.Need-loop-holds Inv-loop μ-loop
-loop-holds c = ?
+unfolding sum
+loop-holds c = (omega arith, omega arith, refl)
 
--- src/lib.rt:86:17
 mul-q : tie.Need-mul-q Inv-loop μ-loop
-mul-q c = ?
+mul-q c = omega arith
 
--- src/lib.rt:86:17
 array-copy-out-q : tie.Need-array-copy-out-q Inv-loop μ-loop
-array-copy-out-q c = ?
+array-copy-out-q c = omega arith
 
--- src/lib.rt:88:13
 opens-entry-requires : tie.Need-opens-entry-requires Inv-loop μ-loop
-opens-entry-requires c κs = ?
+opens-entry-requires c κs = search needs
 
--- src/lib.rt:89:28
 length-of-requires : tie.Need-length-of-requires Inv-loop μ-loop
-length-of-requires c κs = ?
+length-of-requires c κs = search needs
 
--- src/lib.rt:89:13
 counted-requires : tie.Need-counted-requires Inv-loop μ-loop
-counted-requires c κs = ?
+counted-requires c κs = search needs
 
--- src/lib.rt:90:30
 cast-seconds : tie.Need-cast-seconds Inv-loop μ-loop
-cast-seconds c = ?
+cast-seconds c = search needs
 
--- src/lib.rt:90:19
 add-seconds : tie.Need-add-seconds Inv-loop μ-loop
-add-seconds c = ?
+add-seconds c = omega arith
 
--- src/lib.rt:91:13
 add-p : tie.Need-add-p Inv-loop μ-loop
-add-p c = ?
+add-p c = omega arith
 
--- src/lib.rt:85:5
 loop-less : tie.Need-loop-less Inv-loop μ-loop
-loop-less c = ?
+loop-less c = omega arith
 
--- src/lib.rt:85:5
 loop-again : tie.Need-loop-again Inv-loop μ-loop
-loop-again c = ?
+loop-again c =
+    let a = c .before .before .before .before .before .before .before .args in
+    let l = c .before .before .before .before .before .before .loop in
+    let o = playerAt (a .t1) (l .p) .current in
+    let turn = c .counted .ensures ∙ ap₂ (λ (w : Bool) (d : ℕ). cond w d 0) (c .before .before .opens-entry .ensures) (c .before .length-of .ensures) in
+    (omega arith, omega arith, ap₂ _+_ (l .inv .2) turn ∙ sym (sum-turn (spent (a .i) (a .t1)) (l .p)))
 
--- src/lib.rt:80:1
 returns : tie.Need-returns Inv-loop μ-loop
-returns c = ?
+unfolding openSeconds
+returns c =
+    let a = c .before .before .args in
+    let l = c .before .loop in
+    let e : l .p ≡ 16 = omega arith in
+    l .inv .2 ∙ ap (sum (spent (a .i) (a .t1))) e
 
 pub open-seconds-spec : {M : Type 1} → statement M
 open-seconds-spec =
