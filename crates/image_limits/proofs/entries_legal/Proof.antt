@@ -1,60 +1,74 @@
+use mathlib.Core.Path.{_≡_, refl, sym, ap, ap₂, _∙_}
+use mathlib.Core.Bool.{Bool, _&&_}
+use mathlib.Core.List.{List}
+use Prim.Native.Nat.{ℕ, _-_, _≤_}
+use native.Mathlib.Omega.{arith}
+use Rattle.laws.specs.Count.{all}
+use Rattle.laws.specs.Loops.{all-turn}
+use lib.Dec.{ltb}
+use Rattle.book.specs.declared.Asset.{Asset}
+use Rattle.book.specs.declared.Entry.{Entry}
+use Rattle.model.specs.Book.{limitsAt, assetsIn, entriesIn, assetPosition, inBook, limitsLegal, entriesLegal}
+use borrow.Author.Needs.{needs}
 use Rattle.image_limits.proofs.entries_legal.Statement.{statement}
 use Rattle.image_limits.proofs.entries_legal.Tie as tie
-use Rattle.image_limits.proofs.entries_legal.Reads as reads
-use Rattle.image_limits.proofs.entries_legal.Lts as lts
-use Rattle.image_limits.proofs.asset_position.Reads as asset-position-reads
-use Rattle.image_limits.proofs.at_most_64.Reads as at-most-64-reads
-use Rattle.image_limits.proofs.limits_legal.Reads as limits-legal-reads
+
+abbrev judged : List Asset → ℕ → List Entry → ℕ → Bool
+judged ats n es i = limitsLegal (ltb (assetPosition ats n (limitsAt es i .asset)) n) (limitsAt es i)
 
 abbrev Inv-loop : tie.InvT-loop
-Inv-loop assets entries n m legal₀ i₀ legal i = ?
+Inv-loop assets entries n m legal₀ i₀ legal i = (i ≤ m) × (legal ≡ all (judged assets n entries) i)
 
 abbrev μ-loop : tie.MeasureT-loop
-μ-loop assets entries n m legal₀ i₀ legal i = ?
+μ-loop assets entries n m legal₀ i₀ legal i = m - i
 
--- src/lib.rt:104:9
 at-most-64-requires : tie.Need-at-most-64-requires Inv-loop μ-loop
-at-most-64-requires c κs = ?
+at-most-64-requires c κs = search needs
 
--- src/lib.rt:105:9
 at-most-64-requires-2 : tie.Need-at-most-64-requires-2 Inv-loop μ-loop
-at-most-64-requires-2 c κs = ?
+at-most-64-requires-2 c κs = search needs
 
--- src/lib.rt:108:5
 loop-holds : tie.Need-loop-holds Inv-loop μ-loop
-loop-holds c = ?
+unfolding all
+loop-holds c = (omega arith, refl)
 
--- src/lib.rt:109:17
 mul-e : tie.Need-mul-e Inv-loop μ-loop
-mul-e c = ?
+mul-e c = omega arith
 
--- src/lib.rt:109:17
 array-copy-out-e : tie.Need-array-copy-out-e Inv-loop μ-loop
-array-copy-out-e c = ?
+array-copy-out-e c = omega arith
 
--- src/lib.rt:111:30
 asset-position-requires : tie.Need-asset-position-requires Inv-loop μ-loop
-asset-position-requires c κs = ?
+asset-position-requires c κs = omega arith
 
--- src/lib.rt:111:13
 limits-legal-requires : tie.Need-limits-legal-requires Inv-loop μ-loop
-limits-legal-requires c κs = ?
+limits-legal-requires c κs = search needs
 
--- src/lib.rt:113:13
 add-i : tie.Need-add-i Inv-loop μ-loop
-add-i c = ?
+add-i c = omega arith
 
--- src/lib.rt:108:5
 loop-less : tie.Need-loop-less Inv-loop μ-loop
-loop-less c = ?
+loop-less c = omega arith
 
--- src/lib.rt:108:5
 loop-again : tie.Need-loop-again Inv-loop μ-loop
-loop-again c = ?
+loop-again c =
+    let b = c .before .before .before .before .before .before .before .before .before .before .args .b in
+    let n = c .before .before .before .before .before .before .before .at-most-64 .result in
+    let l = c .before .before .before .before .before .loop in
+    let known = ap (λ (k : ℕ). limitsLegal (ltb k n) (limitsAt (b .entries) (l .i))) (c .before .asset-position .ensures) in
+    (omega arith, ap₂ _&&_ (l .inv .1) (c .limits-legal .ensures ∙ known) ∙ sym (all-turn (judged (b .assets) n (b .entries)) (l .i)))
 
--- src/lib.rt:99:1
 returns : tie.Need-returns Inv-loop μ-loop
-returns c = ?
+unfolding entriesLegal assetsIn entriesIn inBook
+returns c =
+    let b = c .before .before .before .before .before .before .args .b in
+    let n = c .before .before .before .at-most-64 in
+    let m = c .before .before .at-most-642 in
+    let l = c .before .loop in
+    let e : l .i ≡ m .result = omega arith in
+    l .inv .1
+    ∙ ap (all (judged (b .assets) (n .result) (b .entries))) e
+    ∙ ap₂ (λ (x y : ℕ). all (judged (b .assets) x (b .entries)) y) (n .ensures .0) (m .ensures .0)
 
 pub entries-legal-spec : {M : Type 1} → statement M
 entries-legal-spec =

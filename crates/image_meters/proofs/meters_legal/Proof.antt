@@ -1,51 +1,64 @@
+use mathlib.Core.Path.{_≡_, refl, sym, ap, ap₂, _∙_}
+use mathlib.Core.Bool.{Bool, _&&_}
+use mathlib.Core.List.{List}
+use Prim.Native.Nat.{ℕ, _-_, _≤_}
+use native.Mathlib.Omega.{arith}
+use Rattle.laws.specs.Count.{all}
+use Rattle.laws.specs.Loops.{all-turn}
+use lib.ListN.{getD}
+use Rattle.book.specs.declared.Entry.{Entry}
+use Rattle.book.specs.declared.Player.{Player}
+use Rattle.book.specs.Blank.{noEntry}
+use Rattle.model.specs.Book.{entriesIn, entryMetersLegal, metersLegal}
+use borrow.Author.Needs.{needs}
 use Rattle.image_meters.proofs.meters_legal.Statement.{statement}
 use Rattle.image_meters.proofs.meters_legal.Tie as tie
-use Rattle.image_meters.proofs.meters_legal.Reads as reads
-use Rattle.image_meters.proofs.meters_legal.Lts as lts
-use Rattle.image_meters.proofs.at_most_64.Reads as at-most-64-reads
-use Rattle.image_meters.proofs.entry_meters_legal.Reads as entry-meters-legal-reads
+
+abbrev judged : ℕ → List Player → List Entry → ℕ → Bool
+judged time ps es i = entryMetersLegal time ps i (getD es i noEntry)
 
 abbrev Inv-loop : tie.InvT-loop
-Inv-loop time entries players n legal₀ i₀ legal i = ?
+Inv-loop time entries players n legal₀ i₀ legal i = (i ≤ n) × (legal ≡ all (judged time players entries) i)
 
 abbrev μ-loop : tie.MeasureT-loop
-μ-loop time entries players n legal₀ i₀ legal i = ?
+μ-loop time entries players n legal₀ i₀ legal i = n - i
 
--- src/lib.rt:128:9
 at-most-64-requires : tie.Need-at-most-64-requires Inv-loop μ-loop
-at-most-64-requires c κs = ?
+at-most-64-requires c κs = search needs
 
--- src/lib.rt:131:5
 loop-holds : tie.Need-loop-holds Inv-loop μ-loop
-loop-holds c = ?
+unfolding all
+loop-holds c = (omega arith, refl)
 
--- src/lib.rt:132:17
 mul-e : tie.Need-mul-e Inv-loop μ-loop
-mul-e c = ?
+mul-e c = omega arith
 
--- src/lib.rt:132:17
 array-copy-out-e : tie.Need-array-copy-out-e Inv-loop μ-loop
-array-copy-out-e c = ?
+array-copy-out-e c = omega arith
 
--- src/lib.rt:133:13
 entry-meters-legal-requires : tie.Need-entry-meters-legal-requires Inv-loop μ-loop
-entry-meters-legal-requires c κs = ?
+entry-meters-legal-requires c κs = search needs
 
--- src/lib.rt:135:13
 add-i : tie.Need-add-i Inv-loop μ-loop
-add-i c = ?
+add-i c = omega arith
 
--- src/lib.rt:131:5
 loop-less : tie.Need-loop-less Inv-loop μ-loop
-loop-less c = ?
+loop-less c = omega arith
 
--- src/lib.rt:131:5
 loop-again : tie.Need-loop-again Inv-loop μ-loop
-loop-again c = ?
+loop-again c =
+    let b = c .before .before .before .before .before .before .before .args .b in
+    let l = c .before .before .before .loop in
+    (omega arith, ap₂ _&&_ (l .inv .1) (c .entry-meters-legal .ensures) ∙ sym (all-turn (judged (b .time) (b .players) (b .entries)) (l .i)))
 
--- src/lib.rt:122:1
 returns : tie.Need-returns Inv-loop μ-loop
-returns c = ?
+unfolding metersLegal entriesIn
+returns c =
+    let b = c .before .before .before .before .before .args .b in
+    let n = c .before .before .at-most-64 in
+    let l = c .before .loop in
+    let e : l .i ≡ n .result = omega arith in
+    l .inv .1 ∙ ap (all (judged (b .time) (b .players) (b .entries))) (e ∙ n .ensures .0)
 
 pub meters-legal-spec : {M : Type 1} → statement M
 meters-legal-spec =

@@ -55,7 +55,6 @@ loop-again : tie.Need-loop-again Inv-loop μ-loop
 loop-again c =
     let a = c .before .before .before .before .before .before .before .args in
     let l = c .before .before .before .before .before .before .loop in
-    let o = playerAt (a .t1) (l .p) .current in
     let turn = c .counted .ensures ∙ ap₂ (λ (w : Bool) (d : ℕ). cond w d 0) (c .before .before .opens-entry .ensures) (c .before .length-of .ensures) in
     (omega arith, omega arith, ap₂ _+_ (l .inv .2) turn ∙ sym (sum-turn (spent (a .i) (a .t1)) (l .p)))
 

@@ -49,7 +49,6 @@ loop-again : tie.Need-loop-again Inv-loop μ-loop
 loop-again c =
     let a = c .before .before .before .before .before .before .args in
     let l = c .before .before .before .before .before .loop in
-    let o = playerAt (a .t1) (l .p) .current in
     let turn = c .one-if .ensures .0 ∙ ap one (c .before .opens-entry .ensures) in
     (omega arith, omega arith, ap₂ _+_ (l .inv .2) turn ∙ sym (sum-turn (counted (a .i) (a .t1)) (l .p)))
 

@@ -54,9 +54,10 @@ loop-again c =
     let b = c .before .before .before .before .before .before .before .before .before .before .args .b in
     let n = c .before .before .before .before .before .before .before .at-most-64 .result in
     let l = c .before .before .before .before .before .before .loop in
-    let entry = ap (λ (e : Entry). playerLegal (b .time) n e (playerAt (b .players) (l .i))) (c .before .entry-at .ensures) in
-    (omega arith,
-     ap₂ _&&_ (l .inv .1) (c .player-legal .ensures ∙ entry) ∙ sym (all-turn (judged (b .time) n (b .entries) (b .players)) (l .i)))
+    let entry = ap (λ (e : Entry). playerLegal (b .time) n e (playerAt (b .players) (l .i))) (c .before .entry-at .ensures) in (
+      omega arith,
+      ap₂ _&&_ (l .inv .1) (c .player-legal .ensures ∙ entry) ∙ sym (all-turn (judged (b .time) n (b .entries) (b .players)) (l .i)),
+    )
 
 returns : tie.Need-returns Inv-loop μ-loop
 unfolding playersLegal entriesIn
