@@ -45,11 +45,26 @@ def fresh_entry(rng, asset, around):
     return entry
 
 
+def edges(book, t):
+    """Times soon to come at which a rule turns: dates, ends of intervals, ends of open uses."""
+    found = [player.until for player in book.players if player.open]
+    for entry in book.entries:
+        if entry.has(START):
+            found += [entry.start - 1, entry.start]
+        if entry.has(END):
+            found += [entry.end, entry.end + 1]
+        if entry.started:
+            found += [entry.first + entry.interval - 1, entry.first + entry.interval]
+    return [time for time in found if book.time <= time <= book.time + 300] or [t]
+
+
 def next_event(rng, book, around):
     """An event for the book as it stands: mostly in line, at times a resend or one to be turned away."""
     index = rng.choice((0, 0, 1, 1, 2, 3, rng.randrange(16)))
     player = book.players[index]
     t = max(book.time, around) + rng.choice((0, 0, 0, 1, 1, 2, 3, 5, 10, 20, 30, 59, 60, 61))
+    if rng.random() < 0.25:
+        t = rng.choice(edges(book, t))
     chance = rng.random()
     if chance < 0.15 and player.number != 0:
         asset = player.asset if rng.random() < 0.8 else 1
@@ -68,5 +83,5 @@ def next_event(rng, book, around):
     if not book.entries or rng.random() < 0.06:
         return Event(index, number, BEGIN, rng.randint(0, 10), rng.randint(1, 5), t)
     wanted = rng.choice(book.entries)
-    askers = [a.number for a in book.assets if wanted.asset in (a.number, a.inherit)]
-    return Event(index, number, BEGIN, rng.choice(askers), wanted.kind, t)
+    askers = [a.number for a in book.assets if wanted.asset in (a.number, a.inherit) and (a.key or rng.random() < 0.2)]
+    return Event(index, number, BEGIN, rng.choice(askers or [wanted.asset]), wanted.kind, t)
