@@ -264,6 +264,8 @@ def players():
         case(26, f"operation {operation}", busy, f"player 0 operation {operation}")
     for kind in (0, 6, 255):
         case(26, f"kind {kind} in a begin", busy, f"player 3 kind {kind}")
+    for kind in (2, 3, 4, 5):
+        case(0, f"kind {kind} in a begin", busy, f"player 3 kind {kind}")
     case(26, "asset in a continue", busy, "player 2 asset 1")
     case(26, "asset 256 in a continue", busy, "player 2 asset 256")
     case(26, "kind in a continue", busy, "player 2 kind 1")
