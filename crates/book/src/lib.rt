@@ -100,6 +100,25 @@ pub struct Event {
     pub time: u32,
 }
 
+// What the bytes of an event record hold: an event, or the code that refuses them.
+pub enum Decoded {
+    Invalid(u8),
+    Valid(Event),
+}
+
+// What becomes of an event before the book is touched: turned away with a code, a resend, or taken.
+pub enum Gate {
+    Refuse(u8),
+    Resend,
+    Take,
+}
+
+// The answer to an event, and the book after it.
+pub struct Outcome {
+    pub answer: Answer,
+    pub book: Book,
+}
+
 pub fn blank_asset() -> Asset
     ensures { λ r. ⌜ r ≡ noAsset ⌝ }
 {

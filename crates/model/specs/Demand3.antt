@@ -1,0 +1,312 @@
+-- Demand 3 as a statement: what is claimed of every list of events run from a fresh legal book. It is proved in `Proof.Demand3`.
+-- Uses no file of proofs. The rules appear here only where document 01 says so ("with the ledger's figures for the meters");
+-- suitable, the order of the choice, and until are stated a second time, in words of their own.
+use mathlib.Core.Path.{_≡_}
+use mathlib.Core.Logic.{_↔_, _⊎_}
+use Prim.Native.Nat.{ℕ, zero, suc, _+_, _-_, _≤_, _<_}
+use mathlib.Core.Bool.{Bool, true, false, not, _&&_, _||_, cond}
+use mathlib.Core.List.{List, [], _∷_, map}
+use mathlib.Core.Option.{Option, none, some}
+use Rattle.laws.specs.Count.{one}
+use Rattle.book.specs.declared.Limits.{Limits}
+use Rattle.book.specs.declared.Meters.{Meters}
+use Rattle.book.specs.declared.Entry.{Entry}
+use Rattle.book.specs.declared.Answer.{Answer}
+use Rattle.book.specs.declared.Last.{Last}
+use Rattle.book.specs.declared.Open.{Open}
+use Rattle.book.specs.declared.Book.{Book}
+use Rattle.book.specs.declared.Event.{Event}
+use Rattle.book.specs.declared.Kind.{Kind}
+use Rattle.book.specs.declared.Kind.the-variants.{Play, Display, Execute, Print, Export}
+use Rattle.book.specs.declared.Request.{Request}
+use Rattle.book.specs.declared.Request.the-variants.{Begin, Continue, Stop}
+use Rattle.book.specs.declared.Decoded.{Decoded}
+use Rattle.book.specs.declared.Decoded.the-variants.{Invalid, Valid}
+use Rattle.book.specs.declared.Gate.{Gate}
+use Rattle.book.specs.declared.Gate.the-variants.{Refuse, Resend, Take}
+use Rattle.book.specs.Blank.{noLast, closed}
+use Rattle.model.specs.Book.{assetAt, limitsAt, metersAt, assetsIn, entriesIn, flagged}
+use Rattle.model.specs.Events.{kindNumber, where-flagged, Catalog, catalogOf, Choice, nobody, chosen, choose, grantUntil, done, refusal, noneGrantable, noted, gate, decoded, step, arrive, stepRecord}
+use Rattle.model.specs.Ledger.{Use, Taken, Account, empty, latestTaken, resent, calledTaken, timeOf, latest, isOpen, spentCount, spentTimed, spentSeconds, countsTimed, sumOf, earliest, spent, outOfDates, noteArrival}
+
+-- ## The run
+
+-- the book, and the account of the events and answers so far
+pub record State : Type 0 where
+  pub book : Book
+  pub account : Account
+
+-- "each later one the book that the one before it left"
+unfoldable pub advance : State → Decoded → State
+advance s d = record {
+  book = arrive (s .book) d .book;
+  account = noteArrival (s .account) d (arrive (s .book) d .answer);
+}
+
+unfoldable pub after : State → List Decoded → State
+after s [] = s
+after s (d ∷ ds) = after (advance s d) ds
+
+-- "The first gets a fresh book"
+abbrev pub starting : Book → State
+starting b = record { book = b; account = empty }
+
+unfoldable pub answers : Book → List Decoded → List Answer
+answers b [] = []
+answers b (d ∷ ds) = arrive b d .answer ∷ answers (arrive b d .book) ds
+
+unfoldable pub final : Book → List Decoded → Book
+final b [] = b
+final b (d ∷ ds) = final (arrive b d .book) ds
+
+-- the same for records of bytes
+unfoldable pub recordAnswers : Book → List (List ℕ) → List Answer
+recordAnswers b [] = []
+recordAnswers b (r ∷ rs) = stepRecord b r .answer ∷ recordAnswers (stepRecord b r .book) rs
+
+unfoldable pub recordFinal : Book → List (List ℕ) → Book
+recordFinal b [] = b
+recordFinal b (r ∷ rs) = recordFinal (stepRecord b r .book) rs
+
+-- ## a. The limits
+
+abbrev pub Every : (Use → Type 0) → List Use → Type 0
+Every P [] = Unit {0}
+Every P (u ∷ us) = P u × Every P us
+
+-- where the interval of an entry starts; t where it has no use
+abbrev pub startOr : ℕ → Option ℕ → ℕ
+startOr t none = t
+startOr t (some c) = c
+
+-- the second x lies in the entry's dates, and in its interval
+pub record Inside (l : Limits) (us : List Use) (i x : ℕ) : Type 0 where
+  pub start : flagged 4 l ≡ true → l .start ≤ x
+  pub end : flagged 8 l ≡ true → x ≤ l .end
+  pub from : flagged 16 l ≡ true → startOr 0 (earliest i us) ≤ x
+  pub until : flagged 16 l ≡ true → x < startOr 0 (earliest i us) + l .interval
+
+-- "Every second in a use's [begin, until) must lie in its entry's dates and interval; a momentary use has its begin there."
+pub record UseInside (l : Limits) (us : List Use) (u : Use) : Type 0 where
+  pub begin : Inside l us (u .entry) (u .begin)
+  pub seconds : (x : ℕ) → u .begin ≤ x → x < u .until → Inside l us (u .entry) x
+
+-- "spent count, spent timed and spent seconds are at most their flagged limits"
+pub record Limited (T : ℕ) (us : List Use) (es : List Entry) : Type 0 where
+  pub count : (i : ℕ) → flagged 1 (limitsAt es i) ≡ true → spentCount us i ≤ limitsAt es i .count
+  pub timed : (i : ℕ) → flagged 2 (limitsAt es i) ≡ true → spentTimed T us i (limitsAt es i) ≤ limitsAt es i .timed
+  pub seconds : (i : ℕ) → flagged 32 (limitsAt es i) ≡ true → spentSeconds us i ≤ limitsAt es i .accumulated
+  pub inside : Every (λ u. UseInside (limitsAt es (u .entry)) us u) us
+
+-- ## b. Which begins reach the choice
+
+-- "it is no resend, is taken"
+pub record Takes (s : State) (e : Event) : Type 0 where
+  pub new : resent (s .account) e ≡ false
+  pub taken : calledTaken (step (s .book) e .answer .code) ≡ true
+
+-- "and is answered none of 10, 11 and 12"
+pub record PastChecks (a : Answer) : Type 0 where
+  pub not-10 : a .code ≡ 10 → ⊥
+  pub not-11 : a .code ≡ 11 → ⊥
+  pub not-12 : a .code ≡ 12 → ⊥
+
+-- "its player has nothing open at t"
+abbrev pub NothingOpen : ℕ → ℕ → List Use → Type 0
+NothingOpen t p us = Every (λ u. u .player ≡ p → isOpen t u ≡ false) us
+
+-- "the asset is in the book with key 1"
+pub record InBookWithKey (b : Book) (asset : ℕ) : Type 0 where
+  pub position : ℕ
+  pub below : position < assetsIn b
+  pub number : assetAt (b .assets) position .number ≡ asset
+  pub key : assetAt (b .assets) position .key ≡ 1
+
+-- An entry of asset `owner` serves `asset`: its own, or that of the parent in the book from which it inherits. There is no third case:
+-- nothing through an illegal asset or one with a key, nothing through two levels, nothing through an inherit that is not in the book.
+pub data Serves (b : Book) (asset owner : ℕ) : Type 0 where
+  own : owner ≡ asset → Serves b asset owner
+  inherited : (x y : ℕ) → x < assetsIn b → y < assetsIn b
+      → assetAt (b .assets) x .number ≡ asset → assetAt (b .assets) x .inherit ≡ assetAt (b .assets) y .number
+      → assetAt (b .assets) y .key ≡ 0 → assetAt (b .assets) y .inherit ≡ 0 → owner ≡ assetAt (b .assets) y .number
+      → Serves b asset owner
+
+pub record Suits (b : Book) (asset kind i : ℕ) : Type 0 where
+  pub below : i < entriesIn b
+  pub kind-is : limitsAt (b .entries) i .kind ≡ kind
+  pub serves : Serves b asset (limitsAt (b .entries) i .asset)
+
+-- "which by the ledger and the book's assets and entries means: its player has nothing open at t, the asset is in the book with key 1,
+-- and some entry is suitable"
+pub record MayChoose (s : State) (e : Event) (asset kind : ℕ) : Type 0 where
+  pub idle : NothingOpen (e .time) (e .player) (s .account .uses)
+  pub asset-in : InBookWithKey (s .book) asset
+  pub entry : ℕ
+  pub suits : Suits (s .book) asset kind entry
+
+-- ## c. What such a begin is answered
+
+-- by the ledger, at T
+abbrev pub outOrSpent : ℕ → State → ℕ → Bool
+outOrSpent T s i = outOfDates T (limitsAt (s .book .entries) i) || spent T (s .account .uses) i (limitsAt (s .book .entries) i)
+
+-- "every suitable entry is out of its dates or spent"
+abbrev pub NoneLeft : State → Event → ℕ → ℕ → Type 0
+NoneLeft s e asset kind = (i : ℕ) → Suits (s .book) asset kind i → outOrSpent (e .time) s i ≡ true
+
+-- whether the entry's interval has started, by the ledger
+abbrev pub isSome : Option ℕ → Bool
+isSome none = false
+isSome (some c) = true
+
+abbrev pub running : List Use → ℕ → Limits → Bool
+running us i l = flagged 16 l && isSome (earliest i us)
+
+-- (i) and (ii) of two entries
+abbrev pub SameFlags : Limits → Limits → Type 0
+SameFlags x y = x .flags ≡ 0 ↔ y .flags ≡ 0
+
+abbrev pub EarlierEnd : Limits → Limits → Type 0
+EarlierEnd x y = (flagged 8 x ≡ true) × ((flagged 8 y ≡ false) ⊎ (x .end < y .end))
+
+abbrev pub SameEnd : Limits → Limits → Type 0
+SameEnd x y = ((flagged 8 x ≡ false) × (flagged 8 y ≡ false)) ⊎ ((flagged 8 x ≡ true) × (flagged 8 y ≡ true) × (x .end ≡ y .end))
+
+-- Entry i goes before entry j "by: (i) no flags; (ii) earlier end, none last; (iii) interval already started; (iv) own before inherited;
+-- (v) lower position"
+pub data Precedes (es : List Entry) (us : List Use) (asset i j : ℕ) : Type 0 where
+  by-flags : limitsAt es i .flags ≡ 0 → (limitsAt es j .flags ≡ 0 → ⊥) → Precedes es us asset i j
+  by-end : SameFlags (limitsAt es i) (limitsAt es j) → EarlierEnd (limitsAt es i) (limitsAt es j) → Precedes es us asset i j
+  by-start : SameFlags (limitsAt es i) (limitsAt es j) → SameEnd (limitsAt es i) (limitsAt es j)
+      → running us i (limitsAt es i) ≡ true → running us j (limitsAt es j) ≡ false → Precedes es us asset i j
+  by-owner : SameFlags (limitsAt es i) (limitsAt es j) → SameEnd (limitsAt es i) (limitsAt es j)
+      → running us i (limitsAt es i) ≡ running us j (limitsAt es j)
+      → limitsAt es i .asset ≡ asset → (limitsAt es j .asset ≡ asset → ⊥) → Precedes es us asset i j
+  by-position : SameFlags (limitsAt es i) (limitsAt es j) → SameEnd (limitsAt es i) (limitsAt es j)
+      → running us i (limitsAt es i) ≡ running us j (limitsAt es j)
+      → (limitsAt es i .asset ≡ asset ↔ limitsAt es j .asset ≡ asset) → i < j → Precedes es us asset i j
+
+-- the times of which until is the least: "t + 60, end + 1, first + interval (first is t if not started), t + unused seconds",
+-- of a continue "old until + unused seconds"
+pub data Bound (t from : ℕ) (l : Limits) (us : List Use) (i x : ℕ) : Type 0 where
+  near : x ≡ t + 60 → Bound t from l us i x
+  last : flagged 8 l ≡ true → x ≡ l .end + 1 → Bound t from l us i x
+  span : flagged 16 l ≡ true → x ≡ startOr t (earliest i us) + l .interval → Bound t from l us i x
+  unused : flagged 32 l ≡ true → x ≡ from + (l .accumulated - spentSeconds us i) → Bound t from l us i x
+
+pub record IsLeast (t from : ℕ) (l : Limits) (us : List Use) (i u : ℕ) : Type 0 where
+  pub listed : Bound t from l us i u
+  pub least : (x : ℕ) → Bound t from l us i x → u ≤ x
+
+-- "Print and export are momentary"; "Momentary: until = t"
+abbrev pub UntilIs : Kind → ℕ → Limits → List Use → ℕ → ℕ → Type 0
+UntilIs Play t l us i u = IsLeast t t l us i u
+UntilIs Display t l us i u = IsLeast t t l us i u
+UntilIs Execute t l us i u = IsLeast t t l us i u
+UntilIs Print t l us i u = u ≡ t
+UntilIs Export t l us i u = u ≡ t
+
+-- "else is granted, with the entry and until that document 01 fixes", in words
+pub record Granted (s : State) (e : Event) (kind : Kind) (asset : ℕ) (a : Answer) : Type 0 where
+  pub code : a .code ≡ 0
+  pub suits : Suits (s .book) asset (kindNumber kind) (a .entry)
+  pub left : outOrSpent (e .time) s (a .entry) ≡ false
+  pub first : (j : ℕ) → Suits (s .book) asset (kindNumber kind) j → outOrSpent (e .time) s j ≡ false → (j ≡ a .entry → ⊥)
+      → Precedes (s .book .entries) (s .account .uses) asset (a .entry) j
+  pub until : UntilIs kind (e .time) (limitsAt (s .book .entries) (a .entry)) (s .account .uses) (a .entry) (a .until)
+
+-- "the ledger's figures for the meters"; `at` is the time at which each player's uses are judged
+unfoldable pub figures : (ℕ → ℕ) → List Use → ℕ → Limits → Meters
+figures at us i l = record {
+  count = where-flagged (flagged 1 l) (spentCount us i);
+  timed = where-flagged (flagged 2 l) (sumOf (countsTimed at (l .timer) i) us);
+  first = where-flagged (flagged 16 l) (startOr 0 (earliest i us));
+  seconds = where-flagged (flagged 32 l) (spentSeconds us i);
+  started = one (running us i l);
+}
+
+unfoldable pub filledFrom : ℕ → List Use → ℕ → List Entry → List Entry
+filledFrom T us i [] = []
+filledFrom T us i (x ∷ xs) = record { limits = x .limits; meters = figures (λ p. T) us i (x .limits) } ∷ filledFrom T us (suc i) xs
+
+-- the entries with the ledger's figures for their meters
+abbrev pub filled : ℕ → List Use → List Entry → List Entry
+filled T us es = filledFrom T us 0 es
+
+abbrev pub chosenAnswer : ℕ → List Entry → Choice → Answer
+chosenAnswer t es nobody = refusal noneGrantable
+chosenAnswer t es (chosen i) = record { code = 0; entry = i; until = grantUntil t (limitsAt es i) (metersAt es i) }
+
+-- A begin that reaches the choice "is answered "none grantable" exactly when by the ledger every suitable entry is out of its dates or spent,
+-- and else is granted": once in words, and once by the rules' own choice "judged by the ledger before it, with T = its t and the
+-- ledger's figures for the meters".
+pub record Chosen (s : State) (e : Event) (kind : Kind) (asset : ℕ) : Type 0 where
+  pub none : step (s .book) e .answer .code ≡ 13 ↔ NoneLeft s e asset (kindNumber kind)
+  pub granted : (step (s .book) e .answer .code ≡ 13 → ⊥) → Granted s e kind asset (step (s .book) e .answer)
+  pub answer : step (s .book) e .answer ≡
+      chosenAnswer (e .time) (filled (e .time) (s .account .uses) (s .book .entries))
+      (choose (catalogOf (s .book)) (filled (e .time) (s .account .uses) (s .book .entries)) (e .time) asset (kindNumber kind))
+
+pub record Begins (s : State) (e : Event) (kind : Kind) (asset : ℕ) : Type 0 where
+  pub reaches : PastChecks (step (s .book) e .answer) ↔ MayChoose s e asset (kindNumber kind)
+  pub choice : PastChecks (step (s .book) e .answer) → Chosen s e kind asset
+
+-- ## d. Resends struck out
+
+abbrev pub isResend : Account → Decoded → Bool
+isResend a (Invalid code) = false
+isResend a (Valid e) = resent a e
+
+-- "The list with every resend struck out", and the answers to what is left
+unfoldable pub struck : State → List Decoded → List Decoded
+struck s [] = []
+struck s (d ∷ ds) = cond (isResend (s .account) d) (struck (advance s d) ds) (d ∷ struck (advance s d) ds)
+
+unfoldable pub kept : State → List Decoded → List Answer
+kept s [] = []
+kept s (d ∷ ds) = cond (isResend (s .account) d) (kept (advance s d) ds) (arrive (s .book) d .answer ∷ kept (advance s d) ds)
+
+-- ## e. Every answer by the ledger alone
+
+-- what the player has open at T, and its latest taken event, as the book would store them
+abbrev pub heldBy : ℕ → Option Use → Open
+heldBy T none = closed
+heldBy T (some u) = cond (isOpen T u) (record { on = 1; entry = u .entry; begin = u .begin; until = u .until }) closed
+
+abbrev pub heldIn : ℕ → ℕ → List Use → Open
+heldIn T p us = heldBy T (latest p us)
+
+abbrev pub lastBy : Option Taken → Last
+lastBy none = noLast
+lastBy (some x) = noted (x .event) (x .answer)
+
+abbrev pub lastOf : ℕ → List Taken → Last
+lastOf p taken = lastBy (latestTaken p taken)
+
+unfoldable pub predictBy : Gate → Book → Account → Event → Answer
+predictBy (Refuse code) b a e = refusal code
+predictBy Resend b a e = lastOf (e .player) (a .taken) .answer
+predictBy Take b a e =
+    done (e .request) (catalogOf b) (filled (e .time) (a .uses) (b .entries)) (heldIn (e .time) (e .player) (a .uses)) (e .time) .answer
+
+-- the answer by the account; of b only what no event changes is read: assets, limits, counts
+unfoldable pub predict : Book → Account → Decoded → Answer
+predict b a (Invalid code) = refusal code
+predict b a (Valid e) = predictBy (gate (timeOf (a .taken)) (lastOf (e .player) (a .taken)) e) b a e
+
+-- the answers of a machine that holds no book: b is the fresh book throughout
+unfoldable pub predicted : Book → Account → List Decoded → List Answer
+predicted b a [] = []
+predicted b a (d ∷ ds) = predict b a d ∷ predicted b (noteArrival a d (predict b a d)) ds
+
+-- ## The demand, of a fresh book
+
+pub record Demand3 (b : Book) : Type 0 where
+  pub time : (ds : List Decoded) → after (starting b) ds .book .time ≡ timeOf (after (starting b) ds .account .taken)
+  pub limits : (ds : List Decoded) → Limited (timeOf (after (starting b) ds .account .taken)) (after (starting b) ds .account .uses) (b .entries)
+  pub begins : (ds : List Decoded) (e : Event) (kind : Kind) (asset : ℕ) → e .request ≡ Begin kind asset → Takes (after (starting b) ds) e
+      → Begins (after (starting b) ds) e kind asset
+  pub struckAnswers : (ds : List Decoded) → answers b (struck (starting b) ds) ≡ kept (starting b) ds
+  pub struckBook : (ds : List Decoded) → final b (struck (starting b) ds) ≡ final b ds
+  pub predictable : (ds : List Decoded) → answers b ds ≡ predicted b empty ds
+  pub records : (rs : List (List ℕ)) → (recordAnswers b rs ≡ answers b (map decoded rs)) × (recordFinal b rs ≡ final b (map decoded rs))

@@ -1,0 +1,164 @@
+-- The ledger: document 01, section "The ledger". It is built from events and answers alone; nothing here looks at a book's meters or players.
+-- Written from that section, apart from the rules of events. Quotations are that document's.
+use Prim.Native.Nat.{ℕ, zero, suc, _+_, _-_, min}
+use mathlib.Core.Bool.{Bool, true, false, not, _&&_, _||_, cond}
+use mathlib.Core.List.{List, [], _∷_}
+use mathlib.Core.Option.{Option, none, some}
+use lib.Dec.{leb, ltb, eqb}
+use Rattle.laws.specs.Count.{one}
+use Rattle.book.specs.declared.Limits.{Limits}
+use Rattle.book.specs.declared.Answer.{Answer}
+use Rattle.book.specs.declared.Event.{Event}
+use Rattle.book.specs.declared.Request.{Request}
+use Rattle.book.specs.declared.Request.the-variants.{Begin, Continue, Stop}
+use Rattle.book.specs.declared.Decoded.{Decoded}
+use Rattle.book.specs.declared.Decoded.the-variants.{Invalid, Valid}
+use Rattle.model.specs.Book.{flagged}
+use Rattle.model.specs.Events.{operationNumber, requestAsset, requestKind}
+
+-- "The ledger is a list of uses (entry, player, begin, until, stopped or not)", newest first
+pub record Use : Type 0 where
+  pub entry : ℕ
+  pub player : ℕ
+  pub begin : ℕ
+  pub until : ℕ
+  pub stopped : Bool
+
+-- an event that was taken, with its answer
+pub record Taken : Type 0 where
+  pub event : Event
+  pub answer : Answer
+
+-- what events and answers leave behind: the uses, and the events taken, newest first
+pub record Account : Type 0 where
+  pub uses : List Use
+  pub taken : List Taken
+
+abbrev pub empty : Account
+empty = record { uses = []; taken = [] }
+
+-- ## Resends and taken events
+
+unfoldable pub latestTaken : ℕ → List Taken → Option Taken
+latestTaken p [] = none
+latestTaken p (x ∷ xs) = cond (eqb (x .event .player) p) (some x) (latestTaken p xs)
+
+abbrev pub repeats : Event → Option Taken → Bool
+repeats e none = false
+repeats e (some x) =
+    eqb (e .number) (x .event .number)
+    && eqb (operationNumber (e .request)) (operationNumber (x .event .request))
+    && eqb (requestAsset (e .request)) (requestAsset (x .event .request))
+    && eqb (requestKind (e .request)) (requestKind (x .event .request))
+
+-- "A resend has the number, operation, asset and kind of its player's latest taken event"
+unfoldable pub resent : Account → Event → Bool
+resent a e = repeats e (latestTaken (e .player) (a .taken))
+
+-- "its answer is 0 or one that the table or a request calls taken"
+unfoldable pub calledTaken : ℕ → Bool
+calledTaken code = eqb code 0 || eqb code 10 || eqb code 11 || eqb code 12 || eqb code 13 || eqb code 14 || eqb code 15
+
+-- "T = the t of the latest taken one (0 if none)"
+unfoldable pub timeOf : List Taken → ℕ
+timeOf [] = 0
+timeOf (x ∷ xs) = x .event .time
+
+-- ## The uses
+
+-- the player's latest use
+unfoldable pub latest : ℕ → List Use → Option Use
+latest p [] = none
+latest p (u ∷ us) = cond (eqb (u .player) p) (some u) (latest p us)
+
+-- the uses with f of the player's latest use in its place
+unfoldable pub revise : ℕ → (Use → Use) → List Use → List Use
+revise p f [] = []
+revise p f (u ∷ us) = cond (eqb (u .player) p) (f u ∷ us) (u ∷ revise p f us)
+
+abbrev pub goOn : ℕ → Use → Use
+goOn v u = record { entry = u .entry; player = u .player; begin = u .begin; until = v; stopped = u .stopped }
+
+abbrev pub stopAt : ℕ → Use → Use
+stopAt t u = record { entry = u .entry; player = u .player; begin = u .begin; until = t; stopped = true }
+
+-- "A granted begin adds a use; a granted continue replaces until on that player's latest use; a granted stop makes until its time and marks it stopped."
+unfoldable pub posted : Request → Event → Answer → List Use → List Use
+posted (Begin kind asset) e r us =
+    record { entry = r .entry; player = e .player; begin = e .time; until = r .until; stopped = false } ∷ us
+posted Continue e r us = revise (e .player) (goOn (r .until)) us
+posted Stop e r us = revise (e .player) (stopAt (e .time)) us
+
+-- "a player's event is taken if it is no resend and its answer is ..."; "Resends and answers 1 to 6 add nothing."
+unfoldable pub note : Account → Event → Answer → Account
+note a e r =
+    cond (resent a e || not (calledTaken (r .code))) a
+    (record {
+      uses = cond (eqb (r .code) 0) (posted (e .request) e r (a .uses)) (a .uses);
+      taken = record { event = e; answer = r } ∷ a .taken;
+    })
+
+-- bytes that are no event add nothing
+unfoldable pub noteArrival : Account → Decoded → Answer → Account
+noteArrival a (Invalid code) r = a
+noteArrival a (Valid e) r = note a e r
+
+-- ## The figures of an entry at a time T
+
+-- "At time T a use is open if not stopped and until > T."
+unfoldable pub isOpen : ℕ → Use → Bool
+isOpen T u = not (u .stopped) && ltb T (u .until)
+
+abbrev pub ran : Use → ℕ
+ran u = u .until - u .begin
+
+unfoldable pub sumOf : (Use → ℕ) → List Use → ℕ
+sumOf w [] = 0
+sumOf w (u ∷ us) = w u + sumOf w us
+
+abbrev pub counts : ℕ → Use → ℕ
+counts i u = one (eqb (u .entry) i)
+
+-- `at` is the time at which each player's uses are judged: T of every player in the statements
+abbrev pub countsTimed : (ℕ → ℕ) → ℕ → ℕ → Use → ℕ
+countsTimed at timer i u = one (eqb (u .entry) i && (isOpen (at (u .player)) u || leb timer (ran u)))
+
+abbrev pub countsSeconds : ℕ → Use → ℕ
+countsSeconds i u = cond (eqb (u .entry) i) (ran u) 0
+
+-- "Spent count is all uses of the entry"
+abbrev pub spentCount : List Use → ℕ → ℕ
+spentCount us i = sumOf (counts i) us
+
+-- "spent timed is the uses that are open or ran until − begin ≥ timer"
+abbrev pub spentTimed : ℕ → List Use → ℕ → Limits → ℕ
+spentTimed T us i l = sumOf (countsTimed (λ p. T) (l .timer) i) us
+
+-- "spent seconds is the sum of until − begin"
+abbrev pub spentSeconds : List Use → ℕ → ℕ
+spentSeconds us i = sumOf (countsSeconds i) us
+
+abbrev pub sooner : ℕ → Option ℕ → ℕ
+sooner b none = b
+sooner b (some c) = min b c
+
+-- "the interval starts at the earliest begin"
+unfoldable pub earliest : ℕ → List Use → Option ℕ
+earliest i [] = none
+earliest i (u ∷ us) = cond (eqb (u .entry) i) (some (sooner (u .begin) (earliest i us))) (earliest i us)
+
+abbrev pub over : ℕ → ℕ → Option ℕ → Bool
+over T interval none = false
+over T interval (some c) = leb (c + interval) T
+
+-- "An entry is *spent* at T if, of what is flagged, spent count, spent timed or spent seconds has reached its limit, or T ≥ interval start + interval."
+unfoldable pub spent : ℕ → List Use → ℕ → Limits → Bool
+spent T us i l =
+    flagged 1 l && leb (l .count) (spentCount us i)
+    || flagged 2 l && leb (l .timed) (spentTimed T us i l)
+    || flagged 32 l && leb (l .accumulated) (spentSeconds us i)
+    || flagged 16 l && over T (l .interval) (earliest i us)
+
+-- "It is *out of its dates* at T if, where flagged, T < start or T > end."
+unfoldable pub outOfDates : ℕ → Limits → Bool
+outOfDates T l = flagged 4 l && ltb T (l .start) || flagged 8 l && ltb (l .end) T
