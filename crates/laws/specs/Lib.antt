@@ -1,3 +1,4 @@
+pub mod Buffer
 pub mod Count
 pub mod Fields
 pub mod FieldLaws
