@@ -3,3 +3,4 @@ pub mod Count
 pub mod Fields
 pub mod FieldLaws
 pub mod TableLaws
+pub mod Loops
