@@ -23,7 +23,7 @@ fn one_turn(held: Book, image: &[u8]) -> Turn {
 }
 
 fn turns(image: &[u8]) -> Turn {
-    let mut left: u32 = 2000;
+    let mut left: u32 = 20000;
     let mut t = Turn {
         code: 0,
         length: 0,
