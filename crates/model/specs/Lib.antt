@@ -3,3 +3,4 @@ pub mod Image
 pub mod Events
 pub mod Ledger
 pub mod Demand3
+pub mod Run
