@@ -30,7 +30,7 @@ def make_day(bench, name, kind, events, entries=None):
 
 
 def run_once(program, folder, output):
-    """(seconds by the clock, seconds of the processor, most memory in KB) of one run over the folder's day."""
+    """Seconds by the clock and seconds of the processor of one run over the folder's day."""
     with open(folder / "events.bin", "rb") as events, open(output, "wb") as out:
         began = time.perf_counter()
         child = subprocess.Popen([program], cwd=folder, stdin=events, stdout=out)
@@ -39,7 +39,7 @@ def run_once(program, folder, output):
         child.returncode = os.waitstatus_to_exitcode(status)
     if child.returncode != 0:
         sys.exit(f"{program} ended with {child.returncode} in {folder}")
-    return took, usage.ru_utime + usage.ru_stime, usage.ru_maxrss
+    return took, usage.ru_utime + usage.ru_stime
 
 
 def same_answers(program, baseline, folder):
@@ -63,7 +63,7 @@ def first_difference(folder, ours, theirs):
 
 
 def interleaved(programs, folder):
-    """For each program the median clock time, processor time and memory."""
+    """For each program the median clock time and processor time."""
     found = [[] for _ in programs]
     for _ in range(RUNS):
         for program, results in zip(programs, found):
@@ -74,14 +74,13 @@ def interleaved(programs, folder):
 def row(name, events, ours, theirs):
     per = 1e9 / events
     print(f"{name:>14} {events:>10} {ours[0] * per:>9.1f} {theirs[0] * per:>9.1f} {ours[0] / theirs[0]:>6.2f}"
-          f" {ours[1] * per:>9.1f} {theirs[1] * per:>9.1f} {ours[1] / max(theirs[1], 1e-9):>6.2f}"
-          f" {ours[2]:>8.0f} {theirs[2]:>8.0f}", flush=True)
+          f" {ours[1] * per:>9.1f} {theirs[1] * per:>9.1f} {ours[1] / theirs[1]:>6.2f}", flush=True)
 
 
 def heading(text):
     print(f"\n{text}")
     print(f"{'day':>14} {'events':>10} {'clock ns':>9} {'baseline':>9} {'ratio':>6}"
-          f" {'cpu ns':>9} {'baseline':>9} {'ratio':>6} {'KB':>8} {'baseline':>8}")
+          f" {'cpu ns':>9} {'baseline':>9} {'ratio':>6}")
 
 
 def sqlite_figure(bench, baseline, kind):
