@@ -28,7 +28,7 @@ def fresh_book(rng, around):
     book = Book()
     numbers = rng.sample(range(1, 9), rng.randint(1, 5))
     for number in numbers:
-        key = rng.choice((1, 1, 1, 1, 0))
+        key = rng.choice((1, 1, 1, 1, 0)) if book.assets or rng.random() < 0.1 else 1
         inherit = rng.choice((0, rng.choice(numbers), 9, 9))
         book.assets.append(Asset(number, inherit, key))
     if rng.random() < 0.8:
