@@ -10,11 +10,17 @@ event's number, the line expected and the line got are printed, and the day's fi
     python3 oracle/fuzz.py --day SEED [--program PATH]
 
 runs one day again.
+
+    python3 oracle/fuzz.py --waiting SEED [--program PATH]
+
+plays one day as a player would that waits for each answer before it asks again: every line must come while the
+input is still open.
 """
 
 import argparse
 import os
 import random
+import select
 import subprocess
 import sys
 import tempfile
@@ -56,6 +62,29 @@ def ask(program, folder, image, events, pieces):
     got = child.stdout.read()
     child.wait()
     return got
+
+
+def wait_for_each(program, folder, seed):
+    """None if each record is answered before the next one is sent, else what differs."""
+    image, events, expected = days.make_day(seed, 200, "crowd")
+    (Path(folder) / "rights.rbk").write_bytes(image)
+    child = subprocess.Popen([program], cwd=folder, stdin=subprocess.PIPE, stdout=subprocess.PIPE, bufsize=0)
+    try:
+        for number, wanted in enumerate(expected.splitlines(keepends=True)):
+            record = events[13 * number:13 * number + 13]
+            child.stdin.write(record)
+            if len(record) < 13:
+                child.stdin.close()
+            if not select.select([child.stdout], [], [], 5)[0]:
+                return f"day {seed}, event {number + 1}: no answer within 5 seconds while the input is open"
+            line = child.stdout.read(100).decode()
+            if line != wanted:
+                return f"day {seed}, event {number + 1}: expected {wanted!r}, got {line!r}"
+    finally:
+        child.stdin.close()
+        child.stdout.close()
+        child.wait(10)
+    return None
 
 
 def try_day(program, folder, seed):
@@ -127,14 +156,20 @@ def main():
     words.add_argument("--program", default=str(ROOT / "target" / "bin" / "run"))
     words.add_argument("--jobs", type=int, choices=(1, 2), default=1)
     words.add_argument("--day", type=int)
+    words.add_argument("--waiting", type=int)
     told = words.parse_args()
     program = os.path.abspath(told.program)
     if not os.access(program, os.X_OK):
         sys.exit(f"no program at {program}")
-    if told.day is not None:
+    if told.day is not None or told.waiting is not None:
         with tempfile.TemporaryDirectory() as folder:
-            events, wrong = try_day(program, folder, told.day)
-        sys.exit(wrong) if wrong else print(f"day {told.day}: {events} events, no difference")
+            if told.day is not None:
+                wrong = try_day(program, folder, told.day)[1]
+            else:
+                wrong = wait_for_each(program, folder, told.waiting)
+        if wrong:
+            sys.exit(wrong)
+        print("no difference")
         return
     if told.events is None:
         words.error("say how many events")
