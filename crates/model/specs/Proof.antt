@@ -11,3 +11,4 @@ pub mod Until
 pub mod Run
 pub mod Demand3
 pub mod Afternoon
+pub mod Guards

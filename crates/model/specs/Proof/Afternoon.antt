@@ -22,7 +22,7 @@ use Rattle.model.specs.Events.{sameRequest, sameNumber, inLine, timely, 
 use Rattle.model.specs.Demand3.{answers, Demand3}
 use Rattle.model.specs.Proof.Demand3.{demand3}
 
-abbrev asset : ℕ → ℕ → ℕ → Asset
+abbrev pub asset : ℕ → ℕ → ℕ → Asset
 asset number key inherit = record { number = number; inherit = inherit; key = key }
 
 -- an entry of rights object 1, with flags, count, timed count, timer and accumulated
@@ -56,7 +56,7 @@ start = record {
   players = replicate 16 noPlayer;
 }
 
-abbrev event : ℕ → ℕ → Request → ℕ → Decoded
+abbrev pub event : ℕ → ℕ → Request → ℕ → Decoded
 event player number request time = Valid (record { player = player; number = number; request = request; time = time })
 
 abbrev pub events : List Decoded
@@ -80,7 +80,7 @@ events =
     ∷ event 7 1 (Begin Display 1) 1080
     ∷ []
 
-abbrev granted : ℕ → ℕ → Answer
+abbrev pub granted : ℕ → ℕ → Answer
 granted entry until = record { code = 0; entry = entry; until = until }
 
 abbrev pub expected : List Answer
