@@ -1,3 +1,5 @@
+pub mod Afternoon
+pub mod Guards
 pub mod Facts
 pub mod Sums
 pub mod Figures
@@ -10,5 +12,4 @@ pub mod Choice
 pub mod Until
 pub mod Run
 pub mod Demand3
-pub mod Afternoon
-pub mod Guards
+pub mod Example

@@ -208,6 +208,23 @@ pub ends :
 unfolding first assetsIn entriesIn grantLength isParent assetPosition flagged momentary sameRequest sameNumber inLine timely gate amend begun continued ended expired shut released settled catalogOf holds assetNamed usable parentOf own suitable countLeft timedLeft inDates intervalLeft secondsLeft grantable rankOf ranksBefore chooseOf anyOf choose leastUntil grantUntil moreUntil doBegin doContinue doStop done takenStep stepBy step arrive answers
 ends = refl
 
+-- "each open use of any player with until ≤ t ends at its until": a begin by one player finds the timed counts of the others given back
+abbrev shared : List Entry
+shared = timed 1 1 2 100 ∷ []
+
+pub all-settled :
+    answers (book shared 1)
+    (event 0 1 (Begin Play 1) 10
+    ∷ event 1 1 (Begin Play 1) 20
+    ∷ event 2 1 (Begin Play 1) 69
+    ∷ event 2 2 (Begin Play 1) 70
+    ∷ event 3 1 (Begin Play 1) 79
+    ∷ event 3 2 (Begin Play 1) 80
+    ∷ [])
+    ≡ (granted 0 70 ∷ granted 0 80 ∷ refusal 13 ∷ granted 0 130 ∷ refusal 13 ∷ granted 0 140 ∷ [])
+unfolding first assetsIn entriesIn grantLength isParent assetPosition flagged momentary sameRequest sameNumber inLine timely gate amend begun continued ended expired shut released settled catalogOf holds assetNamed usable parentOf own suitable countLeft timedLeft inDates intervalLeft secondsLeft grantable rankOf ranksBefore chooseOf anyOf choose leastUntil grantUntil moreUntil doBegin doContinue doStop done takenStep stepBy step arrive answers
+all-settled = refl
+
 -- ## The gate
 
 -- player 1's last event was its begin of asset 1, play, with that number
