@@ -1,5 +1,5 @@
 pub mod Afternoon
-pub mod Guards
+pub mod Cases
 pub mod Facts
 pub mod Sums
 pub mod Figures

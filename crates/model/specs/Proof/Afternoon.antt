@@ -1,4 +1,5 @@
--- The afternoon of document 01, lines 1 to 16, as one list run through the definitions.
+-- The afternoon of document 01, lines 1 to 16, as one list run through the definitions and one equality.
+-- The book has all its 64 and 64 and 16 places, so this is the run that a server makes.
 use mathlib.Core.Path.{_≡_, refl}
 use Prim.Native.Nat.{ℕ}
 use mathlib.Core.List.{List, [], _∷_}
@@ -6,7 +7,6 @@ use lib.ListN.{replicate}
 use Rattle.laws.specs.Count.{first}
 use Rattle.book.specs.declared.Answer.{Answer}
 use Rattle.book.specs.declared.Book.{Book}
-use Rattle.book.specs.declared.Event.{Event}
 use Rattle.book.specs.declared.Entry.{Entry}
 use Rattle.book.specs.declared.Asset.{Asset}
 use Rattle.book.specs.declared.Kind.the-variants.{Play, Display, Print}

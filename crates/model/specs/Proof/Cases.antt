@@ -5,8 +5,6 @@ use Prim.Native.Nat.{ℕ}
 use mathlib.Core.List.{List, [], _∷_}
 use lib.ListN.{replicate}
 use Rattle.laws.specs.Count.{first}
-use Rattle.book.specs.declared.Answer.{Answer}
-use Rattle.book.specs.declared.Asset.{Asset}
 use Rattle.book.specs.declared.Book.{Book}
 use Rattle.book.specs.declared.Entry.{Entry}
 use Rattle.book.specs.declared.Event.{Event}
