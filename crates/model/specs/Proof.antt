@@ -1,5 +1,8 @@
+-- Lemmas and proofs about the definitions above: nothing here has to be believed. Afternoon and Cases are closed runs.
 pub mod Afternoon
 pub mod Cases
+pub mod RoundTrip
+pub mod BookExamples
 pub mod Facts
 pub mod Sums
 pub mod Figures
