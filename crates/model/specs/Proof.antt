@@ -1,4 +1,6 @@
--- Lemmas and proofs about the definitions above: nothing here has to be believed.
+-- Lemmas and proofs about the definitions above: nothing here has to be believed. Afternoon and Cases are closed runs.
+pub mod Afternoon
+pub mod Cases
 pub mod RoundTrip
 pub mod BookExamples
 pub mod Facts
@@ -13,10 +15,10 @@ pub mod Choice
 pub mod Until
 pub mod Run
 pub mod Demand3
-pub mod Afternoon
 pub mod KeptFacts
 pub mod KeptRules
 pub mod KeptMeters
 pub mod KeptEvents
 pub mod Kept
 pub mod KeptExact
+pub mod Example

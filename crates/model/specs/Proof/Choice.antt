@@ -1,22 +1,21 @@
 -- The order of the choice: the entry chosen goes before every other that is allowed, by the statement's words.
-use mathlib.Core.Path.{_≡_, refl, sym, ap, _∙_, subst}
+-- Ranks are compared as one number each, of which the choice takes the least; the words are read off two such numbers.
+use mathlib.Core.Path.{_≡_, refl, sym, _∙_}
 use mathlib.Core.Logic.{_↔_, _⊎_, inl, inr}
-use Prim.Native.Nat.{ℕ, zero, suc, _+_, _-_, _*_, _≤_, _<_, min}
-use mathlib.Core.Bool.{Bool, true, false, not, _&&_, _||_, cond, or-true}
+use Prim.Native.Nat.{ℕ, zero, suc, _+_, _*_, _≤_, _<_}
+use mathlib.Core.Bool.{Bool, true, false, not, cond}
 use mathlib.Core.List.{List}
-use mathlib.Core.Option.{Option, none, some}
-use lib.Dec.{leb, ltb, eqb}
+use lib.Dec.{ltb, eqb}
 use native.Mathlib.Omega.{arith}
-use borrow.Author.Tests.{eqb-true, eqb-false, eq-eqb, ne-eqb, ltb-true, ltb-false, lt-ltb, le-ltb, not-true, not-false}
+use borrow.Author.Tests.{eqb-true, eqb-false, eq-eqb, ltb-true, ltb-false, lt-ltb, le-ltb}
 use Rattle.laws.specs.Count.{one}
 use Rattle.book.specs.declared.Limits.{Limits}
-use Rattle.book.specs.declared.Meters.{Meters}
 use Rattle.book.specs.declared.Entry.{Entry}
 use Rattle.model.specs.Book.{limitsAt, flagged}
-use Rattle.model.specs.Events.{isStarted, own, Rank, noEnd, rankOf, ranksBefore, Choice, nobody, chosen, prefer, chooseOf}
-use Rattle.model.specs.Ledger.{Use, earliest}
-use Rattle.model.specs.Demand3.{isSome, running, figures, SameFlags, EarlierEnd, SameEnd, Precedes, by-flags, by-end, by-start, by-owner, by-position}
-use Rattle.model.specs.Proof.Facts.{on-test, on-same, clash, and-left, and-right, one-is}
+use Rattle.model.specs.Events.{own, Rank, noEnd, rankOf, ranksBefore, Choice, nobody, chosen, prefer, chooseOf}
+use Rattle.model.specs.Ledger.{Use}
+use Rattle.model.specs.Demand3.{running, figures, SameFlags, SameEnd, Precedes, by-flags, by-end, by-start, by-owner, by-position}
+use Rattle.model.specs.Proof.Facts.{on-test, on-same, clash, one-is}
 use Rattle.model.specs.Proof.Held.{Lawful}
 use Rattle.model.specs.Proof.Concrete.{choose-sound, choose-none}
 

@@ -1,30 +1,29 @@
 -- From lists of entries and players to functions of a position, and back: amending, settling, choosing.
-use mathlib.Core.Path.{_≡_, refl, sym, ap, _∙_, subst, fun-ext}
-use Prim.Native.Nat.{ℕ, zero, suc, _+_, _-_, _≤_, _<_, min, zero-le}
-use mathlib.Core.Bool.{Bool, true, false, not, _&&_, _||_, cond}
+-- Settling goes player by player, and at each the meters are the ledger's with those before judged at the new time.
+use mathlib.Core.Path.{_≡_, refl, sym, ap, _∙_, fun-ext}
+use Prim.Native.Nat.{ℕ, zero, suc, _+_, _≤_, _<_, zero-le}
+use mathlib.Core.Bool.{Bool, true, false}
 use mathlib.Core.List.{List, [], _∷_, map}
-use mathlib.Core.Option.{Option, none, some}
 use lib.ListN.{length, getD, set, length-set, length-map, List·getD-map}
 use lib.Seq.{getD-set-same, getD-set-other, set-out}
-use lib.Dec.{leb, ltb, eqb}
+use lib.Dec.{ltb}
 use native.Mathlib.Omega.{arith}
 use native.Mathlib.Nat.{add-zero, zero-add}
-use borrow.Author.Tests.{eqb-true, eqb-false, eq-eqb, ne-eqb, ltb-true, ltb-false}
+use borrow.Author.Tests.{ltb-true, ltb-false}
 use Rattle.book.specs.declared.Limits.{Limits}
 use Rattle.book.specs.declared.Meters.{Meters}
 use Rattle.book.specs.declared.Entry.{Entry}
-use Rattle.book.specs.declared.Last.{Last}
 use Rattle.book.specs.declared.Open.{Open}
 use Rattle.book.specs.declared.Player.{Player}
-use Rattle.book.specs.Blank.{noEntry, noPlayer, closed}
+use Rattle.book.specs.Blank.{noEntry, noPlayer}
 use Rattle.model.specs.Book.{limitsAt, metersAt, flagged}
 use Rattle.model.specs.Events.{where-flagged, lastAt, openAt, amend, ended, expired, released, shut, settled, Choice, nobody, chosen, prefer, chooseOf}
 use Rattle.model.specs.Proof.Facts.{on-test, on-same, clash, meters-path, upd, upd-same, upd-other}
-use Rattle.model.specs.Ledger.{Use, isOpen, latest, sumOf, countsTimed}
+use Rattle.model.specs.Ledger.{Use, countsTimed}
 use Rattle.model.specs.Demand3.{Every, figures, heldIn}
 use Rattle.model.specs.Proof.Sums.{all-map, all-latest, sum-ext, Tidy, tidy-later}
 use Rattle.model.specs.Proof.Figures.{stage, stage-done, stage-left}
-use Rattle.model.specs.Proof.Held.{Held, Sound, Within, releasedM, shutO, release-meters, release-within, shut-opens, held-cases, heldAs}
+use Rattle.model.specs.Proof.Held.{Held, Sound, Within, releasedM, shutO, release-meters, release-within, shut-opens, held-cases}
 
 -- ## Amending an entry
 
@@ -62,10 +61,6 @@ store-open p x ps h q =
     on-same q p
     (λ e. rw e (ap (λ (y : Player). y .current) (getD-set-same ps p x noPlayer h) ∙ sym (upd-same p (x .current) (openAt ps))))
     (λ e. ap (λ (y : Player). y .current) (getD-set-other ps p q x noPlayer e) ∙ sym (upd-other p (x .current) (openAt ps) q e))
-
-shut-blank : (T : ℕ) → shut T noPlayer ≡ noPlayer
-unfolding shut expired
-shut-blank T = refl
 
 pub shut-at : (T : ℕ) (ps : List Player) (p : ℕ) → getD (map (shut T) ps) p noPlayer ≡ shut T (getD ps p noPlayer)
 unfolding shut expired

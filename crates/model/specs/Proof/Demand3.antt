@@ -1,11 +1,10 @@
--- Demand 3 holds of every legal fresh book. What is left for this file are the begins: which reach the choice, and what they are answered.
+-- Demand 3 holds of every legal fresh book.
+-- What is left for this file are the begins: which of them reach the choice, and what these are answered.
 use mathlib.Core.Path.{_≡_, refl, sym, ap, _∙_, subst, fun-ext}
-use mathlib.Core.Logic.{_↔_}
-use Prim.Native.Nat.{ℕ, _+_, _≤_, _<_}
-use mathlib.Core.Bool.{Bool, true, false, not, _&&_, _||_, cond, and-false}
+use Prim.Native.Nat.{ℕ, _+_}
+use mathlib.Core.Bool.{Bool, true, false, not, _&&_, _||_, and-false}
 use mathlib.Core.List.{List}
 use mathlib.Core.Option.{Option, none, some}
-use lib.ListN.{length}
 use lib.Dec.{leb, ltb, eqb}
 use native.Mathlib.Omega.{arith}
 use borrow.Author.Tests.{leb-true, leb-false, lt-ltb, le-ltb, not-true, not-false}
@@ -22,18 +21,18 @@ use Rattle.book.specs.declared.Request.the-variants.{Begin}
 use Rattle.book.specs.declared.Decoded.{Decoded}
 use Rattle.book.specs.declared.Gate.{Gate}
 use Rattle.book.specs.declared.Gate.the-variants.{Refuse, Resend, Take}
-use Rattle.model.specs.Book.{limitsAt, metersAt, entriesIn, flagged, Legal, Fresh}
-use Rattle.model.specs.Events.{kindNumber, where-flagged, isOn, Catalog, catalogOf, usable, parentOf, suitable, asked, countLeft, timedLeft, inDates, intervalLeft, secondsLeft, grantable, rankOf, ranksBefore, suits, allowed, goesBefore, Choice, nobody, chosen, anyOf, chooseOf, choose, grantUntil, granted, doBegin, done, lastAt, openAt, gate, stepBy, step}
-use Rattle.model.specs.Ledger.{Use, Account, empty, resent, calledTaken, timeOf, latest, isOpen, spentCount, spentTimed, spentSeconds, earliest, over, spent, outOfDates}
-use Rattle.model.specs.Demand3.{State, after, starting, Takes, PastChecks, NothingOpen, Suits, MayChoose, outOrSpent, NoneLeft, startOr, isSome, figures, filled, chosenAnswer, Granted, Chosen, Begins, heldBy, heldIn, Demand3}
-use Rattle.model.specs.Proof.Facts.{on-test, clash, and-left, and-right, and-both, one-is}
+use Rattle.model.specs.Book.{limitsAt, entriesIn, flagged, Legal, Fresh}
+use Rattle.model.specs.Events.{kindNumber, where-flagged, isOn, Catalog, catalogOf, usable, parentOf, suitable, asked, countLeft, timedLeft, inDates, intervalLeft, secondsLeft, grantable, suits, allowed, goesBefore, Choice, nobody, chosen, anyOf, choose, granted, doBegin, done, lastAt, gate, stepBy, step}
+use Rattle.model.specs.Ledger.{Use, Account, empty, resent, calledTaken, isOpen, spentCount, spentTimed, spentSeconds, earliest, over, spent, outOfDates}
+use Rattle.model.specs.Demand3.{State, after, starting, Takes, PastChecks, NothingOpen, Suits, MayChoose, outOrSpent, NoneLeft, startOr, isSome, figures, filled, chosenAnswer, Granted, Chosen, Begins, heldIn, Demand3}
+use Rattle.model.specs.Proof.Facts.{on-test, clash, and-left, and-right, and-both}
 use Rattle.model.specs.Proof.Sums.{Tidy, tidy-later, ShutFor, all-latest, all-shut, latest-player}
 use Rattle.model.specs.Proof.Held.{held-cases}
 use Rattle.model.specs.Proof.Concrete.{held-ext, choose-sound, choose-none, none-choose}
-use Rattle.model.specs.Proof.Grounds.{Grounds, legal-grounds, static-self}
+use Rattle.model.specs.Proof.Grounds.{legal-grounds, static-self}
 use Rattle.model.specs.Proof.Steps.{Inv, gate-refuse, gate-take, gate-resend, resent-is}
 use Rattle.model.specs.Proof.Suitable.{any-sure, sure-any, usable-in, in-usable, suits-to, to-suits}
-use Rattle.model.specs.Proof.Choice.{Ahead, choose-first, weightAt, before-weight, precedes}
+use Rattle.model.specs.Proof.Choice.{choose-first, weightAt, before-weight, precedes}
 use Rattle.model.specs.Proof.Until.{grant-until}
 use Rattle.model.specs.Proof.Run.{fresh-inv, after-inv, after-static, limited, struck-answers, struck-book, filled-limits, filled-meters, judged, answers-predicted, record-answers, record-final}
 

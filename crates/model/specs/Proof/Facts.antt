@@ -1,8 +1,8 @@
--- Tests, picks and updates by position: what the proofs about the ledger use of them.
-use mathlib.Core.Path.{_≡_, refl, sym, ap, _∙_, fun-ext}
-use Prim.Native.Nat.{ℕ, zero, suc, _+_, _-_, _≤_, _<_, min}
-use mathlib.Core.Bool.{Bool, true, false, not, _&&_, _||_, cond, true≢false, false≢true}
-use lib.Dec.{leb, ltb, eqb}
+-- Tests, flags, caps and updates by position: the small facts that the other files cite.
+use mathlib.Core.Path.{_≡_, refl, sym, _∙_}
+use Prim.Native.Nat.{ℕ, _+_, _≤_}
+use mathlib.Core.Bool.{Bool, true, false, _&&_, cond, true≢false, false≢true}
+use lib.Dec.{eqb}
 use native.Mathlib.Omega.{arith}
 use borrow.Author.Tests.{eqb-true, eqb-false, eq-eqb, ne-eqb}
 use Rattle.laws.specs.Count.{one}
@@ -34,14 +34,6 @@ and-right false b e = absurd (false≢true e)
 pub and-both : {a b : Bool} → a ≡ true → b ≡ true → (a && b) ≡ true
 and-both {a} {b} p q = rw (p, q)
 
-pub or-neither-left : (a b : Bool) → (a || b) ≡ false → a ≡ false
-or-neither-left true b e = absurd (true≢false e)
-or-neither-left false b e = refl
-
-pub or-neither-right : (a b : Bool) → (a || b) ≡ false → b ≡ false
-or-neither-right true b e = absurd (true≢false e)
-or-neither-right false b e = e
-
 pub asked-on : (f b : Bool) → asked f b ≡ true → f ≡ true → b ≡ true
 asked-on true b e h = e
 asked-on false b e h = absurd (false≢true h)
@@ -55,13 +47,6 @@ cond-off b x y e = rw e
 -- where-flagged
 pub flag-on : (f : Bool) (v : ℕ) → f ≡ true → where-flagged f v ≡ v
 flag-on f v e = rw e
-
-pub flag-off : (f : Bool) (v : ℕ) → f ≡ false → where-flagged f v ≡ 0
-flag-off f v e = rw e
-
-pub flag-le : (f : Bool) (v : ℕ) → where-flagged f v ≤ v
-flag-le true v = omega arith
-flag-le false v = omega arith
 
 pub flag-add : (f : Bool) (v w : ℕ) → where-flagged f (v + w) ≡ where-flagged f v + where-flagged f w
 flag-add true v w = refl

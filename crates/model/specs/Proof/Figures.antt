@@ -1,21 +1,21 @@
--- What the ledger's figures become when a use is added, revised or comes to its end.
+-- What the ledger's figures become when a use is added, continued, stopped or comes to its end.
+-- Each is what the rules do to an entry's meters.
 use mathlib.Core.Path.{_≡_, refl, sym, ap, _∙_}
-use Prim.Native.Nat.{ℕ, zero, suc, _+_, _-_, _≤_, _<_, min}
-use mathlib.Core.Bool.{Bool, true, false, not, _&&_, _||_, cond}
+use Prim.Native.Nat.{ℕ, suc, _+_, _-_, _≤_, _<_, min}
+use mathlib.Core.Bool.{Bool, true, false, not, _&&_, cond}
 use mathlib.Core.List.{List, [], _∷_}
 use mathlib.Core.Option.{Option, none, some, Option·none-ne-some}
 use lib.Dec.{leb, ltb, eqb}
 use native.Mathlib.Omega.{arith}
-use borrow.Author.Tests.{eqb-true, eqb-false, eq-eqb, ne-eqb, ltb-true, ltb-false, lt-ltb, le-ltb, leb-true, leb-false, le-leb, lt-leb}
+use borrow.Author.Tests.{ne-eqb, ltb-true, ltb-false, lt-ltb, le-ltb, leb-true, leb-false}
 use Rattle.book.specs.declared.Limits.{Limits}
-use Rattle.book.specs.declared.Meters.{Meters}
 use Rattle.laws.specs.Count.{one}
 use Rattle.model.specs.Book.{flagged}
-use Rattle.model.specs.Events.{where-flagged, begun, continued, ended, intervalFrom}
-use Rattle.model.specs.Proof.Facts.{on-test, on-same, clash, and-left, and-right, and-both, eqb-self, flag-add, one-is, meters-path}
+use Rattle.model.specs.Events.{where-flagged, begun, continued, ended}
+use Rattle.model.specs.Proof.Facts.{on-test, and-left, and-right, and-both, eqb-self, flag-add, meters-path}
 use Rattle.model.specs.Ledger.{Use, isOpen, ran, latest, revise, sumOf, counts, countsTimed, countsSeconds, earliest, sooner, stopAt, goOn}
 use Rattle.model.specs.Demand3.{Every, isSome, startOr, figures}
-use Rattle.model.specs.Proof.Sums.{all-latest, latest-player, sum-ext, sum-revise, Kept, earliest-revise, latest-revise, ShutFor, Tidy, open-falls, all-shut, sum-latest, sum-nobody}
+use Rattle.model.specs.Proof.Sums.{latest-player, sum-revise, Kept, earliest-revise, Tidy, open-falls, all-shut, sum-latest, sum-nobody}
 
 pub stopAt-keeps : (e : ℕ) → Kept (stopAt e)
 stopAt-keeps e = record { entry = λ u. refl; player = λ u. refl; begin = λ u. refl }

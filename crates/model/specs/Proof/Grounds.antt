@@ -1,18 +1,17 @@
--- What of a legal book the proofs use, and that no event changes it: how many assets and entries there are, the assets, the limits.
+-- What the proofs use of a legal book: lengths, lawful limits, and each asset number once.
+-- No event changes any of it.
 use mathlib.Core.Path.{_≡_, refl, sym, ap, _∙_, subst}
 use Prim.Native.Nat.{ℕ, zero, suc, _≤_, _<_, min}
-use mathlib.Core.Bool.{Bool, true, false, not, _&&_, _||_, cond, false≢true}
+use mathlib.Core.Bool.{Bool, true, false, not, _&&_, _||_, false≢true}
 use mathlib.Core.List.{List, map}
-use lib.ListN.{length, getD, set, length-set, length-map}
+use lib.ListN.{length, length-set, length-map}
 use lib.Dec.{leb, ltb, eqb}
 use native.Mathlib.Omega.{arith}
 use borrow.Author.Tests.{eqb-true, ltb-true, ltb-false, leb-true}
-use Rattle.laws.specs.Count.{all, first}
+use Rattle.laws.specs.Count.{all}
 use Rattle.book.specs.declared.Limits.{Limits}
 use Rattle.book.specs.declared.Entry.{Entry}
-use Rattle.book.specs.declared.Asset.{Asset}
 use Rattle.book.specs.declared.Open.{Open}
-use Rattle.book.specs.declared.Player.{Player}
 use Rattle.book.specs.declared.Book.{Book}
 use Rattle.book.specs.declared.Event.{Event}
 use Rattle.book.specs.declared.Request.{Request}
@@ -21,10 +20,10 @@ use Rattle.book.specs.declared.Decoded.{Decoded}
 use Rattle.book.specs.declared.Decoded.the-variants.{Invalid, Valid}
 use Rattle.book.specs.declared.Gate.{Gate}
 use Rattle.book.specs.declared.Gate.the-variants.{Refuse, Resend, Take}
-use Rattle.book.specs.Blank.{noEntry, noLimits}
-use Rattle.model.specs.Book.{assetAt, limitsAt, assetsIn, entriesIn, latestTime, assetPosition, inBook, between, flagged, momentary, limit, assetLegal, assetsLegal, rangesLegal, limitsLegal, entriesLegal, playersLegal, metersLegal, ruleBroken, Legal}
+use Rattle.book.specs.Blank.{noLimits}
+use Rattle.model.specs.Book.{assetAt, limitsAt, assetsIn, entriesIn, latestTime, assetPosition, inBook, between, flagged, momentary, limit, assetLegal, assetsLegal, rangesLegal, limitsLegal, entriesLegal, ruleBroken, Legal}
 use Rattle.model.specs.Events.{kindNumber, isOn, shut, settled, Catalog, catalogOf, usable, suits, anyOf, Choice, nobody, chosen, choose, Done, unchanged, granted, doBegin, more, doContinue, doStop, done, openAt, takenStep, lastAt, gate, stepBy, step, arrive}
-use Rattle.model.specs.Proof.Facts.{on-test, on-same, clash, and-left, and-right}
+use Rattle.model.specs.Proof.Facts.{on-test, on-same, and-left, and-right}
 use Rattle.model.specs.Proof.Held.{Lawful}
 use Rattle.model.specs.Proof.Concrete.{amend-limits, amend-length, settled-limits, settled-size}
 

@@ -1,24 +1,24 @@
--- The invariant over positions: limits, meters and open uses as functions, and the ledger. Each event keeps it.
+-- The invariant over positions: meters and open uses are those that the ledger gives, and its uses keep to their limits.
+-- A grant, a continue, a stop and the settling of one player each keep it.
 use mathlib.Core.Path.{_≡_, refl, sym, ap, _∙_}
-use Prim.Native.Nat.{ℕ, zero, suc, _+_, _-_, _≤_, _<_, min}
+use Prim.Native.Nat.{ℕ, suc, _+_, _-_, _≤_, _<_}
 use mathlib.Core.Bool.{Bool, true, false, not, _&&_, _||_, cond, and-false, or-true, false≢true}
 use mathlib.Core.List.{List, [], _∷_}
 use mathlib.Core.Option.{Option, none, some, Option·none-ne-some}
-use lib.Dec.{leb, ltb, eqb, leb·zero}
+use lib.Dec.{leb, ltb, eqb}
 use native.Mathlib.Omega.{arith}
-use borrow.Author.Tests.{eqb-true, eqb-false, eq-eqb, ne-eqb, ltb-true, ltb-false, lt-ltb, le-ltb, leb-true, leb-false, le-leb, lt-leb, not-true, not-false}
+use borrow.Author.Tests.{ltb-true, lt-ltb, le-ltb, leb-true, leb-false, le-leb}
 use Rattle.book.specs.declared.Limits.{Limits}
 use Rattle.book.specs.declared.Meters.{Meters}
 use Rattle.book.specs.declared.Open.{Open}
 use Rattle.book.specs.Blank.{closed}
-use Rattle.laws.specs.Count.{one}
 use Rattle.model.specs.Book.{flagged, momentary, grantLength}
-use Rattle.model.specs.Events.{where-flagged, asked, cap, begun, continued, ended, isStarted, intervalFrom, expired, countLeft, timedLeft, inDates, intervalLeft, secondsLeft, grantable, leastUntil, grantUntil, moreUntil, noEnd}
-use Rattle.model.specs.Proof.Facts.{on-test, on-same, clash, and-left, and-right, and-both, asked-on, cond-on, cond-off, eqb-self, flag-on, flag-le, flag-add, cap-le, cap-at, cap-ge, upd, upd-same, upd-other, meters-path, one-is}
-use Rattle.model.specs.Ledger.{Use, isOpen, ran, latest, revise, sumOf, counts, countsTimed, countsSeconds, earliest, sooner, stopAt, goOn}
+use Rattle.model.specs.Events.{asked, cap, begun, continued, ended, isStarted, intervalFrom, expired, countLeft, timedLeft, inDates, intervalLeft, secondsLeft, grantable, leastUntil, grantUntil, moreUntil, noEnd}
+use Rattle.model.specs.Proof.Facts.{on-test, on-same, clash, and-left, and-right, and-both, asked-on, eqb-self, cap-le, cap-at, cap-ge, upd, upd-same, upd-other, one-is}
+use Rattle.model.specs.Ledger.{Use, isOpen, ran, latest, revise, countsTimed, earliest, sooner, stopAt, goOn}
 use Rattle.model.specs.Demand3.{Every, isSome, startOr, figures, heldBy, heldIn}
-use Rattle.model.specs.Proof.Sums.{all-map, all-both, all-revise, latest-new, latest-new-other, all-latest, latest-player, sum-ext, Kept, earliest-revise, latest-revise, latest-revise-other, Tidy, tidy-later, tidy-revise, ShutFor, open-falls, all-shut}
-use Rattle.model.specs.Proof.Figures.{stopAt-keeps, goOn-keeps, open-until, open-on, stopped-shut, figures-other, figures-ended, figures-continued, earliest-le, figures-new-other, figures-begun, stage, stage-done, stage-left, settle-nobody, settle-open, settle-other, settle-ended, timed-open}
+use Rattle.model.specs.Proof.Sums.{all-map, all-both, all-revise, latest-new, latest-new-other, all-latest, Kept, earliest-revise, latest-revise, latest-revise-other, Tidy, tidy-revise, open-falls, all-shut}
+use Rattle.model.specs.Proof.Figures.{stopAt-keeps, goOn-keeps, open-until, open-on, stopped-shut, figures-other, figures-ended, figures-continued, earliest-le, figures-new-other, figures-begun, stage, settle-nobody, settle-open, settle-other, settle-ended}
 
 -- ## The parts
 

@@ -1,12 +1,13 @@
--- Of every list of events: the invariant holds after it, hence the limits; resends struck out leave the rest; the answers are those of the ledger.
+-- What holds of every list of events: the invariant after it, hence the limits, and the answers by the ledger alone.
+-- Resends struck out leave the other answers and the book as they were.
 use mathlib.Core.Path.{_≡_, refl, sym, ap, _∙_}
-use Prim.Native.Nat.{ℕ, zero, suc, _+_, _≤_, _<_, zero-le}
-use mathlib.Core.Bool.{Bool, true, false, not, _&&_, _||_, cond, and-false}
+use Prim.Native.Nat.{ℕ, zero, suc, _+_, _≤_, zero-le}
+use mathlib.Core.Bool.{Bool, true, false, and-false}
 use mathlib.Core.List.{List, [], _∷_, map}
 use mathlib.Core.Option.{Option, none, some, Option·none-ne-some}
-use lib.ListN.{length, getD}
+use lib.ListN.{length}
 use lib.Seq.{ext-getD}
-use lib.Dec.{leb, ltb, eqb}
+use lib.Dec.{eqb}
 use native.Mathlib.Omega.{arith}
 use native.Mathlib.Nat.{add-zero, zero-add}
 use Rattle.laws.specs.Count.{one}
@@ -23,17 +24,17 @@ use Rattle.book.specs.declared.Decoded.{Decoded}
 use Rattle.book.specs.declared.Decoded.the-variants.{Invalid, Valid}
 use Rattle.book.specs.declared.Gate.{Gate}
 use Rattle.book.specs.declared.Gate.the-variants.{Refuse, Resend, Take}
-use Rattle.book.specs.Blank.{noLimits, noMeters, noEntry, closed}
+use Rattle.book.specs.Blank.{noLimits, noMeters, noEntry}
 use Rattle.model.specs.Book.{limitsAt, metersAt, flagged, Fresh}
 use Rattle.model.specs.Events.{where-flagged, settled, Catalog, catalogOf, done, lastAt, openAt, gate, takenStep, stepBy, step, decoded, arrive, stepRecord}
-use Rattle.model.specs.Ledger.{Use, Account, empty, latestTaken, resent, calledTaken, timeOf, latest, isOpen, sumOf, counts, countsTimed, countsSeconds, earliest, sooner, note, noteArrival}
-use Rattle.model.specs.Demand3.{State, advance, after, starting, answers, final, recordAnswers, recordFinal, Every, startOr, isSome, figures, filledFrom, filled, UseInside, Limited, isResend, struck, kept, heldIn, lastOf, predictBy, predict, predicted}
+use Rattle.model.specs.Ledger.{Use, Account, empty, latestTaken, resent, timeOf, latest, sumOf, counts, countsTimed, countsSeconds, earliest, sooner, noteArrival}
+use Rattle.model.specs.Demand3.{State, advance, after, answers, final, recordAnswers, recordFinal, Every, startOr, isSome, figures, filledFrom, filled, UseInside, Limited, isResend, struck, kept, heldIn, lastOf, predictBy, predict, predicted}
 use Rattle.model.specs.Proof.Facts.{on-test, clash, eqb-self, flag-on, meters-path}
 use Rattle.model.specs.Proof.Sums.{all-both}
 use Rattle.model.specs.Proof.Held.{Held, Sound, Spanned, Dated, all-earliest}
 use Rattle.model.specs.Proof.Concrete.{settled-held, settled-limits, settled-size}
 use Rattle.model.specs.Proof.Grounds.{Grounds, Static, static-self, static-trans, catalog-static, arrive-static}
-use Rattle.model.specs.Proof.Steps.{Inv, Taking, gate-refuse, gate-take, gate-resend, resent-is, note-skip, arrive-keeps}
+use Rattle.model.specs.Proof.Steps.{Inv, gate-take, resent-is, note-skip, arrive-keeps}
 
 -- ## The invariant holds after every list
 

@@ -1,10 +1,11 @@
--- Each event keeps the invariant between the book and the account.
-use mathlib.Core.Path.{_≡_, refl, sym, ap, _∙_, subst, fun-ext}
-use Prim.Native.Nat.{ℕ, zero, suc, _+_, _-_, _≤_, _<_, min, zero-le}
+-- Each event keeps the invariant between the book and the account, whatever the gate makes of it.
+-- The ledger's word for a resend and the rules' test agree.
+use mathlib.Core.Path.{_≡_, refl, sym, _∙_}
+use Prim.Native.Nat.{ℕ, _+_, _≤_, _<_}
 use mathlib.Core.Bool.{Bool, true, false, not, _&&_, _||_, cond, or-true}
-use mathlib.Core.List.{List, [], _∷_, map}
+use mathlib.Core.List.{List, _∷_, map}
 use mathlib.Core.Option.{Option, none, some}
-use lib.ListN.{length, getD, set, length-set, length-map}
+use lib.ListN.{length, length-set, length-map}
 use lib.Dec.{leb, ltb, eqb}
 use native.Mathlib.Omega.{arith}
 use borrow.Author.Tests.{eqb-true, eq-eqb, ne-eqb, ltb-false, leb-true, not-false}
@@ -26,12 +27,12 @@ use Rattle.book.specs.declared.Gate.{Gate}
 use Rattle.book.specs.declared.Gate.the-variants.{Refuse, Resend, Take}
 use Rattle.book.specs.Blank.{closed}
 use Rattle.model.specs.Book.{limitsAt, metersAt, latestTime}
-use Rattle.model.specs.Events.{operationNumber, requestAsset, requestKind, kindNumber, sameRequest, sameNumber, inLine, lastNumber, timely, gate, amend, begun, continued, ended, shut, settled, Catalog, catalogOf, usable, suits, allowed, grantable, Choice, nobody, chosen, anyOf, choose, grantUntil, refusal, Done, unchanged, granted, doBegin, more, lengthened, doContinue, halted, doStop, done, lastAt, openAt, noted, stored, takenStep, stepBy, step, arrive}
+use Rattle.model.specs.Events.{operationNumber, requestAsset, requestKind, kindNumber, sameRequest, sameNumber, inLine, lastNumber, timely, gate, amend, begun, continued, ended, shut, settled, Catalog, catalogOf, usable, suits, allowed, grantable, Choice, nobody, chosen, anyOf, choose, grantUntil, refusal, Done, unchanged, granted, doBegin, more, doContinue, doStop, done, lastAt, openAt, noted, stored, takenStep, stepBy, step, arrive}
 use Rattle.model.specs.Ledger.{Use, Taken, Account, latestTaken, repeats, resent, calledTaken, timeOf, latest, isOpen, posted, note, noteArrival}
-use Rattle.model.specs.Demand3.{lastBy, lastOf, heldIn}
+use Rattle.model.specs.Demand3.{lastBy, lastOf}
 use Rattle.model.specs.Proof.Facts.{on-test, on-same, clash, and-left, and-right, upd, upd-same, upd-other}
 use Rattle.model.specs.Proof.Held.{Held, Lawful, held-cases, heldAs, own-sound, stopped-held, continued-held, begun-held}
-use Rattle.model.specs.Proof.Concrete.{amend-length, amend-limits, amend-meters, store-last, store-open, shut-last, shut-open, held-ext, settled-held, settled-limits, settled-size, choose-sound}
+use Rattle.model.specs.Proof.Concrete.{amend-length, amend-limits, amend-meters, store-last, store-open, shut-last, held-ext, settled-held, settled-limits, settled-size, choose-sound}
 use Rattle.model.specs.Proof.Grounds.{Grounds, grounds-static, step-static}
 
 -- what is known of the book and the account between two events

@@ -1,17 +1,17 @@
--- Suitable entries and usable assets: the rules' tests hold exactly where the statement's words do.
+-- Usable assets and suitable entries: the rules' tests hold exactly where the statement's words do.
+-- That each number stands once in a legal book is what makes a number name one asset.
 use mathlib.Core.Path.{_≡_, refl, sym, ap, _∙_, subst}
-use Prim.Native.Nat.{ℕ, zero, suc, _≤_, _<_}
-use mathlib.Core.Bool.{Bool, true, false, not, _&&_, _||_, cond, or-true}
+use Prim.Native.Nat.{ℕ, zero, suc, _<_}
+use mathlib.Core.Bool.{Bool, true, false, not, _&&_, _||_, or-true}
 use lib.Dec.{ltb, eqb}
 use native.Mathlib.Omega.{arith}
 use borrow.Author.Tests.{eqb-true, eqb-false, eq-eqb, ne-eqb, ltb-true, lt-ltb, not-true}
 use Rattle.laws.specs.Count.{first}
-use Rattle.book.specs.declared.Limits.{Limits}
 use Rattle.book.specs.declared.Asset.{Asset}
 use Rattle.book.specs.declared.Book.{Book}
 use Rattle.book.specs.Blank.{noAsset}
 use Rattle.model.specs.Book.{assetAt, limitsAt, assetsIn, entriesIn, isParent, assetPosition}
-use Rattle.model.specs.Events.{Catalog, catalogOf, holds, assetNamed, usable, parentOf, own, suitable, suits, anyOf}
+use Rattle.model.specs.Events.{catalogOf, holds, assetNamed, usable, parentOf, own, suitable, suits, anyOf}
 use Rattle.model.specs.Demand3.{InBookWithKey, Serves, Suits}
 use Rattle.model.specs.Proof.Facts.{on-test, on-same, clash, and-left, and-right, and-both, cond-off}
 use Rattle.model.specs.Proof.Concrete.{Sure}

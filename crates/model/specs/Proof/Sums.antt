@@ -1,15 +1,16 @@
 -- Sums over the ledger, and what a revision of a player's latest use does to them.
-use mathlib.Core.Path.{_≡_, refl, sym, ap, _∙_}
-use Prim.Native.Nat.{ℕ, zero, suc, _+_, _-_, _≤_, _<_, min}
-use mathlib.Core.Bool.{Bool, true, false, not, _&&_, _||_, cond}
+-- Only a player's latest use can be open, so settling and revising touch one term of a sum.
+use mathlib.Core.Path.{_≡_, refl, sym, _∙_}
+use Prim.Native.Nat.{ℕ, _+_, _≤_}
+use mathlib.Core.Bool.{true, false, not}
 use mathlib.Core.List.{List, [], _∷_}
-use mathlib.Core.Option.{Option, none, some, Option·none-ne-some}
-use lib.Dec.{leb, ltb, eqb}
+use mathlib.Core.Option.{some, Option·none-ne-some}
+use lib.Dec.{eqb}
 use native.Mathlib.Omega.{arith}
 use borrow.Author.Tests.{eqb-true, eqb-false, eq-eqb, ne-eqb, ltb-false, le-ltb}
-use Rattle.model.specs.Proof.Facts.{on-test, on-same, clash}
+use Rattle.model.specs.Proof.Facts.{on-test, on-same}
 use Rattle.model.specs.Demand3.{Every}
-use Rattle.model.specs.Ledger.{Use, isOpen, latest, revise, sumOf, earliest, sooner}
+use Rattle.model.specs.Ledger.{Use, isOpen, latest, revise, sumOf, earliest}
 
 -- ## A fact of every use
 
