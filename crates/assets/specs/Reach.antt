@@ -4,8 +4,10 @@ use mathlib.Core.Path.{_≡_, refl, sym, ap, _∙_}
 use mathlib.Core.Bool.{Bool, true, false, cond, _&&_}
 use mathlib.Core.List.{List}
 use lib.Dec.{eqb, ltb}
-use borrow.Author.Tests.{lt-ltb, le-ltb, eqb-true}
+use borrow.Author.Tests.{lt-ltb, le-ltb}
+use native.Mathlib.Omega.{arith}
 use Rattle.laws.specs.Count.{first}
+use Rattle.assets.specs.Search.{first-found}
 use Rattle.book.specs.declared.Asset.{Asset}
 use Rattle.book.specs.declared.Book.{Book}
 use Rattle.book.specs.Blank.{noAsset}
@@ -29,21 +31,31 @@ pub reach-in-book : (b : Book) (number : ℕ) → reachIn (tableOf (b .assets) (
 unfolding reachIn tableOf catalogOf usable parentOf assetNamed holds assetsIn
 reach-in-book b number = refl
 
+-- what the search asks of a position
+abbrev pub numbered : List Asset → ℕ → ℕ → Bool
+numbered ats number i = eqb (assetAt ats i .number) number
+
+-- the search ends at a position, or at the end
 pub found-at :
-    (ats : List Asset) (count number i : ℕ) →
-    assetPosition ats (min count 64) number ≡ i →
-    i < min count 64 →
+    (ats : List Asset) (count number n i : ℕ) →
+    n ≡ min count 64 →
+    i < n →
+    first (numbered ats number) i ≡ i →
+    numbered ats number i ≡ true →
     record { there = true; asset = assetAt ats i } ≡ foundIn (tableOf ats count) number
-unfolding foundIn tableOf assetNamed holds
-found-at ats count number i e h = rw (e, lt-ltb i (min count 64) h)
+unfolding foundIn tableOf assetNamed holds assetPosition
+found-at ats count number n i e h none here =
+    let f = numbered ats number in
+    rw (ap (first f) (sym e) ∙ first-found f i n h none here, lt-ltb i (min count 64) (omega arith))
 
 pub found-none :
-    (ats : List Asset) (count number i : ℕ) →
-    assetPosition ats (min count 64) number ≡ i →
-    min count 64 ≤ i →
+    (ats : List Asset) (count number n : ℕ) →
+    n ≡ min count 64 →
+    first (numbered ats number) n ≡ n →
     record { there = false; asset = noAsset } ≡ foundIn (tableOf ats count) number
-unfolding foundIn tableOf assetNamed holds
-found-none ats count number i e h = rw (e, le-ltb i (min count 64) h)
+unfolding foundIn tableOf assetNamed holds assetPosition
+found-none ats count number n e none =
+    rw (ap (first (numbered ats number)) (sym e) ∙ none, le-ltb n (min count 64) (omega arith))
 
 either-zero : (w : Bool) (v : ℕ) → v ≡ 0 → 0 ≡ cond w v 0
 either-zero true v h = sym h
