@@ -8,10 +8,10 @@ use book::Limits;
 use book::Meters;
 use rules::Rank;
 use rules::at_most_64;
-use rules::is_grantable;
-use rules::is_suitable;
+use rules::grantable;
 use rules::rank_of;
 use rules::ranks_before;
+use rules::suitable;
 
 // Whether any entry suits, the position of the best grantable one (64 where there is none), and its rank.
 pub struct Best {
@@ -34,7 +34,7 @@ pub fn consider(
 ) -> Best
     ensures { λ r. ⌜ r ≡ considered asset parent kind t i l m best ⌝ }
 {
-    if !is_suitable(l, asset, parent, kind) {
+    if !suitable(l, asset, parent, kind) {
         return best;
     }
     let rank = rank_of(l, m, asset);
@@ -46,7 +46,7 @@ pub fn consider(
             rank: held,
         };
     }
-    if !is_grantable(l, m, t) {
+    if !grantable(l, m, t) {
         return Best {
             suits: true,
             at: best.at,

@@ -197,21 +197,21 @@ pub fn grant_length(kind: u8) -> u32
     60
 }
 
-pub fn is_momentary(kind: u8) -> bool
+pub fn momentary(kind: u8) -> bool
     ensures { λ r. ⌜ r ≡ momentary kind ⌝ }
 {
     (4 <= kind) & (kind <= 5)
 }
 
 // Wrong and ruled out: an inherited entry where there is no parent, another kind.
-pub fn is_suitable(l: Limits, asset: u16, parent: u16, kind: u8) -> bool
+pub fn suitable(l: Limits, asset: u16, parent: u16, kind: u8) -> bool
     ensures { λ r. ⌜ r ≡ suitable asset parent kind l ⌝ }
 {
     (l.kind == kind) & ((l.asset == asset) | (!(parent == 0) & (l.asset == parent)))
 }
 
 // Wrong and ruled out: end taken as excluded, a limit tested without its flag, a sum that wraps.
-pub fn is_grantable(l: Limits, m: Meters, t: u32) -> bool
+pub fn grantable(l: Limits, m: Meters, t: u32) -> bool
     ensures { λ r. ⌜ r ≡ grantable t l m ⌝ }
 {
     let first = m.first as u64;

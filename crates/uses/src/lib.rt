@@ -15,10 +15,10 @@ use book::Meters;
 use book::Open;
 use book::Player;
 use rules::flags_of;
-use rules::is_grantable;
-use rules::is_momentary;
+use rules::grantable;
 use rules::least_until;
 use rules::less;
+use rules::momentary;
 use rules::one;
 use rules::pick32;
 use rules::when;
@@ -62,7 +62,7 @@ fn grant_until(l: Limits, m: Meters, t: u32) -> u32
     ensures { λ r. ⌜ r ≡ grantUntil t l m ⌝ }
 {
     let until = least_until(t, t, l, m) as u32;
-    pick32(is_momentary(l.kind), t, until)
+    pick32(momentary(l.kind), t, until)
 }
 
 fn more_until(l: Limits, m: Meters, old: u32, t: u32) -> u32
@@ -93,13 +93,9 @@ fn continued_meters(l: Limits, m: Meters, old: u32, until: u32) -> Meters
     ensures { λ r. ⌜ r ≡ continued old until l m ⌝ }
 {
     let f = flags_of(l);
-    Meters {
-        count: m.count,
-        timed: m.timed,
-        first: m.first,
-        seconds: m.seconds + when(f.accumulated, less(until, old)),
-        started: m.started,
-    }
+    let mut n = m;
+    n.seconds = m.seconds + when(f.accumulated, less(until, old));
+    n
 }
 
 // Wrong and ruled out: a count that goes back, a timed count that stays after a short use, seconds that stay after a stop.
@@ -121,7 +117,7 @@ pub fn ended_meters(l: Limits, m: Meters, begin: u32, until: u32, end: u32) -> M
 pub fn begin_on(l: Limits, m: Meters, o: Open, i: u8, t: u32) -> Part
     ensures { λ r. ⌜ r ≡ beginOn i t l m o ⌝ }
 {
-    if !is_grantable(l, m, t) {
+    if !grantable(l, m, t) {
         return kept(13, m, o);
     }
     if 4000000000 < t {
@@ -142,7 +138,7 @@ pub fn begin_on(l: Limits, m: Meters, o: Open, i: u8, t: u32) -> Part
             until: until,
         },
         meters: begun,
-        current: pick_open(is_momentary(l.kind), o, use_begun),
+        current: pick_open(momentary(l.kind), o, use_begun),
     }
 }
 

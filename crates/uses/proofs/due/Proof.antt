@@ -1,11 +1,8 @@
 use Rattle.model.specs.Events.{expired}
-use mathlib.Core.Path.{_≡_, refl, sym, ap, _∙_}
+use mathlib.Core.Path.{refl}
 use Rattle.uses.proofs.due.Statement.{statement}
 use Rattle.uses.proofs.due.Tie as tie
-use Rattle.uses.proofs.due.Reads as reads
-use Rattle.uses.proofs.due.Lts as lts
 
--- src/lib.rt:205:1
 returns : tie.Need-returns
 unfolding expired
 returns c = refl
