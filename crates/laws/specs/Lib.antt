@@ -1,2 +1,4 @@
 pub mod Count
 pub mod Fields
+pub mod FieldLaws
+pub mod TableLaws
