@@ -1,0 +1,15 @@
+use Rattle.model.specs.Book.{flagged}
+use Rattle.rules.specs.Rules.{flagsOf}
+use native.Mathlib.Nat.{div-one}
+use Rattle.rules.proofs.flags_of.Statement.{statement}
+use Rattle.rules.proofs.flags_of.Tie as tie
+use Rattle.rules.proofs.flags_of.Reads as reads
+use Rattle.rules.proofs.flags_of.Lts as lts
+
+-- src/lib.rt:157:1
+returns : tie.Need-returns
+unfolding flagsOf flagged
+returns c = rw div-one
+
+pub flags-of-spec : {M : Type 1} → statement M
+flags-of-spec = tie.close (tie.spec returns)
