@@ -44,7 +44,7 @@ loop-less c = omega arith
 -- src/lib.rt:243:5
 loop-again : tie.Need-loop-again Inv-loop μ-loop
 unfolding dueAt
-loop-again c = 
+loop-again c =
     let a = c .before .before .before .before .before .args in
     let l = c .before .before .before .before .loop in
     (omega arith, cc (any-of-next (dueAt (a .t) (a .t1)) (l .i), c .due .ensures, l .inv .1))
@@ -52,7 +52,7 @@ loop-again c =
 -- src/lib.rt:238:1
 returns : tie.Need-returns Inv-loop μ-loop
 unfolding anyDue
-returns c = 
+returns c =
     let a = c .before .before .args in
     let l = c .before .loop in
     let e : l .i ≡ 16 = omega arith in

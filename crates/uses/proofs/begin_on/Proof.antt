@@ -42,7 +42,7 @@ grant-until-requires c κs = search needs
 
 -- src/lib.rt:131:9
 begun-meters-requires : tie.Need-begun-meters-requires
-begun-meters-requires c κs = 
+begun-meters-requires c κs =
     let a = c .before .before .before .before .args in
     rw (c .grant-until .ensures)
     (grant-room (a .t) (a .l) (a .m) (sym (c .before .before .before .is-grantable .ensures) ∙ not-false _ (c .before .before .if1 .left)) (search needs))

@@ -46,7 +46,7 @@ returns-3 c = rw (not-false (isOn (c .before .before .before .before .before .be
 -- src/lib.rt:163:9
 continued-meters-requires : tie.Need-continued-meters-requires
 unfolding moreUntil
-continued-meters-requires c κs = 
+continued-meters-requires c κs =
     let a = c .before .before .before .before .before .before .args in
     rw (c .before .before .more-until .ensures) (more-room (a .t) (a .o .until) (a .l) (a .m) (search needs))
 
