@@ -1,9 +1,9 @@
 -- Settling as a loop over the book meets it: the players 0 to i - 1 settled, the others as they were.
-use Prim.Native.Nat.{ℕ, zero, suc, _+_, _<_, _≤_}
+use Prim.Native.Nat.{ℕ, suc, _+_, _<_, _≤_}
 use mathlib.Core.Path.{_≡_, refl, sym, ap, ap₂, _∙_}
 use mathlib.Core.Bool.{Bool, true, false, cond}
 use mathlib.Core.List.{List, [], _∷_, _++_, map, append-assoc, append-nil}
-use lib.ListN.{length, getD, set, take, drop, length-map, length-set, drop-of-length-le}
+use lib.ListN.{length, set, take, drop, length-map, length-set, drop-of-length-le}
 use lib.Seq.{take-suc, drop-cons, set-at, getD-at, length-take-le, take-all, set-out}
 use native.Mathlib.Numerals.{add-one}
 use native.Mathlib.Omega.{arith}
