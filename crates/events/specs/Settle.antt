@@ -109,7 +109,3 @@ pub settled-length : (t : ℕ) (ps : List Player) (es : List Entry) → length (
 unfolding settled
 settled-length t [] es = refl
 settled-length t (p ∷ ps) es = settled-length t ps (released t (p .current) es) ∙ released-length t (p .current) es
-
--- the length of an array of structs, as owning it tells it
-pub length-mapped : (X Y : Type 0) (f : X → Y) (l : List X) (n : ℕ) → length (map f l) ≡ n → length l ≡ n
-length-mapped X Y f l n p = sym (length-map l f) ∙ p

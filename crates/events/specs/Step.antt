@@ -2,9 +2,7 @@
 use Prim.Native.Nat.{ℕ, _≤_, _<_}
 use native.Mathlib.Omega.{arith}
 use mathlib.Core.Path.{_≡_, refl, sym, ap, _∙_}
-use mathlib.Core.Bool.{true, false, not, _&&_}
-use lib.Dec.{ltb, leb}
-use borrow.Author.Tests.{leb-true, not-false}
+use mathlib.Core.Bool.{true, false}
 use mathlib.Core.List.{List}
 use lib.ListN.{length, set}
 use lib.Seq.{set-out}
@@ -15,11 +13,9 @@ use Rattle.book.specs.declared.Event.{Event}
 use Rattle.book.specs.declared.Player.{Player}
 use Rattle.book.specs.declared.Last.{Last}
 use Rattle.book.specs.declared.Outcome.{Outcome}
-use Rattle.book.specs.declared.Gate.the-variants.{Take}
 use Rattle.book.specs.Blank.{noMeters}
 use Rattle.model.specs.Book.{limitsAt, metersAt, latestTime, assetsIn, entriesIn}
-use Rattle.model.specs.Events.{Catalog, Done, unchanged, noted, settled, isOn, usable, parentOf, suits, anyOf, grantable, chosen, choose, granted, doBegin, catalogOf, done, openAt, takenStep, gate, timely, sameNumber, sameRequest, inLine}
-use Rattle.model.specs.Proof.Facts.{on-test, clash, and-right}
+use Rattle.model.specs.Events.{Catalog, Done, unchanged, noted, settled, isOn, usable, parentOf, suits, anyOf, grantable, chosen, choose, granted, doBegin, catalogOf, done, openAt, takenStep}
 use Rattle.choose.specs.declared.Best.{Best}
 use Rattle.choose.specs.Best.{bestAfter}
 use Rattle.choose.specs.Choice.{best-some, best-nobody}
@@ -112,14 +108,3 @@ pub taken-is : (b : Book) (e : Event)
     ≡ takenStep b e
 unfolding settledBook storedBook takenStep catalogOf assetsIn entriesIn
 taken-is b e = refl
-
--- a taken event's time is one that events may have
-pub take-timely : (now : ℕ) (l : Last) (e : Event) → gate now l e ≡ Take → e .time ≤ latestTime
-unfolding gate timely
-take-timely now l e z =
-    on-test (ltb 15 (e .player)) (λ q. let w : true ≡ false = cc in clash refl w) (λ q.
-    on-test (sameNumber l (e .number))
-    (λ r. on-test (sameRequest l (e .request)) (λ s. let w : true ≡ false = cc in clash refl w) (λ s. let w : true ≡ false = cc in clash refl w))
-    (λ r. on-test (not (inLine l (e .number))) (λ s. let w : true ≡ false = cc in clash refl w) (λ s.
-    on-test (not (leb now (e .time) && leb (e .time) latestTime)) (λ t. let w : true ≡ false = cc in clash refl w) (λ t.
-    leb-true (e .time) latestTime (and-right (leb now (e .time)) (leb (e .time) latestTime) (not-false (leb now (e .time) && leb (e .time) latestTime) t))))))

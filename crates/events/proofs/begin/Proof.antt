@@ -13,7 +13,7 @@ use Rattle.choose.specs.declared.Best.{Best}
 use Rattle.choose.specs.Best.{bestAfter}
 use Rattle.choose.specs.Choice.{best-suits}
 use Rattle.events.specs.declared.Act.{Act}
-use Rattle.events.specs.Settle.{length-mapped}
+use Rattle.laws.specs.Loops.{length-mapped}
 use Rattle.events.specs.Step.{refused-placed, begin-11, begin-10, begin-12, begin-13, begin-grants}
 use borrow.Author.Needs.{needs}
 use Rattle.events.proofs.begin.Statement.{statement}

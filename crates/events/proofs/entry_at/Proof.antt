@@ -2,7 +2,7 @@ use mathlib.Core.Path.{_≡_, sym, _∙_}
 use native.Mathlib.Omega.{arith}
 use lib.ListN.{length, List·getD-eq-default}
 use Rattle.book.specs.Blank.{noEntry}
-use Rattle.events.specs.Settle.{length-mapped}
+use Rattle.laws.specs.Loops.{length-mapped}
 use borrow.Author.Needs.{needs}
 use Rattle.events.proofs.entry_at.Statement.{statement}
 use Rattle.events.proofs.entry_at.Tie as tie

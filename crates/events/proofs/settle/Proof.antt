@@ -1,7 +1,7 @@
 use mathlib.Core.Path.{_≡_, sym, _∙_}
 use lib.ListN.{length}
 use borrow.Author.Tests.{not-true}
-use Rattle.events.specs.Settle.{length-mapped}
+use Rattle.laws.specs.Loops.{length-mapped}
 use Rattle.events.specs.Step.{settled-none}
 use borrow.Author.Needs.{needs}
 use Rattle.events.proofs.settle.Statement.{statement}

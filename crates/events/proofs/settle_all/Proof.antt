@@ -5,7 +5,8 @@ use Rattle.book.specs.declared.Entry.{Entry}
 use Rattle.book.specs.declared.Meters.{Meters}
 use Rattle.book.specs.declared.Player.{Player}
 use Rattle.uses.specs.Uses.{stored, released-stored}
-use Rattle.events.specs.Settle.{length-mapped, with, settleOne, settle-turn, settle-all, released-out, settled-length, settledTo, settle-none}
+use Rattle.events.specs.Settle.{with, settleOne, settle-turn, settle-all, released-out, settled-length, settledTo, settle-none}
+use Rattle.laws.specs.Loops.{length-mapped}
 use mathlib.Core.Logic.{⊎-elim}
 use mathlib.Core.Path.{sym, ap, _∙_, _≡_}
 use Rattle.book.specs.declared.Book.{Book}

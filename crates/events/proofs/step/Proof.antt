@@ -3,7 +3,7 @@ use native.Mathlib.Omega.{arith}
 use borrow.Author.Tests.{lt-ltb}
 use Rattle.book.specs.declared.Gate.{Gate}
 use Rattle.model.specs.Events.{gate, stepBy, step}
-use Rattle.events.specs.Step.{take-timely}
+use Rattle.model.specs.Proof.Kept.{gate-passed}
 use borrow.Author.Needs.{needs}
 use Rattle.events.proofs.step.Statement.{statement}
 use Rattle.events.proofs.step.Tie as tie
@@ -43,7 +43,7 @@ enum-told-2 c = search needs
 
 taken-requires : tie.Need-taken-requires
 taken-requires c κs =
-    (omega (arith, c .before .before .before .before .before .before .if1 .left), take-timely _ _ _ (sym (c .before .before .gate-of .ensures) ∙ c .enum-told2 .given .1))
+    (omega (arith, c .before .before .before .before .before .before .if1 .left), gate-passed _ _ (sym (c .before .before .gate-of .ensures) ∙ c .enum-told2 .given .1) .early)
 
 returns-2 : tie.Need-returns-2
 unfolding step stepBy

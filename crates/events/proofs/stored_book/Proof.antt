@@ -7,7 +7,8 @@ use native.Mathlib.Omega.{arith}
 use Rattle.book.specs.declared.Entry.{Entry}
 use Rattle.book.specs.declared.Last.{Last}
 use Rattle.uses.specs.Uses.{placed, stored}
-use Rattle.events.specs.Settle.{with, length-mapped}
+use Rattle.events.specs.Settle.{with}
+use Rattle.laws.specs.Loops.{length-mapped}
 use Rattle.events.specs.Step.{storedBook, finished}
 use borrow.Author.Needs.{needs}
 use Rattle.events.proofs.stored_book.Statement.{statement}
