@@ -1,7 +1,7 @@
 // Reading an image, stages 24 and 25: the rules of assets, and of what entries allow.
 // Each function answers for every value of its types, whether an image can hold it or not.
 ghost use mathlib.Core.Path.{_≡_};
-ghost use Prim.Native.Nat.{ℕ, _≤_, min};
+ghost use Prim.Native.Nat.{_≤_, min};
 ghost use Rattle.model.specs.Book.{assetPosition, assetLegal, assetsLegal, limit, rangesLegal, limitsLegal, entriesLegal};
 use book::Asset;
 use book::Book;

@@ -2,7 +2,7 @@
 // Each function answers for every value of its types, whether an image can hold it or not.
 ghost use mathlib.Core.Path.{_≡_};
 ghost use mathlib.Core.Bool.{cond};
-ghost use Prim.Native.Nat.{ℕ, _≤_, _-_, min};
+ghost use Prim.Native.Nat.{_≤_, _-_, min};
 ghost use Rattle.laws.specs.Count.{one};
 ghost use Rattle.model.specs.Book.{meterLegal, startLegal, opens, openUses, lasts, openSeconds, metersCover, entryMetersLegal, metersLegal};
 use book::Book;

@@ -7,8 +7,7 @@ use native.Mathlib.Omega.{arith}
 use lib.ListN.{length, getD}
 use lib.Dec.{ltb, eqb}
 use borrow.Author.Tests.{ltb-false, eqb-true, not-false}
-use Rattle.laws.specs.Fields.{size}
-use Rattle.model.specs.Image.{markIn, versionIn, assetCountIn, entryCountIn, timeIn, imageLength, headerWidths, newest, headerBroken}
+use Rattle.model.specs.Image.{markIn, versionIn, assetCountIn, entryCountIn, timeIn, imageLength, newest, headerBroken}
 use Rattle.model.specs.Book.{latestTime}
 
 pub record HeaderStands (s : List ℕ) : Type 0 where

@@ -2,12 +2,12 @@
 // What the tables say is not judged here.
 ghost use mathlib.Core.Path.{_≡_};
 ghost use mathlib.Core.Bool.{cond};
-ghost use Prim.Native.Nat.{ℕ, _+_, _*_, _<_, _≤_};
-ghost use lib.ListN.{length, getD, drop};
+ghost use Prim.Native.Nat.{_+_, _*_, _<_, _≤_};
+ghost use lib.ListN.{length};
 ghost use lib.Dec.{eqb};
 ghost use Rattle.laws.specs.Fields.{bits16, bits32, numberAt};
 ghost use Rattle.book.specs.Blank.{noBook};
-ghost use Rattle.model.specs.Image.{assetIn, entryIn, playerIn, assetTable, entryTable, playerTable, assetCountIn, entryCountIn, imageLength, bookIn, headerBroken};
+ghost use Rattle.model.specs.Image.{assetIn, entryIn, playerIn, assetTable, entryTable, playerTable, bookIn, headerBroken};
 use book::Answer;
 use book::Asset;
 use book::Book;

@@ -2,7 +2,7 @@
 // Each function answers for every value of its types, whether an image can hold it or not.
 ghost use mathlib.Core.Path.{_≡_};
 ghost use mathlib.Core.Bool.{cond};
-ghost use Prim.Native.Nat.{ℕ, min};
+ghost use Prim.Native.Nat.{min};
 ghost use lib.ListN.{getD};
 ghost use Rattle.book.specs.Blank.{noEntry};
 ghost use Rattle.model.specs.Book.{playerBlank, requestLegal, answerLegal, insideDates, insideInterval, useLegal, openLegal, playerLegal, playersLegal};
