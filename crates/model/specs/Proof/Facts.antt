@@ -48,6 +48,10 @@ cond-off b x y e = rw e
 pub flag-on : (f : Bool) (v : ℕ) → f ≡ true → where-flagged f v ≡ v
 flag-on f v e = rw e
 
+pub flag-le : (f : Bool) (v : ℕ) → where-flagged f v ≤ v
+flag-le true v = omega arith
+flag-le false v = omega arith
+
 pub flag-add : (f : Bool) (v w : ℕ) → where-flagged f (v + w) ≡ where-flagged f v + where-flagged f w
 flag-add true v w = refl
 flag-add false v w = omega arith

@@ -73,16 +73,16 @@ ranges-tests : (l : Limits) → rangesLegal l ≡ true → Seven (limit (flagged
 unfolding rangesLegal
 ranges-tests l e = seven _ _ _ _ _ _ _ e
 
-limits-tests : (b : Book) (l : Limits) → limitsLegal b l ≡ true → Seven (between 1 65535 (l .object)) (inBook b (l .asset)) (between 1 5 (l .kind)) (leb (l .flags) 63) (rangesLegal l)
+limits-tests : (known : Bool) (l : Limits) → limitsLegal known l ≡ true → Seven (between 1 65535 (l .object)) known (between 1 5 (l .kind)) (leb (l .flags) 63) (rangesLegal l)
     (not (flagged 4 l && flagged 8 l) || leb (l .start) (l .end)) (not (momentary (l .kind)) || (not (flagged 32 l) && eqb (l .timer) 0))
 unfolding limitsLegal
-limits-tests b l e = seven _ _ _ _ _ _ _ e
+limits-tests known l e = seven _ _ _ _ _ _ _ e
 
-limits-lawful : (b : Book) (l : Limits) → limitsLegal b l ≡ true → Lawful l
-limits-lawful b l e =
-    let ranges = ranges-tests l (limits-tests b l e .e) in
+limits-lawful : (known : Bool) (l : Limits) → limitsLegal known l ≡ true → Lawful l
+limits-lawful known l e =
+    let ranges = ranges-tests l (limits-tests known l e .e) in
     record {
-      timer = λ m. eqb-true (l .timer) 0 (and-right (not (flagged 32 l)) (eqb (l .timer) 0) (rw m at (limits-tests b l e .g)));
+      timer = λ m. eqb-true (l .timer) 0 (and-right (not (flagged 32 l)) (eqb (l .timer) 0) (rw m at (limits-tests known l e .g)));
       interval = λ f.
           omega (arith, leb-true 1 (l .interval) (and-left (leb 1 (l .interval)) (leb (l .interval) 100000000) (limit-on (flagged 16 l) 1 100000000 (l .interval) (ranges .f) f)));
       end = λ f.
@@ -119,7 +119,7 @@ three false b c h = absurd (false≢true h)
 asset-tests : (b : Book) → Legal b → (i : ℕ) → i < assetsIn b → Three (between 1 65535 (assetAt (b .assets) i .number))
     (eqb (assetPosition (b .assets) (assetsIn b) (assetAt (b .assets) i .number)) i) (leb (assetAt (b .assets) i .key) 1)
 unfolding assetsLegal assetLegal
-asset-tests b g i h = three _ _ _ (all-below (assetLegal b) (assetsIn b) (broken-24 b (g .rules)) i h)
+asset-tests b g i h = three _ _ _ (all-below (λ j. assetLegal (b .assets) (assetsIn b) j (assetAt (b .assets) j)) (assetsIn b) (broken-24 b (g .rules)) i h)
 
 pub legal-grounds : (b : Book) → Legal b → Grounds b
 unfolding entriesIn entriesLegal
@@ -128,8 +128,8 @@ legal-grounds b g = record {
   entries = omega (arith, g .entrySlots);
   limits = λ i.
       on-test (ltb i (b .entrycount))
-      (λ q. limits-lawful b (limitsAt (b .entries) i)
-      (all-below (λ j. limitsLegal b (limitsAt (b .entries) j)) (entriesIn b) (broken-25 b (g .rules)) i
+      (λ q. limits-lawful (inBook b (limitsAt (b .entries) i .asset)) (limitsAt (b .entries) i)
+      (all-below (λ j. limitsLegal (inBook b (limitsAt (b .entries) j .asset)) (limitsAt (b .entries) j)) (entriesIn b) (broken-25 b (g .rules)) i
       (omega (arith, ltb-true i (b .entrycount) q, g .entryCount))))
       (λ q. subst (λ (x : Entry). Lawful (x .limits)) (sym (g .entriesBlank i (ltb-false i (b .entrycount) q))) blank-lawful);
   once = λ i h. eqb-true _ i (asset-tests b g i h .b);

@@ -29,7 +29,7 @@ use Rattle.book.specs.declared.Decoded.the-variants.{Invalid, Valid}
 use Rattle.book.specs.declared.Gate.{Gate}
 use Rattle.book.specs.declared.Gate.the-variants.{Refuse, Resend, Take}
 use Rattle.book.specs.Blank.{noEntry, noPlayer, closed}
-use Rattle.model.specs.Book.{limitsAt, metersAt, playerAt, assetsIn, entriesIn, latestTime, inBook, between, assetLegal, assetsLegal, limitsLegal, entriesLegal, playerBlank, requestLegal, takenCode, answerLegal, openLegal, playerLegal, openUses, openSeconds, Legal}
+use Rattle.model.specs.Book.{limitsAt, metersAt, playerAt, assetsIn, entriesIn, latestTime, inBook, between, assetLegal, assetsLegal, limitsLegal, entriesLegal, playerBlank, requestLegal, takenCode, answerLegal, openUses, openSeconds, Legal}
 use Rattle.model.specs.Image.{entryWidths, entryValues, playerWidths, playerValues, Typed, Bytes}
 use Rattle.model.specs.Events.{operationNumber, requestAsset, requestKind, recordWidths, recordField, kindOf, requestOf, eventIn, decoded, sameRequest, sameNumber, inLine, timely, gate, isOn, expired, shut, settled, catalogOf, Done, done, lastAt, openAt, noted, takenStep, stepBy, step, arrive, stepRecord}
 use Rattle.model.specs.Demand3.{answers, final}
@@ -40,7 +40,7 @@ use Rattle.model.specs.Proof.Held.{Lawful, shutO}
 use Rattle.model.specs.Proof.Concrete.{store-open, shut-at, shut-open}
 use Rattle.model.specs.Proof.Grounds.{all-below, legal-grounds}
 use Rattle.model.specs.Proof.KeptFacts.{row-passed, otherwise-at, all-of}
-use Rattle.model.specs.Proof.KeptRules.{Counted, MeterOk, OpenOk, Sound, Live, open-to, blank-current, unused-from, used-from, player-to, meter-to, Stages, stages-from, stages-to, entries-counted, no-player, sound-of}
+use Rattle.model.specs.Proof.KeptRules.{openPasses, playerPasses, lawfulIn, Counted, MeterOk, OpenOk, Sound, Live, open-to, blank-current, unused-from, used-from, player-to, meter-to, Stages, stages-from, stages-to, entries-counted, no-player, sound-of}
 use Rattle.model.specs.Proof.KeptMeters.{grant-most}
 use Rattle.model.specs.Proof.KeptEvents.{Part, settled-part, settled-live, AnswerOk, DoneOk, done-ok}
 
@@ -245,7 +245,7 @@ module _ (b : Book) (e : Event) (h : Legal b) (t : Passed b e) where
       (λ x. subst (λ (o : Open). isOn o ≡ true → T < o .until) (sym (ap (openAt (new .players)) x ∙ own-open)) (did-ok .live))
       (λ x. subst (λ (o : Open). isOn o ≡ true → T < o .until) (sym (other-open p x)) (settled-live T (b .players) p))
 
-  new-open : (p : ℕ) → openLegal new (openAt (new .players) p) ≡ true
+  new-open : (p : ℕ) → openPasses new (openAt (new .players) p) ≡ true
   unfolding entriesIn
   new-open p = open-to new (openAt (new .players) p) (new-sound .opens p) (new-live p)
 
@@ -257,7 +257,7 @@ module _ (b : Book) (e : Event) (h : Legal b) (t : Passed b e) where
   other-record : (p : ℕ) → (p ≡ e .player → ⊥) → playerAt (new .players) p ≡ shut T (playerAt (b .players) p)
   other-record p x = getD-set-other ps (e .player) p asker noPlayer x ∙ shut-at T (b .players) p
 
-  answer-legal : answerLegal new (did .answer) ≡ true
+  answer-legal : answerLegal (entriesIn new) (did .answer) ≡ true
   unfolding answerLegal entriesIn
   answer-legal =
       let a = did-ok .answer in
@@ -266,14 +266,14 @@ module _ (b : Book) (e : Event) (h : Legal b) (t : Passed b e) where
       (λ q. cond-on (eqb (did .answer .code) 0) _ _ q ∙ lt-ltb _ _ (a .grants q))
       (λ q. cond-off (eqb (did .answer .code) 0) _ _ q ∙ and-both (eq-eqb _ _ (a .refuses q .0)) (eq-eqb _ _ (a .refuses q .1))))
 
-  own-legal : playerLegal new asker ≡ true
+  own-legal : playerPasses new asker ≡ true
   own-legal =
       player-to new asker
       (λ q. absurd (omega (arith, eqb-true (e .number) 0 q, t .number)))
       (λ q. (request-legal (e .request), answer-legal))
-      (subst (λ (o : Open). openLegal new o ≡ true) own-open (new-open (e .player)))
+      (subst (λ (o : Open). openPasses new o ≡ true) own-open (new-open (e .player)))
 
-  other-legal : (p : ℕ) → p < 16 → (p ≡ e .player → ⊥) → playerLegal new (shut T (playerAt (b .players) p)) ≡ true
+  other-legal : (p : ℕ) → p < 16 → (p ≡ e .player → ⊥) → playerPasses new (shut T (playerAt (b .players) p)) ≡ true
   unfolding shut expired answerLegal entriesIn
   other-legal p k x =
       let y : Player = playerAt (b .players) p in
@@ -281,16 +281,16 @@ module _ (b : Book) (e : Event) (h : Legal b) (t : Passed b e) where
       player-to new (shut T y)
       (λ q. ap (λ (o : Open). playerBlank (record { last = y .last; current = o })) (still y (blank-current y (unused-from b y q l))) ∙ unused-from b y q l)
       (λ q. (used-from b y q l .0, used-from b y q l .1 .0))
-      (subst (λ (o : Open). openLegal new o ≡ true) (other-open p x ∙ shut-open T (b .players) p) (new-open p))
+      (subst (λ (o : Open). openPasses new o ≡ true) (other-open p x ∙ shut-open T (b .players) p) (new-open p))
     where
       still : (y : Player) → y .current ≡ closed → shutO T (y .current) ≡ y .current
       still y c = ap (shutO T) c ∙ sym c
 
-  players-legal : (p : ℕ) → p < 16 → playerLegal new (playerAt (new .players) p) ≡ true
+  players-legal : (p : ℕ) → p < 16 → playerPasses new (playerAt (new .players) p) ≡ true
   players-legal p k =
       on-same p (e .player)
-      (λ x. subst (λ (y : Player). playerLegal new y ≡ true) (sym (own-record p x)) own-legal)
-      (λ x. subst (λ (y : Player). playerLegal new y ≡ true) (sym (other-record p x)) (other-legal p k x))
+      (λ x. subst (λ (y : Player). playerPasses new y ≡ true) (sym (own-record p x)) own-legal)
+      (λ x. subst (λ (y : Player). playerPasses new y ≡ true) (sym (other-record p x)) (other-legal p k x))
 
   -- ## The stages
 
@@ -300,8 +300,8 @@ module _ (b : Book) (e : Event) (h : Legal b) (t : Passed b e) where
       let s = stages-from b (h .rules) in
       record {
         assets = s .assets;
-        entries = all-of (λ i. limitsLegal new (limitsAt (new .entries) i)) (entriesIn new)
-            (λ i k. subst (λ (l : Limits). limitsLegal b l ≡ true) (sym (limits-kept i)) (all-below (λ j. limitsLegal b (limitsAt (b .entries) j)) (entriesIn b) (s .entries) i k));
+        entries = all-of (λ i. lawfulIn new (limitsAt (new .entries) i)) (entriesIn new)
+            (λ i k. subst (λ (l : Limits). lawfulIn b l ≡ true) (sym (limits-kept i)) (all-below (λ j. lawfulIn b (limitsAt (b .entries) j)) (entriesIn b) (s .entries) i k));
         players = players-legal;
         meters = λ i k. meter-to new i (new-sound .meters i k);
       }

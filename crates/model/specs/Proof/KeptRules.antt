@@ -4,7 +4,7 @@ use mathlib.Core.Path.{_≡_, refl, sym, ap, _∙_}
 use Prim.Native.Nat.{ℕ, _+_, _-_, _≤_, _<_}
 use mathlib.Core.Bool.{Bool, true, false, not, _&&_, _||_, cond}
 use mathlib.Core.List.{[], _∷_}
-use lib.ListN.{List·getD-eq-default}
+use lib.ListN.{getD, List·getD-eq-default}
 use lib.Dec.{leb, ltb, eqb}
 use native.Mathlib.Omega.{arith}
 use borrow.Author.Tests.{eqb-true, eq-eqb, ltb-true, lt-ltb, leb-true, le-leb}
@@ -16,7 +16,7 @@ use Rattle.book.specs.declared.Entry.{Entry}
 use Rattle.book.specs.declared.Open.{Open}
 use Rattle.book.specs.declared.Player.{Player}
 use Rattle.book.specs.declared.Book.{Book}
-use Rattle.book.specs.Blank.{noMeters, closed, noPlayer}
+use Rattle.book.specs.Blank.{noMeters, noEntry, closed, noPlayer}
 use Rattle.model.specs.Book.{
   limitsAt,
   metersAt,
@@ -46,6 +46,9 @@ use Rattle.model.specs.Book.{
   entriesLegal,
   ruleBroken,
   Legal,
+  openEntry,
+  limitsLegal,
+  inBook,
 }
 use Rattle.model.specs.Events.{isOn, openAt}
 use Rattle.model.specs.Proof.Facts.{on-test, clash, and-both, cond-on, cond-off}
@@ -108,6 +111,23 @@ pub record Sound (T n : ℕ) (lim : ℕ → Limits) (met : ℕ → Meters) (opn 
 abbrev pub Live : ℕ → (ℕ → Open) → Type 0
 Live T opn = (p : ℕ) → isOn (opn p) ≡ true → T < opn p .until
 
+-- ## The reader's tests, of a book
+
+abbrev pub lawfulIn : Book → Limits → Bool
+lawfulIn b l = limitsLegal (inBook b (l .asset)) l
+
+abbrev usePasses : Book → Open → Bool
+usePasses b o = useLegal (b .time) (entriesIn b) (getD (b .entries) (o .entry) noEntry) o
+
+abbrev pub openPasses : Book → Open → Bool
+openPasses b o = openLegal (b .time) (entriesIn b) (getD (b .entries) (o .entry) noEntry) o
+
+abbrev pub playerPasses : Book → Player → Bool
+playerPasses b x = playerLegal (b .time) (entriesIn b) (openEntry (b .entries) x) x
+
+abbrev pub metersPass : Book → ℕ → Bool
+metersPass b i = entryMetersLegal (b .time) (b .players) i (getD (b .entries) i noEntry)
+
 -- ## Open uses
 
 pub open-closed : (o : Open) → o .on ≡ 0 → o .entry ≡ 0 → o .begin ≡ 0 → o .until ≡ 0 → o ≡ closed
@@ -123,7 +143,7 @@ module _ (b : Book) (o : Open) where
   abbrev m : Meters
   m = metersAt (b .entries) (o .entry)
 
-  use-tests : useLegal b o ≡ true → (leb (o .begin) (b .time) ≡ true) × Pass (ltb (b .time) (o .until) ∷ leb (o .until) (b .time + grantLength (l .kind)) ∷ ltb (o .entry) (entriesIn b) ∷ between 1 3 (l .kind) ∷ insideDates o l ∷ insideInterval o l m ∷ [])
+  use-tests : usePasses b o ≡ true → (leb (o .begin) (b .time) ≡ true) × Pass (ltb (b .time) (o .until) ∷ leb (o .until) (b .time + grantLength (l .kind)) ∷ ltb (o .entry) (entriesIn b) ∷ between 1 3 (l .kind) ∷ insideDates o l ∷ insideInterval o l m ∷ [])
   unfolding useLegal
   use-tests e = row-passed _ (ltb (b .time) (o .until) ∷ leb (o .until) (b .time + grantLength (l .kind)) ∷ ltb (o .entry) (entriesIn b) ∷ between 1 3 (l .kind) ∷ insideDates o l ∷ insideInterval o l m ∷ []) e
 
@@ -135,7 +155,7 @@ module _ (b : Book) (o : Open) where
   unfolding insideInterval
   interval-tests e f = row-passed _ (leb (m .first) (o .begin) ∷ leb (o .until) (m .first + l .interval) ∷ []) (implied-at (flagged 16 l) _ e f)
 
-  use-from : useLegal b o ≡ true → UseOk (b .time) (entriesIn b) l m o
+  use-from : usePasses b o ≡ true → UseOk (b .time) (entriesIn b) l m o
   use-from e =
       let h = use-tests e in
       let d = date-tests (h .1 .1 .1 .1 .1 .0) in
@@ -151,7 +171,7 @@ module _ (b : Book) (o : Open) where
         span = λ f. leb-true _ _ (interval-tests (h .1 .1 .1 .1 .1 .1 .0) f .1 .1 .0);
       }
 
-  use-to : UseOk (b .time) (entriesIn b) l m o → b .time < o .until → useLegal b o ≡ true
+  use-to : UseOk (b .time) (entriesIn b) l m o → b .time < o .until → usePasses b o ≡ true
   unfolding useLegal insideDates insideInterval
   use-to u h =
       and-both (and-both (and-both (and-both (and-both (and-both
@@ -166,34 +186,34 @@ module _ (b : Book) (o : Open) where
       (implied (flagged 16 l) (eqb (m .started) 1 && leb (m .first) (o .begin) && leb (o .until) (m .first + l .interval))
       (λ f. and-both (and-both (eq-eqb _ _ (u .started f)) (le-leb _ _ (u .since f))) (le-leb _ _ (u .span f))))
 
-  open-tests : eqb (o .on) 0 ≡ false → openLegal b o ≡ true → (eqb (o .on) 1 ≡ true) × Pass (useLegal b o ∷ [])
+  open-tests : eqb (o .on) 0 ≡ false → openPasses b o ≡ true → (eqb (o .on) 1 ≡ true) × Pass (usePasses b o ∷ [])
   unfolding openLegal
-  open-tests q e = row-passed _ (useLegal b o ∷ []) (sym (cond-off (eqb (o .on) 0) _ _ q) ∙ e)
+  open-tests q e = row-passed _ (usePasses b o ∷ []) (sym (cond-off (eqb (o .on) 0) _ _ q) ∙ e)
 
-  closed-tests : eqb (o .on) 0 ≡ true → openLegal b o ≡ true → o ≡ closed
+  closed-tests : eqb (o .on) 0 ≡ true → openPasses b o ≡ true → o ≡ closed
   unfolding openLegal
   closed-tests q e =
       let h = row-passed (eqb (o .entry) 0) (eqb (o .begin) 0 ∷ eqb (o .until) 0 ∷ []) (sym (cond-on (eqb (o .on) 0) _ _ q) ∙ e) in
       open-closed o (eqb-true _ _ q) (eqb-true _ _ (h .0)) (eqb-true _ _ (h .1 .0)) (eqb-true _ _ (h .1 .1 .0))
 
-  on-use : openLegal b o ≡ true → isOn o ≡ true → useLegal b o ≡ true
+  on-use : openPasses b o ≡ true → isOn o ≡ true → usePasses b o ≡ true
   on-use e q =
       on-test (eqb (o .on) 0)
       (λ z. absurd (zero-not-one (o .on) (eqb-true _ _ z) q))
       (λ z. open-tests z e .1 .0)
 
-  pub open-from : openLegal b o ≡ true → OpenOk (b .time) (entriesIn b) (limitsAt (b .entries)) (metersAt (b .entries)) o
+  pub open-from : openPasses b o ≡ true → OpenOk (b .time) (entriesIn b) (limitsAt (b .entries)) (metersAt (b .entries)) o
   open-from e = record {
     shut = λ q. on-test (eqb (o .on) 0) (λ z. closed-tests z e) (λ z. clash (open-tests z e .0) q);
     runs = λ q. use-from (on-use e q);
   }
 
-  pub open-to : OpenOk (b .time) (entriesIn b) (limitsAt (b .entries)) (metersAt (b .entries)) o → (isOn o ≡ true → b .time < o .until) → openLegal b o ≡ true
+  pub open-to : OpenOk (b .time) (entriesIn b) (limitsAt (b .entries)) (metersAt (b .entries)) o → (isOn o ≡ true → b .time < o .until) → openPasses b o ≡ true
   unfolding openLegal
   open-to h live =
       on-test (isOn o)
       (λ q. cond-off (eqb (o .on) 0) _ _ (one-not-zero q) ∙ and-both q (use-to (h .runs q) (live q)))
-      (λ q. ap (λ (x : Open). openLegal b x) (h .shut q))
+      (λ q. ap (λ (x : Open). openPasses b x) (h .shut q))
     where
       one-not-zero : eqb (o .on) 1 ≡ true → eqb (o .on) 0 ≡ false
       one-not-zero q = on-test (eqb (o .on) 0) (λ z. absurd (zero-not-one (o .on) (eqb-true _ _ z) q)) (λ z. z)
@@ -215,21 +235,21 @@ blank-current x e =
     open-closed (x .current) (eqb-true _ _ (c .0)) (eqb-true _ _ (c .1 .0)) (eqb-true _ _ (c .1 .1 .0)) (eqb-true _ _ (c .1 .1 .1 .0))
 
 module _ (b : Book) (x : Player) where
-  pub unused-from : eqb (x .last .number) 0 ≡ true → playerLegal b x ≡ true → playerBlank x ≡ true
+  pub unused-from : eqb (x .last .number) 0 ≡ true → playerPasses b x ≡ true → playerBlank x ≡ true
   unfolding playerLegal
   unused-from q e = sym (cond-on (eqb (x .last .number) 0) _ _ q) ∙ e
 
-  pub used-from : eqb (x .last .number) 0 ≡ false → playerLegal b x ≡ true → (requestLegal (x .last .operation) (x .last .asset) (x .last .kind) ≡ true) × Pass (answerLegal b (x .last .answer) ∷ openLegal b (x .current) ∷ [])
+  pub used-from : eqb (x .last .number) 0 ≡ false → playerPasses b x ≡ true → (requestLegal (x .last .operation) (x .last .asset) (x .last .kind) ≡ true) × Pass (answerLegal (entriesIn b) (x .last .answer) ∷ openPasses b (x .current) ∷ [])
   unfolding playerLegal
-  used-from q e = row-passed _ (answerLegal b (x .last .answer) ∷ openLegal b (x .current) ∷ []) (sym (cond-off (eqb (x .last .number) 0) _ _ q) ∙ e)
+  used-from q e = row-passed _ (answerLegal (entriesIn b) (x .last .answer) ∷ openPasses b (x .current) ∷ []) (sym (cond-off (eqb (x .last .number) 0) _ _ q) ∙ e)
 
-  player-open : playerLegal b x ≡ true → OpenOk (b .time) (entriesIn b) (limitsAt (b .entries)) (metersAt (b .entries)) (x .current)
+  player-open : playerPasses b x ≡ true → OpenOk (b .time) (entriesIn b) (limitsAt (b .entries)) (metersAt (b .entries)) (x .current)
   player-open e =
       on-test (eqb (x .last .number) 0)
       (λ q. rw (blank-current x (unused-from q e)) (closed-ok (b .time) (entriesIn b) (limitsAt (b .entries)) (metersAt (b .entries))))
       (λ q. open-from b (x .current) (used-from q e .1 .1 .0))
 
-  pub player-to : (eqb (x .last .number) 0 ≡ true → playerBlank x ≡ true) → (eqb (x .last .number) 0 ≡ false → (requestLegal (x .last .operation) (x .last .asset) (x .last .kind) ≡ true) × (answerLegal b (x .last .answer) ≡ true)) → openLegal b (x .current) ≡ true → playerLegal b x ≡ true
+  pub player-to : (eqb (x .last .number) 0 ≡ true → playerBlank x ≡ true) → (eqb (x .last .number) 0 ≡ false → (requestLegal (x .last .operation) (x .last .asset) (x .last .kind) ≡ true) × (answerLegal (entriesIn b) (x .last .answer) ≡ true)) → openPasses b (x .current) ≡ true → playerPasses b x ≡ true
   unfolding playerLegal
   player-to blank used runs =
       on-test (eqb (x .last .number) 0)
@@ -264,19 +284,19 @@ module _ (b : Book) (i : ℕ) where
   abbrev mᵢ : Meters
   mᵢ = metersAt (b .entries) i
 
-  meter-tests : entryMetersLegal b i ≡ true → (meterLegal (flagged 1 lᵢ) (lᵢ .count) (mᵢ .count) ≡ true) × Pass (meterLegal (flagged 2 lᵢ) (lᵢ .timed) (mᵢ .timed) ∷ meterLegal (flagged 32 lᵢ) (lᵢ .accumulated) (mᵢ .seconds) ∷ startLegal b lᵢ mᵢ ∷ metersCover b i ∷ [])
+  meter-tests : metersPass b i ≡ true → (meterLegal (flagged 1 lᵢ) (lᵢ .count) (mᵢ .count) ≡ true) × Pass (meterLegal (flagged 2 lᵢ) (lᵢ .timed) (mᵢ .timed) ∷ meterLegal (flagged 32 lᵢ) (lᵢ .accumulated) (mᵢ .seconds) ∷ startLegal (b .time) lᵢ mᵢ ∷ metersCover (openUses (b .players) i) (openSeconds (b .players) i) lᵢ mᵢ ∷ [])
   unfolding entryMetersLegal
-  meter-tests e = row-passed _ (meterLegal (flagged 2 lᵢ) (lᵢ .timed) (mᵢ .timed) ∷ meterLegal (flagged 32 lᵢ) (lᵢ .accumulated) (mᵢ .seconds) ∷ startLegal b lᵢ mᵢ ∷ metersCover b i ∷ []) e
+  meter-tests e = row-passed _ (meterLegal (flagged 2 lᵢ) (lᵢ .timed) (mᵢ .timed) ∷ meterLegal (flagged 32 lᵢ) (lᵢ .accumulated) (mᵢ .seconds) ∷ startLegal (b .time) lᵢ mᵢ ∷ metersCover (openUses (b .players) i) (openSeconds (b .players) i) lᵢ mᵢ ∷ []) e
 
-  start-tests : startLegal b lᵢ mᵢ ≡ true → (leb (mᵢ .started) 1 ≡ true) × Pass ((flagged 16 lᵢ || eqb (mᵢ .started) 0) ∷ (eqb (mᵢ .started) 1 || eqb (mᵢ .first) 0) ∷ leb (mᵢ .first) (b .time) ∷ [])
+  start-tests : startLegal (b .time) lᵢ mᵢ ≡ true → (leb (mᵢ .started) 1 ≡ true) × Pass ((flagged 16 lᵢ || eqb (mᵢ .started) 0) ∷ (eqb (mᵢ .started) 1 || eqb (mᵢ .first) 0) ∷ leb (mᵢ .first) (b .time) ∷ [])
   unfolding startLegal
   start-tests e = row-passed _ ((flagged 16 lᵢ || eqb (mᵢ .started) 0) ∷ (eqb (mᵢ .started) 1 || eqb (mᵢ .first) 0) ∷ leb (mᵢ .first) (b .time) ∷ []) e
 
-  cover-tests : metersCover b i ≡ true → ((not (flagged 1 lᵢ) || leb (openUses b i) (mᵢ .count)) ≡ true) × Pass ((not (flagged 2 lᵢ) || leb (openUses b i) (mᵢ .timed)) ∷ (not (flagged 32 lᵢ) || leb (openSeconds b i) (mᵢ .seconds)) ∷ [])
+  cover-tests : metersCover (openUses (b .players) i) (openSeconds (b .players) i) lᵢ mᵢ ≡ true → ((not (flagged 1 lᵢ) || leb (openUses (b .players) i) (mᵢ .count)) ≡ true) × Pass ((not (flagged 2 lᵢ) || leb (openUses (b .players) i) (mᵢ .timed)) ∷ (not (flagged 32 lᵢ) || leb (openSeconds (b .players) i) (mᵢ .seconds)) ∷ [])
   unfolding metersCover
-  cover-tests e = row-passed _ ((not (flagged 2 lᵢ) || leb (openUses b i) (mᵢ .timed)) ∷ (not (flagged 32 lᵢ) || leb (openSeconds b i) (mᵢ .seconds)) ∷ []) e
+  cover-tests e = row-passed _ ((not (flagged 2 lᵢ) || leb (openUses (b .players) i) (mᵢ .timed)) ∷ (not (flagged 32 lᵢ) || leb (openSeconds (b .players) i) (mᵢ .seconds)) ∷ []) e
 
-  meter-from : entryMetersLegal b i ≡ true → MeterOk (b .time) lᵢ mᵢ (openUses b i) (openSeconds b i)
+  meter-from : metersPass b i ≡ true → MeterOk (b .time) lᵢ mᵢ (openUses (b .players) i) (openSeconds (b .players) i)
   meter-from e =
       let h = meter-tests e in
       let s = start-tests (h .1 .1 .1 .0) in
@@ -291,7 +311,7 @@ module _ (b : Book) (i : ℕ) where
         past = leb-true _ _ (s .1 .1 .1 .0);
       }
 
-  pub meter-to : MeterOk (b .time) lᵢ mᵢ (openUses b i) (openSeconds b i) → entryMetersLegal b i ≡ true
+  pub meter-to : MeterOk (b .time) lᵢ mᵢ (openUses (b .players) i) (openSeconds (b .players) i) → metersPass b i ≡ true
   unfolding entryMetersLegal startLegal metersCover
   meter-to h =
       and-both (and-both (and-both (and-both
@@ -313,8 +333,8 @@ module _ (b : Book) (i : ℕ) where
 pub record Stages (b : Book) : Type 0 where
   pub assets : assetsLegal b ≡ true
   pub entries : entriesLegal b ≡ true
-  pub players : (p : ℕ) → p < 16 → playerLegal b (playerAt (b .players) p) ≡ true
-  pub meters : (i : ℕ) → i < entriesIn b → entryMetersLegal b i ≡ true
+  pub players : (p : ℕ) → p < 16 → playerPasses b (playerAt (b .players) p) ≡ true
+  pub meters : (i : ℕ) → i < entriesIn b → metersPass b i ≡ true
 
 passed : (t : Bool) (c r : ℕ) → 0 < c → cond (not t) c r ≡ 0 → (t ≡ true) × (r ≡ 0)
 passed true c r h e = (refl, e)
@@ -333,7 +353,7 @@ pub stages-to : (b : Book) → Stages b → ruleBroken b ≡ 0
 unfolding ruleBroken playersLegal metersLegal
 stages-to b h =
     go (assetsLegal b) (entriesLegal b) (playersLegal b) (metersLegal b) (h .assets) (h .entries)
-    (all-of (λ p. playerLegal b (playerAt (b .players) p)) 16 (h .players)) (all-of (entryMetersLegal b) (entriesIn b) (h .meters))
+    (all-of (λ p. playerPasses b (playerAt (b .players) p)) 16 (h .players)) (all-of (metersPass b) (entriesIn b) (h .meters))
   where
     go : (p q r s : Bool) → p ≡ true → q ≡ true → r ≡ true → s ≡ true → _≡_ {A = ℕ} (cond (not p) 24 (cond (not q) 25 (cond (not r) 26 (cond (not s) 27 0)))) 0
     go p q r s a b c d = rw (a, b, c, d)
