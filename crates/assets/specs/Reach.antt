@@ -7,7 +7,7 @@ use lib.Dec.{eqb}
 use borrow.Author.Tests.{lt-ltb, le-ltb}
 use native.Mathlib.Omega.{arith}
 use Rattle.laws.specs.Count.{first}
-use Rattle.assets.specs.Search.{first-found}
+use Rattle.laws.specs.Loops.{first-found}
 use Rattle.book.specs.declared.Asset.{Asset}
 use Rattle.book.specs.declared.Book.{Book}
 use Rattle.book.specs.Blank.{noAsset}

@@ -1,2 +1,6 @@
+pub mod Buffer
 pub mod Count
 pub mod Fields
+pub mod FieldLaws
+pub mod TableLaws
+pub mod Loops

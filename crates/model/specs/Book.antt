@@ -90,14 +90,15 @@ limit flag a z v = cond flag (between a z v) (eqb v 0)
 -- ## 24, asset rules
 
 -- "number (1 to 65535, each once), key (0 or 1, whether it holds a KeyInfo), inherit (asset number, 0 for none)"
-unfoldable pub assetLegal : Book → ℕ → Bool
-assetLegal b i =
-    between 1 65535 (assetAt (b .assets) i .number)
-    && eqb (assetPosition (b .assets) (assetsIn b) (assetAt (b .assets) i .number)) i
-    && leb (assetAt (b .assets) i .key) 1
+-- The asset a stands at position i, and is the first with its number.
+unfoldable pub assetLegal : List Asset → ℕ → ℕ → Asset → Bool
+assetLegal ats n i a =
+    between 1 65535 (a .number)
+    && eqb (assetPosition ats n (a .number)) i
+    && leb (a .key) 1
 
 unfoldable pub assetsLegal : Book → Bool
-assetsLegal b = all (assetLegal b) (assetsIn b)
+assetsLegal b = all (λ i. assetLegal (b .assets) (assetsIn b) i (assetAt (b .assets) i)) (assetsIn b)
 
 -- ## 25, entry rules
 
@@ -114,11 +115,11 @@ rangesLegal l =
     && limit (flagged 32 l) leastLimit 100000000 (l .accumulated)
 
 -- "rights object number (1 to 65535), asset (in the book), kind ..., flags, limits"; "start at most end where both are flagged";
--- momentary: "no accumulated, timer 0"
-unfoldable pub limitsLegal : Book → Limits → Bool
-limitsLegal b l =
+-- momentary: "no accumulated, timer 0". Whether the asset is in the book is told.
+unfoldable pub limitsLegal : Bool → Limits → Bool
+limitsLegal known l =
     between 1 65535 (l .object)
-    && inBook b (l .asset)
+    && known
     && between 1 5 (l .kind)
     && leb (l .flags) 63
     && rangesLegal l
@@ -126,7 +127,7 @@ limitsLegal b l =
     && (not (momentary (l .kind)) || (not (flagged 32 l) && eqb (l .timer) 0))
 
 unfoldable pub entriesLegal : Book → Bool
-entriesLegal b = all (λ i. limitsLegal b (limitsAt (b .entries) i)) (entriesIn b)
+entriesLegal b = all (λ i. limitsLegal (inBook b (limitsAt (b .entries) i .asset)) (limitsAt (b .entries) i)) (entriesIn b)
 
 -- ## 26, players
 
@@ -155,12 +156,12 @@ requestLegal operation asset kind =
 unfoldable pub takenCode : ℕ → Bool
 takenCode c = eqb c 0 || between 10 15 c
 
--- "entry a position if code 0, else entry 255 and until 0"
-unfoldable pub answerLegal : Book → Answer → Bool
-answerLegal b a =
+-- "entry a position if code 0, else entry 255 and until 0"; n entries
+unfoldable pub answerLegal : ℕ → Answer → Bool
+answerLegal n a =
     takenCode (a .code)
     && cond (eqb (a .code) 0)
-    (ltb (a .entry) (entriesIn b))
+    (ltb (a .entry) n)
     (eqb (a .entry) 255 && eqb (a .until) 0)
 
 -- "[begin, until) inside its flagged dates and, where flagged, an interval with started 1"
@@ -175,34 +176,42 @@ insideInterval o l m =
     || (eqb (m .started) 1 && leb (m .first) (o .begin) && leb (o .until) (m .first + l .interval))
 
 -- "begin ≤ book time < until ≤ book time + 60, an open entry that is a position of kind 1 to 3, and ..."
-unfoldable pub useLegal : Book → Open → Bool
-useLegal b o =
-    leb (o .begin) (b .time)
-    && ltb (b .time) (o .until)
-    && leb (o .until) (b .time + grantLength (limitsAt (b .entries) (o .entry) .kind))
-    && ltb (o .entry) (entriesIn b)
-    && between 1 3 (limitsAt (b .entries) (o .entry) .kind)
-    && insideDates o (limitsAt (b .entries) (o .entry))
-    && insideInterval o (limitsAt (b .entries) (o .entry)) (metersAt (b .entries) (o .entry))
+-- The open entry is e, of n entries.
+unfoldable pub useLegal : ℕ → ℕ → Entry → Open → Bool
+useLegal time n e o =
+    leb (o .begin) time
+    && ltb time (o .until)
+    && leb (o .until) (time + grantLength (e .limits .kind))
+    && ltb (o .entry) n
+    && between 1 3 (e .limits .kind)
+    && insideDates o (e .limits)
+    && insideInterval o (e .limits) (e .meters)
 
 -- "open 0 or 1, closed means its fields 0; open means ..."
-unfoldable pub openLegal : Book → Open → Bool
-openLegal b o =
+unfoldable pub openLegal : ℕ → ℕ → Entry → Open → Bool
+openLegal time n e o =
     cond (eqb (o .on) 0)
     (eqb (o .entry) 0 && eqb (o .begin) 0 && eqb (o .until) 0)
-    (eqb (o .on) 1 && useLegal b o)
+    (eqb (o .on) 1 && useLegal time n e o)
 
 -- "number 0 means all 0 and is not judged further; request as for events; code ...; open ..."
-unfoldable pub playerLegal : Book → Player → Bool
-playerLegal b p =
+unfoldable pub playerLegal : ℕ → ℕ → Entry → Player → Bool
+playerLegal time n e p =
     cond (eqb (p .last .number) 0)
     (playerBlank p)
     (requestLegal (p .last .operation) (p .last .asset) (p .last .kind)
-    && answerLegal b (p .last .answer)
-    && openLegal b (p .current))
+    && answerLegal n (p .last .answer)
+    && openLegal time n e (p .current))
+
+-- the entry that a player's open use names
+abbrev pub openEntry : List Entry → Player → Entry
+openEntry es p = getD es (p .current .entry) noEntry
 
 unfoldable pub playersLegal : Book → Bool
-playersLegal b = all (λ p. playerLegal b (playerAt (b .players) p)) 16
+playersLegal b =
+    all
+    (λ p. playerLegal (b .time) (entriesIn b) (openEntry (b .entries) (playerAt (b .players) p)) (playerAt (b .players) p))
+    16
 
 -- ## 27, meters
 
@@ -211,44 +220,45 @@ unfoldable pub meterLegal : Bool → ℕ → ℕ → Bool
 meterLegal flag most used = cond flag (leb used most) (eqb used 0)
 
 -- "started 0 or 1, first 0 if not, first ≤ book time"; unflagged, both are 0
-unfoldable pub startLegal : Book → Limits → Meters → Bool
-startLegal b l m =
+unfoldable pub startLegal : ℕ → Limits → Meters → Bool
+startLegal time l m =
     leb (m .started) 1
     && (flagged 16 l || eqb (m .started) 0)
     && (eqb (m .started) 1 || eqb (m .first) 0)
-    && leb (m .first) (b .time)
+    && leb (m .first) time
 
 -- whether the player has an open use of entry i
 unfoldable pub opens : ℕ → Open → Bool
 opens i o = eqb (o .on) 1 && eqb (o .entry) i
 
 -- "the entry's open uses", and "their until − begin summed"
-unfoldable pub openUses : Book → ℕ → ℕ
-openUses b i = sum (λ p. one (opens i (playerAt (b .players) p .current))) 16
+unfoldable pub openUses : List Player → ℕ → ℕ
+openUses ps i = sum (λ p. one (opens i (playerAt ps p .current))) 16
 
-unfoldable pub openSeconds : Book → ℕ → ℕ
-openSeconds b i =
-    sum
-    (λ p. cond (opens i (playerAt (b .players) p .current)) (playerAt (b .players) p .current .until - playerAt (b .players) p .current .begin) 0)
-    16
+-- the seconds from a use's begin to its until
+abbrev pub lasts : Open → ℕ
+lasts o = o .until - o .begin
+
+unfoldable pub openSeconds : List Player → ℕ → ℕ
+openSeconds ps i = sum (λ p. cond (opens i (playerAt ps p .current)) (lasts (playerAt ps p .current)) 0) 16
 
 -- "Where flagged, used count and used timed are at least the entry's open uses, and used seconds at least their until − begin summed."
-unfoldable pub metersCover : Book → ℕ → Bool
-metersCover b i =
-    (not (flagged 1 (limitsAt (b .entries) i)) || leb (openUses b i) (metersAt (b .entries) i .count))
-    && (not (flagged 2 (limitsAt (b .entries) i)) || leb (openUses b i) (metersAt (b .entries) i .timed))
-    && (not (flagged 32 (limitsAt (b .entries) i)) || leb (openSeconds b i) (metersAt (b .entries) i .seconds))
+unfoldable pub metersCover : ℕ → ℕ → Limits → Meters → Bool
+metersCover uses seconds l m =
+    (not (flagged 1 l) || leb uses (m .count))
+    && (not (flagged 2 l) || leb uses (m .timed))
+    && (not (flagged 32 l) || leb seconds (m .seconds))
 
-unfoldable pub entryMetersLegal : Book → ℕ → Bool
-entryMetersLegal b i =
-    meterLegal (flagged 1 (limitsAt (b .entries) i)) (limitsAt (b .entries) i .count) (metersAt (b .entries) i .count)
-    && meterLegal (flagged 2 (limitsAt (b .entries) i)) (limitsAt (b .entries) i .timed) (metersAt (b .entries) i .timed)
-    && meterLegal (flagged 32 (limitsAt (b .entries) i)) (limitsAt (b .entries) i .accumulated) (metersAt (b .entries) i .seconds)
-    && startLegal b (limitsAt (b .entries) i) (metersAt (b .entries) i)
-    && metersCover b i
+unfoldable pub entryMetersLegal : ℕ → List Player → ℕ → Entry → Bool
+entryMetersLegal time ps i e =
+    meterLegal (flagged 1 (e .limits)) (e .limits .count) (e .meters .count)
+    && meterLegal (flagged 2 (e .limits)) (e .limits .timed) (e .meters .timed)
+    && meterLegal (flagged 32 (e .limits)) (e .limits .accumulated) (e .meters .seconds)
+    && startLegal time (e .limits) (e .meters)
+    && metersCover (openUses ps i) (openSeconds ps i) (e .limits) (e .meters)
 
 unfoldable pub metersLegal : Book → Bool
-metersLegal b = all (entryMetersLegal b) (entriesIn b)
+metersLegal b = all (λ i. entryMetersLegal (b .time) (b .players) i (getD (b .entries) i noEntry)) (entriesIn b)
 
 -- ## The stages in their order
 

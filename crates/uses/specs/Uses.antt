@@ -62,20 +62,20 @@ releasedOn t l m o = cond (expired t o) (ended (o .begin) (o .until) (o .until) 
 -- ## Put back into the entries
 
 -- the meters of entry i become m
-unfoldable pub withMeters : ℕ → Meters → List Entry → List Entry
-withMeters i m es = set es i (record { limits = limitsAt es i; meters = m })
+unfoldable pub stored : ℕ → Meters → List Entry → List Entry
+stored i m es = set es i (record { limits = limitsAt es i; meters = m })
 
 -- what an operation on entry i leaves
 unfoldable pub placed : ℕ → Part → List Entry → Done
-placed i p es = record { answer = p .answer; entries = withMeters i (p .meters) es; current = p .current }
+placed i p es = record { answer = p .answer; entries = stored i (p .meters) es; current = p .current }
 
-pub with-meters-same : (i : ℕ) (es : List Entry) → withMeters i (metersAt es i) es ≡ es
-unfolding withMeters
-with-meters-same i es = set-getD es i noEntry
+pub stored-same : (i : ℕ) (es : List Entry) → stored i (metersAt es i) es ≡ es
+unfolding stored
+stored-same i es = set-getD es i noEntry
 
 kept-placed : (i code : ℕ) (es : List Entry) (o : Open) → placed i (kept code (metersAt es i) o) es ≡ unchanged code es o
 unfolding placed
-kept-placed i code es o = ap (λ (x : List Entry). unchanged code x o) (with-meters-same i es)
+kept-placed i code es o = ap (λ (x : List Entry). unchanged code x o) (stored-same i es)
 
 -- a grantable entry, at a time that an event may have
 pub begin-on-granted :
@@ -96,7 +96,7 @@ pub begin-placed :
     grantable t (limitsAt es i) (metersAt es i) ≡ true →
     t ≤ latestTime →
     placed i (beginOn i t (limitsAt es i) (metersAt es i) o) es ≡ granted t es o (chosen i)
-unfolding placed withMeters amend
+unfolding placed stored amend
 begin-placed i t es o g h = rw (begin-on-granted i t (limitsAt es i) (metersAt es i) o g h)
 
 continue-cases :
@@ -117,7 +117,7 @@ continue-cases :
       entries = amend (o .entry) (continued (o .until) (more es o t)) es;
       current = record { on = 1; entry = o .entry; begin = o .begin; until = more es o t };
     }))
-unfolding placed withMeters amend
+unfolding placed stored amend
 continue-cases false some t es o = kept-placed (o .entry) 14 es o
 continue-cases true true t es o = kept-placed (o .entry) 15 es o
 continue-cases true false t es o = refl
@@ -145,8 +145,8 @@ stop-cases :
       entries = amend (o .entry) (ended (o .begin) (o .until) t) es;
       current = closed;
     })
-unfolding placed withMeters amend
-stop-cases false t es o = ap (λ (x : List Entry). unchanged 14 x o) (with-meters-same (o .entry) es)
+unfolding placed stored amend
+stop-cases false t es o = ap (λ (x : List Entry). unchanged 14 x o) (stored-same (o .entry) es)
 stop-cases true t es o = refl
 
 pub stop-placed :
@@ -157,15 +157,15 @@ stop-placed t es o = stop-cases (isOn o) t es o
 
 release-cases :
     (w : Bool) (t : ℕ) (es : List Entry) (o : Open) →
-    withMeters (o .entry) (cond w (ended (o .begin) (o .until) (o .until) (limitsAt es (o .entry)) (metersAt es (o .entry))) (metersAt es (o .entry))) es
+    stored (o .entry) (cond w (ended (o .begin) (o .until) (o .until) (limitsAt es (o .entry)) (metersAt es (o .entry))) (metersAt es (o .entry))) es
     ≡ cond w (amend (o .entry) (ended (o .begin) (o .until) (o .until)) es) es
-unfolding withMeters amend
+unfolding stored amend
 release-cases true t es o = refl
 release-cases false t es o = set-getD es (o .entry) noEntry
 
 -- the settling of one use, by the meters of its entry
-pub released-with-meters :
+pub released-stored :
     (t : ℕ) (es : List Entry) (o : Open) →
-    withMeters (o .entry) (releasedOn t (limitsAt es (o .entry)) (metersAt es (o .entry)) o) es ≡ released t o es
+    stored (o .entry) (releasedOn t (limitsAt es (o .entry)) (metersAt es (o .entry)) o) es ≡ released t o es
 unfolding releasedOn released
-released-with-meters t es o = release-cases (expired t o) t es o
+released-stored t es o = release-cases (expired t o) t es o

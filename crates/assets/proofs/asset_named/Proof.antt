@@ -1,5 +1,5 @@
 use Rattle.assets.specs.Reach.{numbered, found-at, found-none}
-use Rattle.assets.specs.Search.{first-on}
+use Rattle.laws.specs.Loops.{first-on}
 use Rattle.laws.specs.Count.{first}
 use borrow.Author.Tests.{eq-eqb, ne-eqb}
 use native.Mathlib.Nat.{min-le-right}

@@ -1,0 +1,12 @@
+use mathlib.Core.Path.{refl}
+use Rattle.model.specs.Book.{requestLegal}
+use Rattle.decode.proofs.request_legal.Statement.{statement}
+use Rattle.decode.proofs.request_legal.Tie as tie
+
+returns : tie.Need-returns
+unfolding requestLegal
+returns c =
+    refl
+
+pub request-legal-spec : {M : Type 1} → statement M
+request-legal-spec = tie.close (tie.spec returns)

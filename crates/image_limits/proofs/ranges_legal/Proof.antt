@@ -1,0 +1,53 @@
+use native.Mathlib.Nat.{div-one}
+use Rattle.model.specs.Book.{flagged, rangesLegal}
+use borrow.Author.Needs.{needs}
+use Rattle.image_limits.proofs.ranges_legal.Statement.{statement}
+use Rattle.image_limits.proofs.ranges_legal.Tie as tie
+
+limit-legal-requires : tie.Need-limit-legal-requires
+limit-legal-requires c κs = search needs
+
+limit-legal-requires-2 : tie.Need-limit-legal-requires-2
+limit-legal-requires-2 c κs = search needs
+
+limit-legal-requires-3 : tie.Need-limit-legal-requires-3
+limit-legal-requires-3 c κs = search needs
+
+limit-legal-requires-4 : tie.Need-limit-legal-requires-4
+limit-legal-requires-4 c κs = search needs
+
+limit-legal-requires-5 : tie.Need-limit-legal-requires-5
+limit-legal-requires-5 c κs = search needs
+
+limit-legal-requires-6 : tie.Need-limit-legal-requires-6
+limit-legal-requires-6 c κs = search needs
+
+limit-legal-requires-7 : tie.Need-limit-legal-requires-7
+limit-legal-requires-7 c κs = search needs
+
+returns : tie.Need-returns
+unfolding rangesLegal flagged
+returns c =
+    rw (
+      div-one,
+      c .before .before .before .before .before .before .before .before .before .before .limit-legal .ensures,
+      c .before .before .before .before .before .before .before .before .before .limit-legal2 .ensures,
+      c .before .before .before .before .before .before .before .before .limit-legal3 .ensures,
+      c .before .before .before .before .before .before .limit-legal4 .ensures,
+      c .before .before .before .before .limit-legal5 .ensures,
+      c .before .before .limit-legal6 .ensures,
+      c .limit-legal7 .ensures,
+    )
+
+pub ranges-legal-spec : {M : Type 1} → statement M
+ranges-legal-spec =
+    tie.close
+    (tie.spec
+    limit-legal-requires
+    limit-legal-requires-2
+    limit-legal-requires-3
+    limit-legal-requires-4
+    limit-legal-requires-5
+    limit-legal-requires-6
+    limit-legal-requires-7
+    returns)

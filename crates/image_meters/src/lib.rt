@@ -1,0 +1,138 @@
+// Reading an image, stage 27: the rules of meters, which have to cover the uses that players have open.
+// Each function answers for every value of its types, whether an image can hold it or not.
+ghost use mathlib.Core.Path.{_≡_};
+ghost use mathlib.Core.Bool.{cond};
+ghost use Prim.Native.Nat.{_≤_, _-_, min};
+ghost use Rattle.laws.specs.Count.{one};
+ghost use Rattle.model.specs.Book.{meterLegal, startLegal, opens, openUses, lasts, openSeconds, metersCover, entryMetersLegal, metersLegal};
+use book::Book;
+use book::Entry;
+use book::Limits;
+use book::Meters;
+use book::Open;
+use book::Player;
+
+fn at_most_64(count: u8) -> usize
+    ensures { λ r. ⌜ (r ≡ min count 64) × (r ≤ 64) ⌝ }
+{
+    let n = count as usize;
+    if n < 64 { n } else { 64 }
+}
+
+fn meter_legal(flag: bool, most: u32, used: u32) -> bool
+    ensures { λ r. ⌜ r ≡ meterLegal flag most used ⌝ }
+{
+    if flag { used <= most } else { used == 0 }
+}
+
+fn start_legal(time: u32, l: Limits, m: Meters) -> bool
+    ensures { λ r. ⌜ r ≡ startLegal time l m ⌝ }
+{
+    (m.started <= 1)
+        & ((l.flags / 16 % 2 == 1) | (m.started == 0))
+        & ((m.started == 1) | (m.first == 0))
+        & (m.first <= time)
+}
+
+fn opens_entry(i: usize, o: Open) -> bool
+    ensures { λ r. ⌜ r ≡ opens i o ⌝ }
+{
+    let entry = o.entry as usize;
+    (o.on == 1) & (entry == i)
+}
+
+fn one_if(w: bool) -> u64
+    ensures { λ r. ⌜ (r ≡ one w) × (r ≤ 1) ⌝ }
+{
+    if w { 1 } else { 0 }
+}
+
+fn open_uses(players: [Player; 16], i: usize) -> u64
+    ensures { λ r. ⌜ r ≡ openUses players i ⌝ }
+{
+    let mut uses: u64 = 0;
+    let mut p: usize = 0;
+    while p < 16 {
+        let q = players[p];
+        let o = q.current;
+        let w = opens_entry(i, o);
+        uses = uses + one_if(w);
+        p = p + 1;
+    }
+    uses
+}
+
+// How long a use lasts. One that ends before it begins lasts no time.
+fn length_of(o: Open) -> u32
+    ensures { λ r. ⌜ r ≡ lasts o ⌝ }
+{
+    let begin = o.begin;
+    let until = o.until;
+    if begin < until { until - begin } else { 0 }
+}
+
+fn counted(w: bool, seconds: u32) -> u32
+    ensures { λ r. ⌜ r ≡ cond w seconds 0 ⌝ }
+{
+    if w { seconds } else { 0 }
+}
+
+fn open_seconds(players: [Player; 16], i: usize) -> u64
+    ensures { λ r. ⌜ r ≡ openSeconds players i ⌝ }
+{
+    let mut seconds: u64 = 0;
+    let mut p: usize = 0;
+    while p < 16 {
+        let q = players[p];
+        let o = q.current;
+        let w = opens_entry(i, o);
+        let d = counted(w, length_of(o));
+        seconds = seconds + (d as u64);
+        p = p + 1;
+    }
+    seconds
+}
+
+fn meters_cover(uses: u64, seconds: u64, l: Limits, m: Meters) -> bool
+    ensures { λ r. ⌜ r ≡ metersCover uses seconds l m ⌝ }
+{
+    let count = m.count as u64;
+    let timed = m.timed as u64;
+    let used = m.seconds as u64;
+    (!(l.flags % 2 == 1) | (uses <= count))
+        & (!(l.flags / 2 % 2 == 1) | (uses <= timed))
+        & (!(l.flags / 32 % 2 == 1) | (seconds <= used))
+}
+
+fn entry_meters_legal(time: u32, players: [Player; 16], i: usize, e: Entry) -> bool
+    ensures { λ r. ⌜ r ≡ entryMetersLegal time players i e ⌝ }
+{
+    let l = e.limits;
+    let m = e.meters;
+    let uses = open_uses(players, i);
+    let seconds = open_seconds(players, i);
+    meter_legal(l.flags % 2 == 1, l.count, m.count)
+        & meter_legal(l.flags / 2 % 2 == 1, l.timed, m.timed)
+        & meter_legal(l.flags / 32 % 2 == 1, l.accumulated, m.seconds)
+        & start_legal(time, l, m)
+        & meters_cover(uses, seconds, l, m)
+}
+
+// Wrong and ruled out: true for a used count below the entry's open uses; true for a first use after the book's time.
+pub fn meters_legal(b: Book) -> bool
+    ensures { λ r. ⌜ r ≡ metersLegal b ⌝ }
+{
+    let time = b.time;
+    let entries = b.entries;
+    let players = b.players;
+    let n = at_most_64(b.entrycount);
+    let mut legal = true;
+    let mut i: usize = 0;
+    while i < n {
+        let e = entries[i];
+        let w = entry_meters_legal(time, players, i, e);
+        legal = legal & w;
+        i = i + 1;
+    }
+    legal
+}

@@ -1,0 +1,98 @@
+use mathlib.Core.Path.{_≡_, ap, ap₂, _∙_}
+use mathlib.Core.List.{List, _++_}
+use Prim.Native.Nat.{ℕ, _+_, _*_, _-_, _≤_}
+use native.Mathlib.Omega.{arith}
+use lib.ListN.{length, set, drop, replicate, length-drop}
+use lib.Seq.{take-all}
+use denote.Ref.{now}
+use Rattle.laws.specs.Count.{listed}
+use Rattle.laws.specs.Loops.{listed-turn}
+use Rattle.book.specs.declared.Asset.{Asset}
+use Rattle.book.specs.Blank.{noAsset}
+use Rattle.model.specs.Image.{assetIn, assetTable}
+use borrow.Author.Needs.{needs}
+use Rattle.image_parse.proofs.assets_in.Statement.{statement}
+use Rattle.image_parse.proofs.assets_in.Tie as tie
+
+abbrev Inv-loop : tie.InvT-loop
+Inv-loop s at n table₀ i₀ table i = (i ≤ n) × (table ≡ listed (λ k. assetIn (drop (at + 5 * k) s)) i ++ replicate (64 - i) noAsset)
+
+abbrev μ-loop : tie.MeasureT-loop
+μ-loop s at n table₀ i₀ table i = n - i
+
+blank-asset-requires : tie.Need-blank-asset-requires Inv-loop μ-loop
+blank-asset-requires c κs = search needs
+
+loop-holds : tie.Need-loop-holds Inv-loop μ-loop
+unfolding listed
+loop-holds c = (omega arith, ap (replicate 64) (c .blank-asset .ensures))
+
+mul-o : tie.Need-mul-o Inv-loop μ-loop
+mul-o c = omega arith
+
+add-o : tie.Need-add-o Inv-loop μ-loop
+add-o c = omega arith
+
+sub-asset-in : tie.Need-sub-asset-in Inv-loop μ-loop
+sub-asset-in c = omega arith
+
+part-asset-in-start : tie.Need-part-asset-in-start Inv-loop μ-loop
+part-asset-in-start c = omega arith
+
+part-asset-in-end : tie.Need-part-asset-in-end Inv-loop μ-loop
+part-asset-in-end c = omega arith
+
+asset-in-requires : tie.Need-asset-in-requires Inv-loop μ-loop
+asset-in-requires c κs = search needs
+
+mul-table : tie.Need-mul-table Inv-loop μ-loop
+mul-table c = omega arith
+
+array-set-from-table : tie.Need-array-set-from-table Inv-loop μ-loop
+array-set-from-table c = omega arith
+
+add-i : tie.Need-add-i Inv-loop μ-loop
+add-i c = omega arith
+
+loop-less : tie.Need-loop-less Inv-loop μ-loop
+loop-less c = omega arith
+
+loop-again : tie.Need-loop-again Inv-loop μ-loop
+loop-again c =
+    let a = c .before .before .before .before .before .before .args in
+    let l = c .before .before .before .loop in
+    let o = a .at + 5 * l .i in
+    let e : length (drop o (now (a .s))) ≤ length (now (a .s)) - o = simp length-drop (omega arith) in (
+      omega arith,
+      ap₂ (λ (t : List Asset) (v : Asset). set t (l .i) v) (l .inv .1) (c .asset-in .ensures ∙ ap assetIn (take-all (length (now (a .s)) - o) (drop o (now (a .s))) e))
+          ∙ listed-turn (λ k. assetIn (drop (a .at + 5 * k) (now (a .s)))) noAsset 64 (l .i) (omega arith),
+    )
+
+returns : tie.Need-returns Inv-loop μ-loop
+unfolding assetTable
+returns c =
+    let a = c .before .before .before .before .args in
+    let l = c .before .loop in
+    let e : l .i ≡ a .n = omega arith in
+    l .inv .1 ∙ ap (λ (k : ℕ). listed (λ k. assetIn (drop (a .at + 5 * k) (now (a .s)))) k ++ replicate (64 - k) noAsset) e
+
+pub assets-in-spec : {M : Type 1} → statement M
+assets-in-spec =
+    tie.close
+    (tie.spec
+    Inv-loop
+    μ-loop
+    blank-asset-requires
+    loop-holds
+    mul-o
+    add-o
+    sub-asset-in
+    part-asset-in-start
+    part-asset-in-end
+    asset-in-requires
+    mul-table
+    array-set-from-table
+    add-i
+    loop-less
+    loop-again
+    returns)

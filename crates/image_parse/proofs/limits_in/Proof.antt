@@ -1,0 +1,73 @@
+use lib.ListN.{getD}
+use denote.Ref.{now}
+use Rattle.model.specs.Image.{entryIn}
+use borrow.Author.Needs.{needs}
+use Rattle.image_parse.proofs.limits_in.Statement.{statement}
+use Rattle.image_parse.proofs.limits_in.Tie as tie
+
+read16-requires : tie.Need-read16-requires
+read16-requires c κs = search needs
+
+read16-requires-2 : tie.Need-read16-requires-2
+read16-requires-2 c κs = search needs
+
+shared-slice-read-t5 : tie.Need-shared-slice-read-t5
+shared-slice-read-t5 c = search needs
+
+shared-slice-read-t7 : tie.Need-shared-slice-read-t7
+shared-slice-read-t7 c = search needs
+
+read32-requires : tie.Need-read32-requires
+read32-requires c κs = search needs
+
+read32-requires-2 : tie.Need-read32-requires-2
+read32-requires-2 c κs = search needs
+
+read32-requires-3 : tie.Need-read32-requires-3
+read32-requires-3 c κs = search needs
+
+read32-requires-4 : tie.Need-read32-requires-4
+read32-requires-4 c κs = search needs
+
+read32-requires-5 : tie.Need-read32-requires-5
+read32-requires-5 c κs = search needs
+
+read32-requires-6 : tie.Need-read32-requires-6
+read32-requires-6 c κs = search needs
+
+read32-requires-7 : tie.Need-read32-requires-7
+read32-requires-7 c κs = search needs
+
+returns : tie.Need-returns
+unfolding entryIn
+returns c =
+    λ i. record {
+      object = c .before .before .before .before .before .before .before .before .before .before .read16 .ensures i;
+      asset = c .before .before .before .before .before .before .before .before .before .read162 .ensures i;
+      kind = getD (now (c .before .before .before .before .before .before .before .before .before .before .before .before .args .s)) 4 0;
+      flags = getD (now (c .before .before .before .before .before .before .before .before .before .before .before .before .args .s)) 5 0;
+      count = c .before .before .before .before .before .before .read32 .ensures i;
+      timed = c .before .before .before .before .before .read322 .ensures i;
+      timer = c .before .before .before .before .read323 .ensures i;
+      start = c .before .before .before .read324 .ensures i;
+      end = c .before .before .read325 .ensures i;
+      interval = c .before .read326 .ensures i;
+      accumulated = c .read327 .ensures i;
+    }
+
+pub limits-in-spec : {M : Type 1} → statement M
+limits-in-spec =
+    tie.close
+    (tie.spec
+    read16-requires
+    read16-requires-2
+    shared-slice-read-t5
+    shared-slice-read-t7
+    read32-requires
+    read32-requires-2
+    read32-requires-3
+    read32-requires-4
+    read32-requires-5
+    read32-requires-6
+    read32-requires-7
+    returns)

@@ -1,0 +1,21 @@
+use mathlib.Core.Path.{refl}
+use Rattle.model.specs.Book.{flagged, insideDates}
+use borrow.Author.Needs.{needs}
+use Rattle.image_players.proofs.inside_dates.Statement.{statement}
+use Rattle.image_players.proofs.inside_dates.Tie as tie
+
+cast-until : tie.Need-cast-until
+cast-until c = search needs
+
+cast-end : tie.Need-cast-end
+cast-end c = search needs
+
+add-past : tie.Need-add-past
+add-past c = search needs
+
+returns : tie.Need-returns
+unfolding insideDates flagged
+returns c = refl
+
+pub inside-dates-spec : {M : Type 1} → statement M
+inside-dates-spec = tie.close (tie.spec cast-until cast-end add-past returns)

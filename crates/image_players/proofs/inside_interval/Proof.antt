@@ -1,0 +1,24 @@
+use mathlib.Core.Path.{refl}
+use Rattle.model.specs.Book.{flagged, insideInterval}
+use borrow.Author.Needs.{needs}
+use Rattle.image_players.proofs.inside_interval.Statement.{statement}
+use Rattle.image_players.proofs.inside_interval.Tie as tie
+
+cast-until : tie.Need-cast-until
+cast-until c = search needs
+
+cast-first : tie.Need-cast-first
+cast-first c = search needs
+
+cast-interval : tie.Need-cast-interval
+cast-interval c = search needs
+
+add-past : tie.Need-add-past
+add-past c = search needs
+
+returns : tie.Need-returns
+unfolding insideInterval flagged
+returns c = refl
+
+pub inside-interval-spec : {M : Type 1} → statement M
+inside-interval-spec = tie.close (tie.spec cast-until cast-first cast-interval add-past returns)

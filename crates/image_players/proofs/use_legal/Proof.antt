@@ -1,0 +1,34 @@
+use Rattle.model.specs.Book.{grantLength, useLegal}
+use borrow.Author.Needs.{needs}
+use Rattle.image_players.proofs.use_legal.Statement.{statement}
+use Rattle.image_players.proofs.use_legal.Tie as tie
+
+cast-until : tie.Need-cast-until
+cast-until c = search needs
+
+add-longest : tie.Need-add-longest
+add-longest c = search needs
+
+cast-entry : tie.Need-cast-entry
+cast-entry c = search needs
+
+inside-dates-requires : tie.Need-inside-dates-requires
+inside-dates-requires c κs = search needs
+
+inside-interval-requires : tie.Need-inside-interval-requires
+inside-interval-requires c κs = search needs
+
+returns : tie.Need-returns
+unfolding useLegal grantLength
+returns c = rw (c .before .inside-dates .ensures, c .inside-interval .ensures)
+
+pub use-legal-spec : {M : Type 1} → statement M
+use-legal-spec =
+    tie.close
+    (tie.spec
+    cast-until
+    add-longest
+    cast-entry
+    inside-dates-requires
+    inside-interval-requires
+    returns)

@@ -1,0 +1,149 @@
+// Reading an image, stage 26: the rules of players, with the use that each may have open.
+// Each function answers for every value of its types, whether an image can hold it or not.
+ghost use mathlib.Core.Path.{_≡_};
+ghost use mathlib.Core.Bool.{cond};
+ghost use Prim.Native.Nat.{min};
+ghost use lib.ListN.{getD};
+ghost use Rattle.book.specs.Blank.{noEntry};
+ghost use Rattle.model.specs.Book.{playerBlank, requestLegal, answerLegal, insideDates, insideInterval, useLegal, openLegal, playerLegal, playersLegal};
+use book::Answer;
+use book::Book;
+use book::Entry;
+use book::Limits;
+use book::Meters;
+use book::Open;
+use book::Player;
+
+fn at_most_64(count: u8) -> usize
+    ensures { λ r. ⌜ r ≡ min count 64 ⌝ }
+{
+    let n = count as usize;
+    if n < 64 { n } else { 64 }
+}
+
+fn pick(w: bool, a: bool, b: bool) -> bool
+    ensures { λ r. ⌜ r ≡ cond w a b ⌝ }
+{
+    if w { a } else { b }
+}
+
+// A position past the table's end reads as blank.
+fn entry_at(entries: [Entry; 64], k: usize) -> Entry
+    ensures { λ r. ⌜ r ≡ getD entries k noEntry ⌝ }
+{
+    if k < 64 {
+        return entries[k];
+    }
+    book::blank_entry()
+}
+
+fn player_blank(p: Player) -> bool
+    ensures { λ r. ⌜ r ≡ playerBlank p ⌝ }
+{
+    let l = p.last;
+    let a = l.answer;
+    let o = p.current;
+    (l.number == 0)
+        & (l.operation == 0)
+        & (l.asset == 0)
+        & (l.kind == 0)
+        & (a.code == 0)
+        & (a.entry == 0)
+        & (a.until == 0)
+        & (o.on == 0)
+        & (o.entry == 0)
+        & (o.begin == 0)
+        & (o.until == 0)
+}
+
+fn request_legal(operation: u8, asset: u16, kind: u8) -> bool
+    ensures { λ r. ⌜ r ≡ requestLegal operation asset kind ⌝ }
+{
+    ((operation == 1) & ((1 <= kind) & (kind <= 5)))
+        | (((2 <= operation) & (operation <= 3)) & (asset == 0) & (kind == 0))
+}
+
+fn answer_legal(n: usize, a: Answer) -> bool
+    ensures { λ r. ⌜ r ≡ answerLegal n a ⌝ }
+{
+    let entry = a.entry as usize;
+    ((a.code == 0) | ((10 <= a.code) & (a.code <= 15)))
+        & pick(a.code == 0, entry < n, (a.entry == 255) & (a.until == 0))
+}
+
+fn inside_dates(o: Open, l: Limits) -> bool
+    ensures { λ r. ⌜ r ≡ insideDates o l ⌝ }
+{
+    let until = o.until as u64;
+    let end = l.end as u64;
+    let past = end + 1;
+    (!(l.flags / 4 % 2 == 1) | (l.start <= o.begin)) & (!(l.flags / 8 % 2 == 1) | (until <= past))
+}
+
+fn inside_interval(o: Open, l: Limits, m: Meters) -> bool
+    ensures { λ r. ⌜ r ≡ insideInterval o l m ⌝ }
+{
+    let until = o.until as u64;
+    let first = m.first as u64;
+    let interval = l.interval as u64;
+    let past = first + interval;
+    !(l.flags / 16 % 2 == 1) | ((m.started == 1) & (m.first <= o.begin) & (until <= past))
+}
+
+fn use_legal(time: u32, n: usize, e: Entry, o: Open) -> bool
+    ensures { λ r. ⌜ r ≡ useLegal time n e o ⌝ }
+{
+    let until = o.until as u64;
+    let t = time as u64;
+    let longest = t + 60;
+    let entry = o.entry as usize;
+    let l = e.limits;
+    let m = e.meters;
+    (o.begin <= time)
+        & (time < o.until)
+        & (until <= longest)
+        & (entry < n)
+        & ((1 <= l.kind) & (l.kind <= 3))
+        & inside_dates(o, l)
+        & inside_interval(o, l, m)
+}
+
+fn open_legal(time: u32, n: usize, e: Entry, o: Open) -> bool
+    ensures { λ r. ⌜ r ≡ openLegal time n e o ⌝ }
+{
+    let closed = (o.entry == 0) & (o.begin == 0) & (o.until == 0);
+    pick(o.on == 0, closed, (o.on == 1) & use_legal(time, n, e, o))
+}
+
+fn player_legal(time: u32, n: usize, e: Entry, p: Player) -> bool
+    ensures { λ r. ⌜ r ≡ playerLegal time n e p ⌝ }
+{
+    let l = p.last;
+    let a = l.answer;
+    let o = p.current;
+    let judged = request_legal(l.operation, l.asset, l.kind)
+        & answer_legal(n, a)
+        & open_legal(time, n, e, o);
+    pick(l.number == 0, player_blank(p), judged)
+}
+
+// Wrong and ruled out: true for a use that is open past the book's time + 60; true for an answer 13 with an until.
+pub fn players_legal(b: Book) -> bool
+    ensures { λ r. ⌜ r ≡ playersLegal b ⌝ }
+{
+    let time = b.time;
+    let entries = b.entries;
+    let players = b.players;
+    let n = at_most_64(b.entrycount);
+    let mut legal = true;
+    let mut i: usize = 0;
+    while i < 16 {
+        let p = players[i];
+        let o = p.current;
+        let e = entry_at(entries, o.entry as usize);
+        let w = player_legal(time, n, e, p);
+        legal = legal & w;
+        i = i + 1;
+    }
+    legal
+}

@@ -1,0 +1,43 @@
+// Reads an image: the book in the bytes where no rule is broken, and the book held before where one is.
+ghost use mathlib.Core.Path.{_≡_};
+ghost use mathlib.Core.Bool.{cond};
+ghost use lib.Dec.{eqb};
+ghost use Rattle.model.specs.Book.{ruleBroken};
+ghost use Rattle.model.specs.Image.{readCode, readBook};
+use book::Book;
+use image_parse::Parsed;
+
+// Code 0: the image is accepted. Any other code is a number of document 01's table.
+pub struct Loaded {
+    pub code: u8,
+    pub book: Book,
+}
+
+// The header is judged first; a book is judged only where the header stands.
+fn code_of(parsed: Parsed) -> u8
+    ensures { λ r. ⌜ r ≡ cond (eqb (parsed .code) 0) (ruleBroken (parsed .book)) (parsed .code) ⌝ }
+{
+    if parsed.code != 0 {
+        return parsed.code;
+    }
+    image_check::rule_broken(parsed.book)
+}
+
+// Wrong and ruled out: code 0 for bytes that break a rule; a refusal that leaves a part of the new book, or a blank one.
+pub fn read(held: Book, s: &[u8]) -> Loaded
+    ensures { λ r. ⌜ (r .code ≡ readCode (now (s .entry))) × (r .book ≡ readBook held (now (s .entry))) ⌝ }
+{
+    let parsed = image_parse::parse(s);
+    let found = parsed.book;
+    let code = code_of(parsed);
+    if code != 0 {
+        return Loaded {
+            code: code,
+            book: held,
+        };
+    }
+    Loaded {
+        code: 0,
+        book: found,
+    }
+}

@@ -1,0 +1,24 @@
+-- Lemmas and proofs about the definitions above: nothing here has to be believed. Afternoon and Cases are closed runs.
+pub mod Afternoon
+pub mod Cases
+pub mod RoundTrip
+pub mod BookExamples
+pub mod Facts
+pub mod Sums
+pub mod Figures
+pub mod Held
+pub mod Concrete
+pub mod Grounds
+pub mod Steps
+pub mod Suitable
+pub mod Choice
+pub mod Until
+pub mod Run
+pub mod Demand3
+pub mod KeptFacts
+pub mod KeptRules
+pub mod KeptMeters
+pub mod KeptEvents
+pub mod Kept
+pub mod KeptExact
+pub mod Example

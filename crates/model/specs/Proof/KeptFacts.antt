@@ -1,0 +1,75 @@
+-- More on tests, updates by position and counting: what the proofs use that an event leaves a legal book.
+use mathlib.Core.Path.{_≡_, refl, ap, fun-ext}
+use Prim.Native.Nat.{ℕ, zero, suc, _+_, _<_}
+use mathlib.Core.Bool.{Bool, true, false, not, _&&_, _||_}
+use mathlib.Core.List.{List, [], _∷_}
+use native.Mathlib.Omega.{arith}
+use Rattle.laws.specs.Count.{all, sum}
+use Rattle.model.specs.Proof.Facts.{on-same, clash, and-left, and-right, and-both, upd, upd-same, upd-other}
+
+-- ## Tests
+
+-- a row of tests `a && b && ..`, and that each of them passes
+abbrev pub row : Bool → List Bool → Bool
+row a [] = a
+row a (b ∷ bs) = row (a && b) bs
+
+abbrev pub Pass : List Bool → Type 0
+Pass [] = Unit {0}
+Pass (b ∷ bs) = (b ≡ true) × Pass bs
+
+pub row-passed : (a : Bool) (bs : List Bool) → row a bs ≡ true → (a ≡ true) × Pass bs
+row-passed a [] e = (e, tt)
+row-passed a (b ∷ bs) e = let h = row-passed (a && b) bs e in (and-left a b (h .0), (and-right a b (h .0), h .1))
+
+-- a test that is asked for only where f is set
+pub implied : (f t : Bool) → (f ≡ true → t ≡ true) → (not f || t) ≡ true
+implied true t h = h refl
+implied false t h = refl
+
+pub implied-at : (f t : Bool) → (not f || t) ≡ true → f ≡ true → t ≡ true
+implied-at true t e h = e
+implied-at false t e h = clash h refl
+
+-- a test that is asked for only where f is not set
+pub otherwise : (f t : Bool) → (f ≡ false → t ≡ true) → (f || t) ≡ true
+otherwise true t h = refl
+otherwise false t h = h refl
+
+pub otherwise-at : (f t : Bool) → (f || t) ≡ true → f ≡ false → t ≡ true
+otherwise-at true t e h = clash refl h
+otherwise-at false t e h = e
+
+-- ## Positions
+
+-- a position that gets what it has
+pub upd-own : {A : Type 0} (i : ℕ) (f : ℕ → A) → upd i (f i) f ≡ f
+upd-own i f = fun-ext (λ j. on-same j i (λ x. rw x (upd-same i (f i) f)) (λ x. upd-other i (f i) f j x))
+
+-- ## Counting
+
+pub all-of : (f : ℕ → Bool) (n : ℕ) → ((i : ℕ) → i < n → f i ≡ true) → all f n ≡ true
+unfolding all
+all-of f zero h = refl
+all-of f (suc n) h = and-both (all-of f n (λ i j. h i (omega arith))) (h n (omega arith))
+
+pub sum-same : (f g : ℕ → ℕ) (n : ℕ) → ((i : ℕ) → i < n → f i ≡ g i) → sum f n ≡ sum g n
+unfolding sum
+sum-same f g zero h = refl
+sum-same f g (suc n) h = omega (arith, sum-same f g n (λ i j. h i (omega arith)), h n (omega arith))
+
+-- a sum of which one term changes
+pub sum-upd : {A : Type 0} (w : A → ℕ) (p : ℕ) (x : A) (f : ℕ → A) (n : ℕ) → p < n → sum (λ q. w (upd p x f q)) n + w (f p) ≡ sum (λ q. w (f q)) n + w x
+unfolding sum
+sum-upd w p x f zero h = absurd (omega arith)
+sum-upd w p x f (suc n) h =
+    on-same n p
+    (λ e.
+    omega (
+      arith,
+      ap (λ (k : ℕ). w (upd p x f k)) e,
+      ap (λ (k : ℕ). w (f k)) e,
+      ap w (upd-same p x f),
+      sum-same (λ q. w (upd p x f q)) (λ q. w (f q)) n (λ i j. ap w (upd-other p x f i (λ z. omega arith))),
+    ))
+    (λ e. omega (arith, sum-upd w p x f n (omega arith), ap w (upd-other p x f n e)))

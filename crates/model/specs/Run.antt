@@ -1,0 +1,45 @@
+-- The run program's text: document 01, section "Image", last part. Quotations are that document's.
+use Prim.Native.Nat.{ℕ, zero, suc, _+_, _*_, _/_, _%_}
+use mathlib.Core.Bool.{cond}
+use mathlib.Core.List.{List, [], _∷_, _++_}
+use lib.ListN.{length, take, drop}
+use lib.Dec.{ltb}
+use Rattle.laws.specs.Count.{listed}
+use Rattle.book.specs.declared.Answer.{Answer}
+use Rattle.book.specs.declared.Book.{Book}
+use Rattle.model.specs.Demand3.{recordAnswers, recordFinal}
+
+-- a number below 10 to the k in decimal digits, with no zero in front
+unfoldable pub decimalIn : ℕ → ℕ → List ℕ
+decimalIn zero n = []
+decimalIn (suc k) n = cond (ltb n 10) ((48 + n) ∷ []) (decimalIn k (n / 10) ++ ((48 + n % 10) ∷ []))
+
+-- no number here has more than 10 digits
+unfoldable pub decimal : ℕ → List ℕ
+decimal n = decimalIn 10 n
+
+-- "prints code, entry, until in decimal, spaces between, one line each"
+unfoldable pub line : Answer → List ℕ
+line a = decimal (a .code) ++ (32 ∷ []) ++ decimal (a .entry) ++ (32 ∷ []) ++ decimal (a .until) ++ (10 ∷ [])
+
+unfoldable pub lines : List Answer → List ℕ
+lines [] = []
+lines (a ∷ as′) = line a ++ lines as′
+
+-- "13-byte events ... from standard input": how many there are in some bytes, the last perhaps cut short
+unfoldable pub recordCount : List ℕ → ℕ
+recordCount s = (length s + 12) / 13
+
+-- one after the other; "a last record cut short" is shorter than 13
+unfoldable pub recordAt : List ℕ → ℕ → List ℕ
+recordAt s i = take 13 (drop (13 * i) s)
+
+unfoldable pub recordsIn : List ℕ → List (List ℕ)
+recordsIn s = listed (recordAt s) (recordCount s)
+
+-- what is printed for some bytes of events, and the book after them
+unfoldable pub runText : Book → List ℕ → List ℕ
+runText b s = lines (recordAnswers b (recordsIn s))
+
+unfoldable pub runBook : Book → List ℕ → Book
+runBook b s = recordFinal b (recordsIn s)

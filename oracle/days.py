@@ -1,0 +1,314 @@
+"""Chance days: books and events that are crowded enough to meet the rules' corners.
+
+Few assets, few entries, small limits and short steps of time, so that limits are reached, uses lapse, entries
+compete and players ask again. The same seed gives the same day on every machine.
+
+    python3 oracle/days.py
+
+writes the stored days: `crates/days/data/days.bin`, for each day the length of its image in 32 bits, big-endian, the
+image, the length of its event bytes in 32 bits, and these, to the end of the file; and `crates/days/stdout`, for each
+day a line `day N`, N from 1, and what the run program prints for it.
+"""
+
+import random
+from pathlib import Path
+
+import rights
+from rights import (ACCUMULATED, BEGIN, CONTINUE, COUNT, END, INTERVAL, LAST_NUMBER, LATEST, START, STOP, TIMED, Asset,
+                    Book, Entry, Event)
+
+STORED = Path(__file__).resolve().parent.parent / "crates" / "days"
+TOP = 4_294_967_295         # the greatest 32-bit number
+
+
+# ---- Books
+
+def fresh_book(rng, around):
+    """A legal book with nothing used yet, its dates near the time around."""
+    book = Book()
+    numbers = rng.sample(range(1, 9), rng.randint(1, 5))
+    for number in numbers:
+        key = rng.choice((1, 1, 1, 1, 0)) if book.assets or rng.random() < 0.1 else 1
+        inherit = rng.choice((0, rng.choice(numbers), 9, 9))
+        book.assets.append(Asset(number, inherit, key))
+    if rng.random() < 0.8:
+        book.assets.append(Asset(9, 0, 0))
+    for _ in range(rng.choice((0, 1, 2, 4, 6, 8, 8))):
+        book.entries.append(fresh_entry(rng, rng.choice(book.assets).number, around))
+    return book
+
+
+def fresh_entry(rng, asset, around):
+    kind = rng.choice((1, 1, 1, 2, 3, 4, 5))
+    flags = sum(flag for flag in (COUNT, TIMED, START, END, INTERVAL, ACCUMULATED) if rng.random() < 0.3)
+    if kind >= 4:
+        flags &= ~ACCUMULATED
+    entry = Entry(rng.randint(1, 3), asset, kind, flags)
+    if flags & COUNT:
+        entry.count = rng.randint(1, 6)
+    if flags & TIMED:
+        entry.timed = rng.randint(1, 3)
+        entry.timer = rng.choice((0, 1, 20, 60, 61, 90)) if kind < 4 else 0
+    if flags & START:
+        entry.start = min(LATEST, max(0, around + rng.randint(-50, 200)))
+    if flags & END:
+        entry.end = min(LATEST, max(entry.start, around + rng.choice((50, 150, 150, 300, 900))))
+    if flags & INTERVAL:
+        entry.interval = rng.choice((1, 30, 90, 300, 100_000_000))
+    if flags & ACCUMULATED:
+        entry.accumulated = rng.choice((1, 50, 100, 250, 1000))
+    return entry
+
+
+def wide_book(rng, around):
+    """Up to 64 assets with any numbers and up to 64 entries: many own and inherited ones for the same request."""
+    book = Book()
+    how_many = rng.choice((20, 40, 63, 64))
+    numbers = rng.sample(range(1, 65_536), how_many)
+    parents = numbers[:rng.randint(1, 4)]
+    for number in numbers:
+        if number in parents:
+            book.assets.append(Asset(number, 0, 0))
+        else:
+            inherit = rng.choice((0, rng.choice(parents), rng.choice(parents), rng.choice(numbers)))
+            book.assets.append(Asset(number, inherit, rng.choice((1, 1, 1, 1, 1, 0))))
+    rng.shuffle(book.assets)
+    favoured = parents + rng.sample(numbers, 3)
+    for _ in range(rng.choice((16, 32, 63, 64))):
+        asset = rng.choice(favoured) if rng.random() < 0.8 else rng.choice(numbers)
+        entry = fresh_entry(rng, asset, around)
+        if entry.has(COUNT) and rng.random() < 0.2:
+            entry.count = 1_000_000
+        entry.object = rng.choice((1, 2, 65_535))
+        book.entries.append(entry)
+    return book
+
+
+def greatest_limits(rng, book):
+    """Raises limits of the book to the greatest that the rules allow."""
+    for entry in book.entries:
+        if entry.has(COUNT) and rng.random() < 0.5:
+            entry.count = 1_000_000
+        if entry.has(TIMED) and not entry.is_momentary() and rng.random() < 0.5:
+            entry.timer = 1_000_000
+        if entry.has(INTERVAL) and rng.random() < 0.5:
+            entry.interval = 100_000_000
+        if entry.has(ACCUMULATED) and rng.random() < 0.5:
+            entry.accumulated = 100_000_000
+        if entry.has(END) and rng.random() < 0.5:
+            entry.end = LATEST
+
+
+def stretch(rng, book, around, times):
+    """Raises limits with the length of the day, so that not all of them are reached early in it."""
+    for entry in book.entries:
+        if rng.random() < 0.2:
+            continue
+        entry.count = min(1_000_000, entry.count * rng.randint(1, times))
+        entry.timed = min(1_000_000, entry.timed * rng.randint(1, times))
+        entry.accumulated *= rng.randint(1, times)
+        if entry.interval > 1:
+            entry.interval = min(100_000_000, entry.interval * rng.randint(1, times))
+        if entry.has(END):
+            entry.end = min(LATEST, max(entry.end, around + (entry.end - around) * rng.randint(1, times)))
+
+
+def subscription_book(rng, around):
+    """One season subscription that all cabins share, and a few contents that inherit from it."""
+    book = Book(assets=[Asset(9, 0, 0)] + [Asset(number, 9, 1) for number in range(1, rng.randint(2, 5))])
+    for _ in range(rng.randint(1, 4)):
+        entry = fresh_entry(rng, rng.choice((9, 9, 9, 1)), around)
+        entry.kind, entry.flags = 1, entry.flags | rng.choice((COUNT, TIMED, ACCUMULATED))
+        if entry.has(COUNT):
+            entry.count = rng.randint(1, 40)
+        if entry.has(TIMED):
+            entry.timed, entry.timer = rng.randint(1, 8), rng.choice((0, 10, 30, 60, 120))
+        if entry.has(ACCUMULATED):
+            entry.accumulated = rng.choice((100, 500, 3000))
+        book.entries.append(entry)
+    return book
+
+
+def make_old(rng, book):
+    """Gives some players numbers close to the last one, as after very many events."""
+    for player in book.players:
+        if player.number != 0 and rng.random() < 0.6:
+            player.number = rng.choice((TOP, TOP - 1, TOP - 2, TOP - 9, 65_535, 16_777_215))
+
+
+# ---- Events
+
+def edges(book, t):
+    """Times soon to come at which a rule turns: dates, ends of intervals, ends of open uses."""
+    found = [player.until for player in book.players if player.open]
+    for entry in book.entries:
+        if entry.has(START):
+            found += [entry.start - 1, entry.start]
+        if entry.has(END):
+            found += [entry.end, entry.end + 1]
+        if entry.started:
+            found += [entry.first + entry.interval - 1, entry.first + entry.interval]
+    return [time for time in found if book.time <= time <= book.time + 300] or [t]
+
+
+def next_event(rng, book, around):
+    """An event for the book as it stands: mostly in line, at times a resend or one to be turned away."""
+    index = rng.choice((0, 0, 1, 1, 2, 3, rng.randrange(16)))
+    player = book.players[index]
+    t = max(book.time, around) + rng.choice((0, 0, 0, 1, 1, 2, 3, 5, 10, 20, 30, 59, 60, 61))
+    if rng.random() < 0.25:
+        t = rng.choice(edges(book, t))
+    chance = rng.random()
+    if chance < 0.15 and player.number != 0:
+        asset = player.asset if rng.random() < 0.8 else 1
+        return Event(index, player.number, player.operation, asset, player.kind, rng.choice((t, 0, LATEST + 1)))
+    number = min(player.number + 1, LAST_NUMBER)
+    if chance < 0.20:
+        number = rng.choice((0, player.number, min(player.number + 2, LAST_NUMBER), max(player.number - 1, 0)))
+    if chance > 0.97:
+        t = rng.choice((max(book.time - 1, 0), LATEST + 1, TOP))
+    elif chance > 0.95:
+        return Event(rng.choice((index, 16, 255)), number, rng.choice((0, 1, 2, 3, 4)), rng.randint(0, 2),
+                     rng.randint(0, 6), t)
+    elif t > LATEST and rng.random() < 0.9:
+        t = min(book.time + rng.choice((0, 0, 0, 1)), LATEST)
+    if player.open and rng.random() < 0.8 or rng.random() < 0.06:
+        return Event(index, number, rng.choice((CONTINUE, CONTINUE, STOP)), 0, 0, t)
+    if not book.entries or rng.random() < 0.06:
+        return Event(index, number, BEGIN, rng.randint(0, 10), rng.randint(1, 5), t)
+    wanted = rng.choice(book.entries)
+    askers = [a.number for a in book.assets if wanted.asset in (a.number, a.inherit) and (a.key or rng.random() < 0.1)]
+    if not askers and rng.random() < 0.8:
+        askers = [a.number for a in book.assets if a.key]
+    return Event(index, number, BEGIN, rng.choice(askers or [wanted.asset]), wanted.kind, t)
+
+
+class Cabins:
+    """Players on one subscription. An acknowledgement may be lost; that cabin then asks the same again, after others
+    have had their turn."""
+
+    def __init__(self, rng, book):
+        self.rng = rng
+        self.unheard = {}
+        self.count = rng.randint(2, 16)
+        self.contents = [asset.number for asset in book.assets if asset.key]
+
+    def next_event(self, book, around):
+        rng = self.rng
+        index = rng.randrange(self.count)
+        player = book.players[index]
+        t = min(LATEST, max(book.time, around) + rng.choice((0, 1, 2, 5, 15)))
+        request = self.unheard.pop(index, None)
+        if request is None:
+            number = min(player.number + 1, LAST_NUMBER)
+            if player.open:
+                request = (number, rng.choice((CONTINUE, STOP)), 0, 0)
+            else:
+                request = (number, BEGIN, rng.choice(self.contents), 1)
+        if rng.random() < 0.3:
+            self.unheard[index] = request
+        return Event(index, *request, t)
+
+
+def damaged(rng, record):
+    """Now and then a record with a byte changed, or one of chance bytes."""
+    chance = rng.random()
+    if chance < 0.985:
+        return record
+    if chance < 0.997:
+        at = rng.randrange(len(record))
+        return record[:at] + bytes([rng.choice((0, 1, 255, rng.randrange(256)))]) + record[at + 1:]
+    return rng.randbytes(13)
+
+
+# ---- Days
+
+KINDS = ("crowd", "crowd", "wide", "cabins", "greatest", "going on", "old", "damaged image")
+
+
+def make_day(seed, length, kind=None, around=None):
+    """(image, event bytes, the text that the run program prints) of one day; image None for a missing file."""
+    rng = random.Random(seed)
+    kind = kind or rng.choice(KINDS)
+    if around is None:
+        around = rng.choice((0, 1000, 1000, 1_700_000_000, LATEST - 500, LATEST - 60))
+    if kind == "damaged image":
+        return damaged_day(rng, around)
+    if kind == "wide":
+        book = wide_book(rng, around)
+    elif kind == "cabins":
+        book = subscription_book(rng, around)
+    else:
+        book = fresh_book(rng, around)
+    stretch(rng, book, around, 1 + length // 20)
+    if kind == "greatest":
+        greatest_limits(rng, book)
+    if kind in ("going on", "old"):
+        play(rng, book, around, None, rng.randint(1, 60))
+    if kind == "old":
+        make_old(rng, book)
+    image = rights.write(book)
+    cabins = Cabins(rng, book) if kind == "cabins" else None
+    records, lines = play(rng, book, around, cabins, length)
+    if rng.random() < 0.3:
+        records.append(rng.randbytes(rng.randint(1, 12)))
+        lines.append("6 255 0\n")
+    return image, b"".join(records), "".join(lines)
+
+
+def play(rng, book, around, cabins, length):
+    records, lines = [], []
+    for _ in range(length):
+        event = cabins.next_event(book, around) if cabins else next_event(rng, book, around)
+        record = damaged(rng, rights.encode(event))
+        records.append(record)
+        lines.append("%d %d %d\n" % rights.answer_record(book, record))
+    return records, lines
+
+
+def damaged_day(rng, around):
+    """An image with a few bytes changed, cut or added to, and few events, whatever it is answered."""
+    book = fresh_book(rng, around)
+    play(rng, book, around, None, rng.randint(1, 40))
+    image = bytearray(rights.write(book))
+    records, _ = play(rng, book, around, None, 5)
+    for _ in range(rng.randint(1, 2)):
+        image[rng.randrange(len(image))] = rng.choice((0, 1, 2, 255, rng.randrange(256)))
+    chance = rng.random()
+    if chance < 0.05:
+        return None, b"".join(records), rights.run(b"", b"")
+    if chance < 0.15:
+        image = image[:rng.randrange(len(image))]
+    elif chance < 0.2:
+        image += rng.randbytes(rng.choice((1, 13, 4000)))
+    image, events = bytes(image), b"".join(records)
+    return image, events, rights.run(image, events)
+
+
+# ---- The stored days
+
+def stored_days():
+    arounds = (0, 1000, 1_700_000_000, LATEST - 500, LATEST - 60)
+    kinds = ("crowd", "cabins", "wide", "greatest", "going on", "old")
+    for number in range(46):
+        length = 300 if kinds[number % 6] == "wide" else 480
+        yield make_day(1 + number, length, kinds[number % 6], arounds[number % 5])
+    for number in range(46, 60):
+        image, events, text = make_day(1 + number, 5, "damaged image", 1000)
+        yield image or b"", events, text
+
+
+def main():
+    data, text, events = b"", "", 0
+    for number, (image, records, lines) in enumerate(stored_days(), 1):
+        data += len(image).to_bytes(4, "big") + image + len(records).to_bytes(4, "big") + records
+        text += f"day {number}\n" + lines
+        events += lines.count(" ") // 2
+    (STORED / "data").mkdir(parents=True, exist_ok=True)
+    (STORED / "data" / "days.bin").write_bytes(data)
+    (STORED / "stdout").write_text(text)
+    print(f"{number} days, {events} events, {len(data)} bytes")
+
+
+if __name__ == "__main__":
+    main()

@@ -1,0 +1,479 @@
+"""Makes the stored image cases: python3 oracle/images.py
+
+Each case is a base book or its image with a few small edits, and the answer that document 01 gives it, which is
+written here by hand. The reader of rights.py must agree with every one of them, or nothing is written. It writes
+
+  crates/images/data/cases.bin   for each case its length in 16 bits, big-endian, then its bytes, to the end of file
+  crates/images/stdout           for each case one line: the number of a refusal, or 0, a space, and the bytes that
+                                 the book read from it is written back as, in hexadecimal
+  crates/image_speed/data/full.rbk  one image of the greatest size
+  oracle/images.txt              for each case its answer, its length, its name, its base and its edits
+
+Edits are words: `time N`; `asset I FIELD N`, `entry I FIELD N` and `player I FIELD N` set a field of a record;
+`entry I limits ..` and `use ..` set several (see below); `drop asset I` takes an asset out; `byte I N` and `length N`
+(cut, or filled up with 0) change the image that was made so far.
+"""
+
+from pathlib import Path
+
+import rights
+from rights import Asset, Book, Entry, Player
+
+HERE = Path(__file__).resolve().parent
+CRATES = HERE.parent / "crates"
+
+
+# ---- Base books
+
+def empty():
+    return Book()
+
+
+def bare():
+    """One asset with one play entry without flags, time 100."""
+    return Book(100, [Asset(1, 0, 1)], [Entry(1, 1, 1)])
+
+
+def limited():
+    """The same with every flag and nothing used."""
+    book = bare()
+    book.entries = [Entry(1, 1, 1, 63, 10, 10, 10, 50, 200, 100, 100)]
+    return book
+
+
+def printing():
+    """The same with a print entry, every flag but accumulated."""
+    book = bare()
+    book.entries = [Entry(1, 1, 4, 31, 10, 10, 0, 50, 200, 100)]
+    return book
+
+
+def showing():
+    """The bare book with player 0 in the middle of a use, [90, 130)."""
+    book = bare()
+    book.players[0] = Player(1, 1, 1, 1, 0, 0, 130, 1, 0, 90, 130)
+    return book
+
+
+def busy():
+    """Four assets and four entries at time 10,000, three open uses (two of them on entry 0), a stop, a refusal."""
+    book = Book(10_000)
+    book.assets = [Asset(1, 9, 1), Asset(2, 9, 1), Asset(9, 0, 0), Asset(7, 9, 0)]
+    book.entries = [
+        Entry(1, 9, 1, 63, 5, 4, 30, 5_000, 20_000, 3_000, 1_000, 3, 2, 9_000, 200, 1),
+        Entry(1, 1, 2),
+        Entry(2, 1, 4, 31, 5, 4, 0, 5_000, 20_000, 3_000, 0, 1, 1, 9_500, 0, 1),
+        Entry(3, 2, 3)]
+    book.players[0] = Player(3, 3, 0, 0, 0, 0, 9_990)
+    book.players[1] = Player(1, 1, 1, 1, 0, 0, 10_040, 1, 0, 9_980, 10_040)
+    book.players[2] = Player(7, 2, 0, 0, 0, 0, 10_050, 1, 0, 9_950, 10_050)
+    book.players[3] = Player(2, 1, 7, 1, 10, 255, 0)
+    book.players[4] = Player(1, 1, 1, 2, 0, 1, 10_059, 1, 1, 9_999, 10_059)
+    return book
+
+
+def full():
+    """64 assets, 64 entries and 16 open uses at the latest time: an image of the greatest size."""
+    book = Book(rights.LATEST)
+    book.assets = [Asset(1000 + i, 1000 + i // 2, i % 2) for i in range(64)]
+    for i in range(64):
+        book.entries.append(Entry(65_535 - i, 1000 + i, 1 + i % 3, 63, 1_000_000, 999_000 + i, 1_000_000 - i,
+                                  3_999_000_000 + i, rights.LATEST, 100_000_000, 100_000_000 - i,
+                                  500_000 + i, 400_000 + i, 3_999_999_000 + i, 90_000_000 + i, 1))
+    for i in range(16):
+        begin = 3_999_999_990 + i % 10
+        book.players[i] = Player(4_294_967_295 - i, 1, 1001, 1 + i % 3, 0, 63 - i, 4_000_000_001,
+                                 1, 63 - i, begin, 4_000_000_001)
+    return book
+
+
+# ---- Edits
+
+ENTRY_LIMITS = ("count", "timed", "timer", "start", "end", "interval", "accumulated")
+
+
+def image(base, edits):
+    """The image of a base book after its edits; those of bytes come last."""
+    book, data = base(), None
+    for edit in filter(None, (part.strip() for part in edits.split(";"))):
+        word, *rest = edit.split()
+        if word in ("byte", "length"):
+            data = rights.write(book) if data is None else data
+            data = edited_bytes(data, word, [int(n) for n in rest])
+        else:
+            assert data is None, "edits of bytes come last"
+            edit_book(book, word, rest)
+    return rights.write(book) if data is None else data
+
+
+def edited_bytes(data, word, numbers):
+    if word == "length":
+        return data[:numbers[0]].ljust(numbers[0], b"\0")
+    at, value = numbers
+    assert data[at] != value, "an edit changes something"
+    return data[:at] + bytes([value]) + data[at + 1:]
+
+
+def edit_book(book, word, rest):
+    if word == "time":
+        book.time = int(rest[0])
+        return
+    if word == "drop":
+        del book.assets[int(rest[1])]
+        return
+    if word == "use":        # use PLAYER ENTRY BEGIN UNTIL: that player has begun, and has it open
+        index, entry, begin, until = map(int, rest)
+        book.players[index] = Player(1, 1, 1, 1, 0, entry, until, 1, entry, begin, until)
+        return
+    records = {"asset": book.assets, "entry": book.entries, "player": book.players}[word]
+    index, name, values = int(rest[0]), rest[1], [int(n) for n in rest[2:]]
+    record = records[index]
+    if name == "limits":     # entry I limits FLAGS, then the seven limits
+        record.flags, *values = values
+        for limit, value in zip(ENTRY_LIMITS, values, strict=True):
+            setattr(record, limit, value)
+        return
+    assert getattr(record, name) != values[0], f"{word} {rest}: an edit changes something"
+    setattr(record, name, values[0])
+
+
+# ---- The cases: answer, name, base, edits
+
+CASES = []
+
+
+def case(answer, name, base, edits=""):
+    CASES.append((answer, name, base, edits))
+
+
+def good_books():
+    case(0, "the empty book", empty)
+    case(0, "one entry without flags", bare)
+    case(0, "one entry with every flag", limited)
+    case(0, "one print entry", printing)
+    case(0, "one open use", showing)
+    case(0, "several players on one entry", busy)
+    case(0, "64 assets, 64 entries, 16 open uses", full)
+
+
+def header():
+    for length in (0, 1, 10):
+        case(20, f"{length} bytes", empty, f"length {length}")
+    case(20, "the header alone", empty, "length 11")
+    case(20, "the header alone, with counts", busy, "length 11")
+    for base in (empty, busy):
+        size = len(rights.write(base()))
+        case(20, f"{base.__name__}, one byte short", base, f"length {size - 1}")
+        case(20, f"{base.__name__}, one byte long", base, f"length {size + 1}")
+        case(20, f"{base.__name__}, 10,000 bytes", base, "length 10000")
+    case(20, "the greatest image, one byte long", full, "length 3980")
+    case(20, "the greatest image, one byte short", full, "length 3978")
+    case(20, "an asset too few for its count", bare, "byte 5 2")
+    case(20, "an asset too many for its count", bare, "byte 5 0")
+    case(20, "an entry too few for its count", bare, "byte 6 2")
+    case(20, "an entry too many for its count", bare, "byte 6 0")
+    case(21, "first mark byte", empty, "byte 0 114")
+    case(21, "second mark byte", empty, "byte 1 0")
+    case(21, "third mark byte", empty, "byte 2 76")
+    case(21, "mark of an image of 11 bytes", empty, "byte 0 0; length 11")
+    case(21, "mark of 10,000 bytes", empty, "byte 2 0; length 10000")
+    case(22, "version 0", empty, "byte 4 0")
+    case(22, "version 2", empty, "byte 4 2")
+    case(22, "version 257", empty, "byte 3 1")
+    case(22, "version 256", empty, "byte 3 1; byte 4 0")
+    case(23, "65 assets, header alone", empty, "byte 5 65; length 11")
+    case(23, "65 assets, of the fitting length", empty, "byte 5 65; length 720")
+    case(23, "65 entries, of the fitting length", empty, "byte 6 65; length 3710")
+    case(23, "255 assets", empty, "byte 5 255")
+    case(23, "255 entries", empty, "byte 6 255")
+    case(23, "time 4,000,000,001", empty, "time 4000000001")
+    case(23, "time 4,294,967,295", empty, "time 4294967295")
+    case(0, "time 4,000,000,000", empty, "time 4000000000")
+
+
+def assets():
+    case(24, "asset number 0", bare, "asset 0 number 0")
+    case(24, "asset number 0 in the last place", full, "asset 63 number 0")
+    case(24, "asset number twice, side by side", busy, "asset 1 number 1")
+    case(24, "asset number twice, first and last", full, "asset 63 number 1000")
+    case(24, "asset number twice, last two", full, "asset 62 number 1063")
+    case(24, "key 2", bare, "asset 0 key 2")
+    case(24, "key 255 in the last place", busy, "asset 3 key 255")
+    case(0, "number 65,535", busy, "asset 3 number 65535; asset 3 inherit 65535")
+    case(0, "inherit not in the book", bare, "asset 0 inherit 2")
+    case(0, "inherit is the asset itself", bare, "asset 0 inherit 1")
+    case(0, "inherit from an asset with a key", busy, "asset 0 inherit 2")
+    case(0, "inherit from an illegal asset", busy, "asset 0 inherit 7")
+    case(0, "entry of an illegal asset", busy, "entry 3 asset 7")
+    case(0, "entry of a parent", bare, "asset 0 key 0")
+    case(0, "numbers apart by their high byte only", busy, "asset 3 number 257")
+
+
+def entries():
+    case(25, "rights object 0", bare, "entry 0 object 0")
+    case(0, "rights object 65,535", bare, "entry 0 object 65535")
+    case(25, "asset not in the book", bare, "entry 0 asset 2")
+    case(25, "asset of the book by its low byte only", bare, "entry 0 asset 257")
+    case(25, "asset 0", bare, "entry 0 asset 0")
+    case(25, "entry in a book without assets", bare, "drop asset 0")
+    for kind in (0, 6, 255):
+        case(25, f"kind {kind}", bare, f"entry 0 kind {kind}")
+    for kind in (2, 3, 4, 5):
+        case(0, f"kind {kind}", bare, f"entry 0 kind {kind}")
+    for flags in (64, 128, 255):
+        case(25, f"flags {flags}", bare, f"entry 0 flags {flags}")
+    case(25, "flags 127, limits in order", limited, "entry 0 flags 127")
+    case(25, "last of 64 entries", full, "entry 63 object 0")
+    # Start is bounded by the base's end, 200, and end by its start, 50: equal is good, one beyond is not.
+    bounds = [
+        ("count", 1, 1, 1_000_000), ("timed", 2, 1, 1_000_000), ("timer", 2, 0, 1_000_000), ("start", 4, 0, 200),
+        ("end", 8, 50, 4_000_000_000), ("interval", 16, 1, 100_000_000), ("accumulated", 32, 1, 100_000_000)]
+    for limit, _, least, greatest in bounds:
+        case(0, f"{limit} {least}", limited, f"entry 0 {limit} {least}")
+        case(0, f"{limit} {greatest}", limited, f"entry 0 {limit} {greatest}")
+        if least:
+            case(25, f"{limit} {least - 1}", limited, f"entry 0 {limit} {least - 1}")
+        case(25, f"{limit} {greatest + 1}", limited, f"entry 0 {limit} {greatest + 1}")
+        case(25, f"{limit} 4,294,967,295", limited, f"entry 0 {limit} 4294967295")
+    for limit, flag, _, _ in bounds:
+        case(25, f"{limit} without its flag, no other flagged", bare, f"entry 0 {limit} 1")
+        case(25, f"{limit} without its flag, all others flagged", limited, f"entry 0 flags {63 - flag}" + (
+            "; entry 0 timer 0" if limit == "timed" else "; entry 0 timed 0" if limit == "timer" else ""))
+    case(0, "no accumulated, all others flagged", limited, "entry 0 flags 31; entry 0 accumulated 0")
+    case(0, "no timed count and no timer, all others flagged", limited, "entry 0 flags 61; entry 0 timed 0; entry 0 timer 0")
+    case(0, "start and no end, start 4,000,000,000", bare, "entry 0 flags 4; entry 0 start 4000000000")
+    case(25, "start and no end, start 4,000,000,001", bare, "entry 0 flags 4; entry 0 start 4000000001")
+    case(0, "end and no start, end 0", bare, "entry 0 flags 8")
+    case(25, "end and no start, end 4,000,000,001", bare, "entry 0 flags 8; entry 0 end 4000000001")
+    case(25, "print with accumulated", printing, "entry 0 flags 63; entry 0 accumulated 1")
+    case(25, "export with accumulated", bare, "entry 0 kind 5; entry 0 flags 32; entry 0 accumulated 1")
+    case(25, "print with a timer", printing, "entry 0 timer 1")
+    case(25, "export with a timer", printing, "entry 0 kind 5; entry 0 timer 1")
+    case(0, "export with timed count and timer 0", printing, "entry 0 kind 5")
+
+
+def players():
+    for name in ("operation", "asset", "kind", "code", "entry", "answer_until", "open", "open_entry", "begin", "until"):
+        case(26, f"number 0 and {name} 1", busy, f"player 5 {name} 1")
+    case(26, "number 0 and a whole record behind it", busy, "player 4 number 0")
+    case(26, "number 0 and a whole refusal behind it", busy, "player 3 number 0")
+    case(26, "last player", full, "player 15 operation 0")
+    case(0, "number 4,294,967,295", busy, "player 0 number 4294967295")
+    case(26, "number 1 and nothing behind it", bare, "player 0 number 1")
+    for operation in (0, 4, 255):
+        case(26, f"operation {operation}", busy, f"player 0 operation {operation}")
+    for kind in (0, 6, 255):
+        case(26, f"kind {kind} in a begin", busy, f"player 3 kind {kind}")
+    for kind in (2, 3, 4, 5):
+        case(0, f"kind {kind} in a begin", busy, f"player 3 kind {kind}")
+    case(26, "asset in a continue", busy, "player 2 asset 1")
+    case(26, "asset 256 in a continue", busy, "player 2 asset 256")
+    case(26, "kind in a continue", busy, "player 2 kind 1")
+    case(26, "asset in a stop", busy, "player 0 asset 1")
+    case(26, "kind in a stop", busy, "player 0 kind 1")
+    case(0, "begin for asset 0", busy, "player 3 asset 0")
+    case(0, "begin for asset 65,535", busy, "player 3 asset 65535")
+    for code in (1, 6, 9, 16, 255):
+        case(26, f"code {code}", busy, f"player 3 code {code}")
+    for code in (11, 12, 13, 14, 15):
+        case(0, f"code {code}", busy, f"player 3 code {code}")
+    case(0, "granted entry is the last position", busy, "player 0 entry 3")
+    case(26, "granted entry one past the last", busy, "player 0 entry 4")
+    case(26, "granted entry 255", busy, "player 0 entry 255")
+    case(26, "granted entry in a book without entries", empty, "player 0 number 1; player 0 operation 3")
+    case(0, "refusal in a book without entries",
+         empty, "player 0 number 1; player 0 operation 3; player 0 code 14; player 0 entry 255")
+    case(26, "refusal with entry 0", busy, "player 3 entry 0")
+    case(26, "refusal with entry 254", busy, "player 3 entry 254")
+    case(26, "refusal with until 1", busy, "player 3 answer_until 1")
+    case(0, "granted until 4,294,967,295", busy, "player 0 answer_until 4294967295")
+    case(0, "granted until 0", busy, "player 0 answer_until 0")
+    odd_but_good_records()
+    open_records()
+
+
+def odd_but_good_records():
+    """No event leads to these, but they break no rule."""
+    case(0, "a stop with code 10", busy, "player 0 code 10; player 0 entry 255; player 0 answer_until 0")
+    case(0, "a stop with code 13", busy, "player 0 code 13; player 0 entry 255; player 0 answer_until 0")
+    case(0, "an open use beside a granted stop", busy, "player 1 operation 3; player 1 asset 0; player 1 kind 0")
+    case(0, "an open use beside code 14", busy, "player 1 code 14; player 1 entry 255; player 1 answer_until 0")
+    case(0, "granted entry of another kind", busy, "player 1 entry 2")
+    case(0, "open entry other than the granted one", busy, "player 1 entry 3")
+    case(0, "open entry of an illegal asset", busy, "entry 1 asset 7")
+
+
+def open_records():
+    case(26, "open 2", showing, "player 0 open 2")
+    case(26, "open 255", showing, "player 0 open 255")
+    case(26, "closed with its fields left", busy, "player 1 open 0")
+    case(26, "closed with an open entry", busy, "player 0 open_entry 1")
+    case(26, "closed with a begin", busy, "player 0 begin 1")
+    case(26, "closed with an until", busy, "player 0 until 1")
+    case(0, "begin at the book's time", showing, "player 0 begin 100")
+    case(26, "begin after the book's time", showing, "player 0 begin 101")
+    case(26, "until at the book's time", showing, "player 0 until 100")
+    case(0, "until one after the book's time", showing, "player 0 until 101")
+    case(0, "until 60 after the book's time", showing, "player 0 until 160")
+    case(26, "until 61 after the book's time", showing, "player 0 until 161")
+    case(26, "until 4,294,967,295", showing, "player 0 until 4294967295")
+    case(0, "until 4,000,000,060", showing, "time 4000000000; player 0 until 4000000060")
+    case(26, "until 4,000,000,061", showing, "time 4000000000; player 0 until 4000000061")
+    case(26, "open entry one past the last", busy, "player 4 open_entry 4")
+    case(26, "open entry 255", busy, "player 4 open_entry 255")
+    case(0, "open entry of kind 3", busy, "player 4 open_entry 3")
+    case(26, "open entry of kind 4", showing, "entry 0 kind 4")
+    case(26, "open entry of kind 5", showing, "entry 0 kind 5")
+    case(0, "begin at start", showing, "entry 0 flags 4; entry 0 start 90")
+    case(26, "begin before start", showing, "entry 0 flags 4; entry 0 start 91")
+    case(0, "until at end + 1", showing, "entry 0 flags 8; entry 0 end 129")
+    case(26, "until at end + 2", showing, "entry 0 flags 8; entry 0 end 128")
+    case(0, "until at the latest end + 1",
+         showing, "time 4000000000; entry 0 flags 8; entry 0 end 4000000000; player 0 until 4000000001")
+    case(26, "until at the latest end + 2",
+         showing, "time 4000000000; entry 0 flags 8; entry 0 end 4000000000; player 0 until 4000000002")
+    ran = "entry 0 flags 16; entry 0 interval "
+    case(0, "begin at first, until at first + interval", showing, ran + "40; entry 0 started 1; entry 0 first 90")
+    case(26, "until one past first + interval", showing, ran + "39; entry 0 started 1; entry 0 first 90")
+    case(26, "begin before first", showing, ran + "100; entry 0 started 1; entry 0 first 91")
+    case(0, "first 0, started 1", showing, ran + "130; entry 0 started 1")
+    case(26, "open on an interval that has not started", showing, ran + "200")
+    case(26, "open on an interval with started 2", showing, ran + "200; entry 0 started 2")
+    case(26, "open on an interval with first after the book's time",
+         showing, ran + "200; entry 0 started 1; entry 0 first 101")
+    case(26, "open on an interval with first + interval past 32 bits",
+         showing, ran + "100000000; entry 0 started 1; entry 0 first 4294967295")
+    case(0, "open within dates and interval, all just fitting", showing,
+         "entry 0 flags 28; entry 0 start 90; entry 0 end 129; entry 0 interval 40; entry 0 started 1; entry 0 first 90")
+    case(26, "second open use on the entry outside its dates", showing,
+         "entry 0 flags 4; entry 0 start 90; use 9 0 89 130")
+
+
+def meters():
+    for meter, flag, limit in (("used_count", 1, 10), ("used_timed", 2, 10), ("used_seconds", 32, 100)):
+        case(0, f"{meter} at its limit", limited, f"entry 0 {meter} {limit}")
+        case(27, f"{meter} above its limit", limited, f"entry 0 {meter} {limit + 1}")
+        case(27, f"{meter} 4,294,967,295", limited, f"entry 0 {meter} 4294967295")
+    case(0, "every meter at its limit", limited,
+         "entry 0 used_count 10; entry 0 used_timed 10; entry 0 used_seconds 100; entry 0 started 1; entry 0 first 100")
+    case(27, "last of 64 entries", full, "entry 63 used_count 1000001")
+    for meter in ("used_count", "used_timed", "used_seconds", "started"):
+        case(27, f"{meter} without flags", bare, f"entry 0 {meter} 1")
+    case(27, "first without flags and started", bare, "entry 0 first 1")
+    case(27, "started and first without flags", bare, "entry 0 started 1; entry 0 first 1")
+    case(27, "used_count, all but its flag", limited, "entry 0 limits 62 0 10 10 50 200 100 100; entry 0 used_count 1")
+    case(27, "used_timed, all but its flag", limited, "entry 0 limits 61 10 0 0 50 200 100 100; entry 0 used_timed 1")
+    case(27, "started, all but its flag",
+         limited, "entry 0 limits 47 10 10 10 50 200 0 100; entry 0 started 1; entry 0 first 60")
+    case(27, "used_seconds, all but its flag",
+         limited, "entry 0 limits 31 10 10 10 50 200 100 0; entry 0 used_seconds 1")
+    case(27, "started 2", limited, "entry 0 started 2")
+    case(27, "started 255 with a first", limited, "entry 0 started 255; entry 0 first 60")
+    case(27, "first without started", limited, "entry 0 first 1")
+    case(27, "first after the book's time", limited, "entry 0 started 1; entry 0 first 101")
+    case(0, "first at the book's time", limited, "entry 0 started 1; entry 0 first 100")
+    case(0, "started with nothing counted, first before start", limited, "entry 0 started 1; entry 0 first 49")
+    case(0, "used timed above used count", limited, "entry 0 used_timed 5; entry 0 used_count 1")
+    case(0, "used seconds without a use", limited, "entry 0 used_seconds 7")
+    open_uses_and_meters()
+
+
+def open_uses_and_meters():
+    for meter, flags, limit, value in (
+            ("used_count", 1, "count", 1), ("used_timed", 2, "timed", 1), ("used_seconds", 32, "accumulated", 40)):
+        flagged = f"entry 0 flags {flags}; entry 0 {limit} 1000; "
+        under = f"entry 0 {meter} {value - 1}" if value > 1 else ""
+        case(0, f"{meter} just covers one open use", showing, flagged + f"entry 0 {meter} {value}")
+        case(27, f"{meter} below one open use", showing, flagged + under)
+        both = flagged + "use 15 0 100 140; "
+        case(0, f"{meter} just covers two open uses", showing, both + f"entry 0 {meter} {2 * value}")
+        case(27, f"{meter} below two open uses", showing, both + f"entry 0 {meter} {2 * value - 1}")
+        case(0, f"{meter} covers two open uses and is its limit", showing, both.replace("1000", str(2 * value))
+             + f"entry 0 {meter} {2 * value}")
+        case(27, f"limit of {meter} below two open uses", showing, both.replace("1000", str(2 * value - 1))
+             + f"entry 0 {meter} {2 * value - 1}")
+    case(27, "a second of 160 open ones not metered", busy, "entry 0 used_seconds 159")
+    case(0, "160 open seconds just metered", busy, "entry 0 used_seconds 160")
+    case(0, "open uses just counted", busy, "entry 0 used_count 2")
+    case(27, "one of two open uses not counted", busy, "entry 0 used_count 1")
+    case(27, "one of two open uses not in the timed count", busy, "entry 0 used_timed 1")
+    crowd = "entry 0 flags 35; entry 0 count 16; entry 0 timed 16; entry 0 accumulated 640; " + "".join(
+        f"use {i} 0 90 130; " for i in range(16))
+    case(0, "16 open uses just metered",
+         bare, crowd + "entry 0 used_count 16; entry 0 used_timed 16; entry 0 used_seconds 640")
+    case(27, "16 open uses, 15 counted",
+         bare, crowd + "entry 0 used_count 15; entry 0 used_timed 16; entry 0 used_seconds 640")
+    case(27, "16 open uses, 15 in the timed count",
+         bare, crowd + "entry 0 used_count 16; entry 0 used_timed 15; entry 0 used_seconds 640")
+    case(27, "16 open uses, one second short",
+         bare, crowd + "entry 0 used_count 16; entry 0 used_timed 16; entry 0 used_seconds 639")
+    case(0, "open uses of other entries do not count here", busy, "player 2 open_entry 3; entry 0 used_seconds 60")
+    ages = "time 3000000000; use 0 0 852516412 3000000060; use 1 0 852516412 3000000060"
+    long = "; entry 0 flags 32; entry 0 accumulated 100000000"
+    case(27, "two open uses whose seconds sum to 2 to the 32", bare, ages + long)
+    case(27, "16 open uses whose seconds sum to 8 times 2 to the 32", bare, "time 3000000000; " + "".join(
+        f"use {i} 0 852516412 3000000060; " for i in range(16)) + long[2:])
+    case(27, "two open uses whose seconds sum to 2 to the 32 and 7, 7 metered", bare,
+         ages.replace("use 1 0 852516412", "use 1 0 852516405") + long + "; entry 0 used_seconds 7")
+    case(0, "the same two open uses without an accumulated limit", bare, ages)
+    case(27, "one open use longer than any limit", bare, "time 4000000000; use 0 0 0 4000000060" + long
+         + "; entry 0 used_seconds 100000000")
+    case(0, "one open use of 4,000,000,060 seconds, unflagged", bare, "time 4000000000; use 0 0 0 4000000060")
+
+
+def two_stages():
+    """Two rules broken: the number that comes first in the order wins."""
+    case(20, "short and mark", empty, "byte 0 0; length 10")
+    case(21, "mark and version", empty, "byte 2 0; byte 4 0")
+    case(22, "version and counts", empty, "byte 4 9; byte 5 65")
+    case(22, "version and time", empty, "time 4000000001; byte 4 9")
+    case(23, "counts and length", busy, "byte 6 65")
+    case(23, "time and length", busy, "time 4000000001; length 1000")
+    case(23, "time and asset", busy, "time 4000000001; asset 0 number 0")
+    case(20, "length and asset", busy, "asset 0 number 0; length 700")
+    case(24, "last asset and first entry", busy, "asset 3 key 2; entry 0 object 0")
+    case(24, "asset and player", busy, "asset 3 key 2; player 0 operation 0")
+    case(24, "asset and meter", busy, "asset 3 key 2; entry 0 used_count 6")
+    case(25, "last entry and first player", busy, "entry 3 object 0; player 0 operation 0")
+    case(25, "last entry and first meter", busy, "entry 3 object 0; entry 0 used_count 6")
+    case(25, "limits and meters of one entry", limited, "entry 0 count 0; entry 0 used_count 1")
+    case(25, "an open use outside dates that break the rules", showing, "entry 0 flags 12; entry 0 start 150; entry 0 end 140")
+    case(26, "last player and first meter", busy, "player 15 operation 1; entry 0 used_count 6")
+    case(26, "an open use on an interval that has not started, with a first",
+         showing, "entry 0 flags 16; entry 0 interval 200; entry 0 first 90")
+    case(21, "mark and everything behind it", busy,
+         "time 4000000001; asset 0 number 0; entry 0 object 0; player 0 operation 0; entry 0 used_count 6; byte 0 0; byte 4 0")
+
+
+def main():
+    for group in (good_books, header, assets, entries, players, meters, two_stages):
+        group()
+    data, lines, listing, seen = b"", [], [], set()
+    for number, (answer, name, base, edits) in enumerate(CASES, 1):
+        bytes_in = image(base, edits)
+        assert bytes_in not in seen, f"case {number} ({name}) is there already"
+        seen.add(bytes_in)
+        code, book = rights.read(bytes_in)
+        assert code == answer, f"case {number} ({name}): {answer} by hand, {code} by the reader"
+        data += len(bytes_in).to_bytes(2, "big") + bytes_in
+        if code == 0:
+            assert rights.write(book) == bytes_in, f"case {number} ({name}): other bytes written back"
+            lines.append(f"0 {rights.write(book).hex()}\n")
+        else:
+            lines.append(f"{code}\n")
+        told = edits.strip("; ")
+        listing.append(f"{number:3} {answer:2} {len(bytes_in):5} {name} [{base.__name__}{': ' + told if told else ''}]\n")
+    write_file(CRATES / "images" / "data" / "cases.bin", data)
+    write_file(CRATES / "images" / "stdout", "".join(lines).encode())
+    write_file(CRATES / "image_speed" / "data" / "full.rbk", rights.write(full()))
+    write_file(HERE / "images.txt", ("case, answer, length, name [base: edits]\n" + "".join(listing)).encode())
+    print(f"{len(CASES)} cases, {sum(1 for c in CASES if c[0] == 0)} accepted, {len(data)} bytes")
+
+
+def write_file(path, data):
+    path.parent.mkdir(parents=True, exist_ok=True)
+    path.write_bytes(data)
+
+
+if __name__ == "__main__":
+    main()

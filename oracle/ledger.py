@@ -1,0 +1,228 @@
+"""The ledger of document 01, and demand 3 judged by it.
+
+A ledger is built from events and answers alone. Of the book it reads what no event changes: assets, kinds, flags
+and limits. It is written apart from the rules of events in rights.py, even where the two look alike, so that a
+fault in one of them shows as a difference. It imports nothing.
+"""
+
+
+class Use:
+    def __init__(self, entry, player, begin, until):
+        self.entry, self.player, self.begin, self.until = entry, player, begin, until
+        self.stopped = False
+
+    def open_at(self, T):
+        return not self.stopped and self.until > T
+
+
+class Broken(Exception):
+    """Demand 3 does not hold."""
+
+
+def demand(holds, what):
+    if not holds:
+        raise Broken(what)
+
+
+class Ledger:
+    def __init__(self, assets, entries):
+        self.assets = {a.number: a for a in assets}
+        self.entries = entries
+        self.uses = []
+        self.latest = {}     # player: number, operation, asset, kind of the latest taken event
+        self.answers = {}    # player: its answer
+        self.T = 0           # the time of the latest taken event
+
+    # -- what the papers call by name
+
+    def is_resend(self, event):
+        request = (event.number, event.operation, event.asset, event.kind)
+        return event.player in self.latest and self.latest[event.player] == request
+
+    def is_taken(self, event, code):
+        return not self.is_resend(event) and (code == 0 or 10 <= code <= 15)
+
+    def of_entry(self, entry):
+        return [u for u in self.uses if u.entry == entry]
+
+    def open_use(self, player, T):
+        for use in self.uses:
+            if use.player == player and use.open_at(T):
+                return use
+        return None
+
+    def spent_count(self, entry):
+        return len(self.of_entry(entry))
+
+    def spent_timed(self, entry, T):
+        timer = self.entries[entry].timer
+        return sum(1 for u in self.of_entry(entry) if u.open_at(T) or u.until - u.begin >= timer)
+
+    def spent_seconds(self, entry):
+        return sum(u.until - u.begin for u in self.of_entry(entry))
+
+    def interval_start(self, entry):
+        return min((u.begin for u in self.of_entry(entry)), default=None)
+
+    def is_spent(self, entry, T):
+        limits = self.entries[entry]
+        start = self.interval_start(entry)
+        return ((limits.flags & 1 and self.spent_count(entry) >= limits.count)
+                or (limits.flags & 2 and self.spent_timed(entry, T) >= limits.timed)
+                or (limits.flags & 16 and start is not None and T >= start + limits.interval)
+                or (limits.flags & 32 and self.spent_seconds(entry) >= limits.accumulated))
+
+    def out_of_dates(self, entry, T):
+        limits = self.entries[entry]
+        return (limits.flags & 4 and T < limits.start) or (limits.flags & 8 and T > limits.end)
+
+    # -- the book's assets and entries, in words of their own
+
+    def relation(self, entry, asset):
+        """'own' or 'inherited' if the entry can serve the asset, else None."""
+        holder = self.entries[entry].asset
+        if holder == asset:
+            return "own"
+        if holder != self.assets[asset].inherit or holder not in self.assets:
+            return None
+        above = self.assets[holder]
+        return "inherited" if above.key == 0 and above.inherit == 0 else None
+
+    def suitable(self, asset, kind):
+        if asset not in self.assets or self.assets[asset].key != 1:
+            return []
+        return [p for p in range(len(self.entries)) if self.entries[p].kind == kind and self.relation(p, asset)]
+
+    def comes_before(self, a, b, asset):
+        """Whether the entry at position a goes before the one at b: rules (i) to (v), one after the other."""
+        x, y = self.entries[a], self.entries[b]
+        if (x.flags == 0) != (y.flags == 0):
+            return x.flags == 0
+        x_ends, y_ends = x.flags & 8 != 0, y.flags & 8 != 0
+        if x_ends != y_ends:
+            return x_ends
+        if x_ends and x.end != y.end:
+            return x.end < y.end
+        x_runs = x.flags & 16 != 0 and self.interval_start(a) is not None
+        y_runs = y.flags & 16 != 0 and self.interval_start(b) is not None
+        if x_runs != y_runs:
+            return x_runs
+        x_own, y_own = self.relation(a, asset) == "own", self.relation(b, asset) == "own"
+        if x_own != y_own:
+            return x_own
+        return a < b
+
+    def bounds(self, entry, t, old_until):
+        """The times that an until may not pass; old_until is t for a begin."""
+        limits = self.entries[entry]
+        found = [t + 60]
+        if limits.flags & 8:
+            found.append(limits.end + 1)
+        if limits.flags & 16:
+            start = self.interval_start(entry)
+            found.append((t if start is None else start) + limits.interval)
+        if limits.flags & 32:
+            found.append(old_until + limits.accumulated - self.spent_seconds(entry))
+        return found
+
+    # -- judging one answer by the ledger before it, and taking it in
+
+    def judge(self, event, answer):
+        code, entry, until = answer
+        if code != 0:
+            demand(entry == 255 and until == 0, "a refusal has 255 and 0 behind it")
+        if self.is_resend(event):
+            demand(answer == self.answers[event.player], "a resend gets the answer of the event that it repeats")
+            return
+        if not self.is_taken(event, code):
+            return
+        demand(event.time >= self.T, "a taken event never goes back in time")
+        if event.operation == 1:
+            self.judge_begin(event, answer)
+        else:
+            self.judge_other(event, answer)
+
+    def judge_begin(self, event, answer):
+        code, entry, until = answer
+        t = event.time
+        suitable = self.suitable(event.asset, event.kind)
+        reaches = (self.open_use(event.player, t) is None and event.asset in self.assets
+                   and self.assets[event.asset].key == 1 and suitable != [])
+        demand(reaches == (code not in (10, 11, 12)), "10, 11 and 12 exactly when the choice is not reached")
+        if not reaches:
+            return
+        able = [p for p in suitable if not self.out_of_dates(p, t) and not self.is_spent(p, t)]
+        demand((code == 13) == (able == []), "13 exactly when every suitable entry is out of its dates or spent")
+        if code == 13:
+            return
+        demand(code == 0, "else the begin is granted")
+        demand(entry in able, "the entry granted is suitable, in its dates and not spent")
+        demand(all(self.comes_before(entry, p, event.asset) for p in able if p != entry), "the first entry is chosen")
+        if self.entries[entry].kind >= 4:
+            demand(until == t, "a momentary use ends where it begins")
+        else:
+            bounds = self.bounds(entry, t, t)
+            demand(until in bounds and all(until <= b for b in bounds), "until is the least of its bounds")
+
+    def judge_other(self, event, answer):
+        code, entry, until = answer
+        use = self.open_use(event.player, event.time)
+        demand((code == 14) == (use is None), "14 exactly when nothing is open")
+        if use is None:
+            return
+        if event.operation == 3:
+            demand(answer == (0, use.entry, event.time), "a stop answers its entry and its time")
+            return
+        new = min(self.bounds(use.entry, event.time, use.until))
+        demand(new >= use.until, "a continue never shortens")
+        demand(answer == ((15, 255, 0) if new == use.until else (0, use.entry, new)), "a continue's answer")
+
+    def add(self, event, answer):
+        code, entry, until = answer
+        if self.is_resend(event) or not self.is_taken(event, code):
+            return
+        self.T = event.time
+        self.latest[event.player] = (event.number, event.operation, event.asset, event.kind)
+        self.answers[event.player] = answer
+        if code != 0:
+            return
+        if event.operation == 1:
+            self.uses.append(Use(entry, event.player, event.time, until))
+            return
+        latest = [u for u in self.uses if u.player == event.player][-1]
+        if event.operation == 2:
+            latest.until = until
+        else:
+            latest.until, latest.stopped = event.time, True
+
+    # -- the limits, after each event
+
+    def check_limits(self):
+        for p, limits in enumerate(self.entries):
+            if limits.flags & 1:
+                demand(self.spent_count(p) <= limits.count, "spent count within its limit")
+            if limits.flags & 2:
+                demand(self.spent_timed(p, self.T) <= limits.timed, "spent timed within its limit")
+            if limits.flags & 32:
+                demand(self.spent_seconds(p) <= limits.accumulated, "spent seconds within their limit")
+        for use in self.uses:
+            self.check_dates(use)
+
+    def check_dates(self, use):
+        limits = self.entries[use.entry]
+        first, last = use.begin, max(use.begin, use.until - 1)   # a momentary use has its begin there
+        for second in (first, last):
+            demand(not self.out_of_dates(use.entry, second), "every second lies in the entry's dates")
+            if limits.flags & 16:
+                start = self.interval_start(use.entry)
+                demand(start <= second < start + limits.interval, "every second lies in the entry's interval")
+
+
+def check_run(assets, entries, pairs):
+    """Demand 3 over one run from a fresh book: pairs of event and answer, in order. Returns the ledger."""
+    ledger = Ledger(assets, entries)
+    for event, answer in pairs:
+        ledger.judge(event, answer)
+        ledger.add(event, answer)
+        ledger.check_limits()
+    return ledger

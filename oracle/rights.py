@@ -1,0 +1,428 @@
+"""The rights server a second time, in plain Python, from document 01 alone.
+
+It holds the book, reads and writes its image, decodes an event record and answers one event.
+It shares nothing with the proved program, so that an answer on which both agree was reached twice.
+"""
+
+from dataclasses import dataclass, field
+
+LATEST = 4_000_000_000      # the last time that a book or an event may have
+LAST_NUMBER = 4_294_967_295  # nothing follows this event number
+GRANT = 60                  # seconds that a begin or a continue gives at most
+PLAYERS = 16
+MOST = 64                   # assets, and entries
+
+BEGIN, CONTINUE, STOP = 1, 2, 3
+PLAY, DISPLAY, EXECUTE, PRINT, EXPORT = 1, 2, 3, 4, 5
+COUNT, TIMED, START, END, INTERVAL, ACCUMULATED = 1, 2, 4, 8, 16, 32
+
+TAKEN = (0, 10, 11, 12, 13, 14, 15)
+
+
+# ---- The book
+
+@dataclass
+class Asset:
+    number: int = 0
+    inherit: int = 0
+    key: int = 0
+
+    def is_parent(self):
+        return self.key == 0 and self.inherit == 0
+
+
+@dataclass
+class Entry:
+    object: int = 0
+    asset: int = 0
+    kind: int = 0
+    flags: int = 0
+    count: int = 0
+    timed: int = 0
+    timer: int = 0
+    start: int = 0
+    end: int = 0
+    interval: int = 0
+    accumulated: int = 0
+    used_count: int = 0
+    used_timed: int = 0
+    first: int = 0
+    used_seconds: int = 0
+    started: int = 0
+
+    def has(self, flag):
+        return self.flags & flag != 0
+
+    def is_momentary(self):
+        return self.kind in (PRINT, EXPORT)
+
+
+@dataclass
+class Player:
+    number: int = 0
+    operation: int = 0
+    asset: int = 0
+    kind: int = 0
+    code: int = 0
+    entry: int = 0
+    answer_until: int = 0
+    open: int = 0
+    open_entry: int = 0
+    begin: int = 0
+    until: int = 0
+
+
+@dataclass
+class Book:
+    time: int = 0
+    assets: list = field(default_factory=list)
+    entries: list = field(default_factory=list)
+    players: list = field(default_factory=lambda: [Player() for _ in range(PLAYERS)])
+
+    def asset(self, number):
+        for asset in self.assets:
+            if asset.number == number:
+                return asset
+        return None
+
+
+@dataclass(frozen=True)
+class Event:
+    player: int
+    number: int
+    operation: int
+    asset: int
+    kind: int
+    time: int
+
+
+def refused(code):
+    return (code, 255, 0)
+
+
+# ---- One event: step(book, event) changes the book and returns (code, entry, until)
+
+def step(book, event):
+    if event.player >= PLAYERS:
+        return refused(2)
+    if not request_is_good(event.operation, event.asset, event.kind):
+        return refused(1)
+    player = book.players[event.player]
+    if event.number != 0 and event.number == player.number:
+        if (event.operation, event.asset, event.kind) == (player.operation, player.asset, player.kind):
+            return (player.code, player.entry, player.answer_until)
+        return refused(4)
+    if player.number == LAST_NUMBER or event.number != player.number + 1:
+        return refused(3)
+    if event.time < book.time or event.time > LATEST:
+        return refused(5)
+    book.time = event.time
+    for each in book.players:
+        if each.open and each.until <= event.time:
+            end_use(book, each, each.until)
+    if event.operation == BEGIN:
+        answer = begin(book, player, event.asset, event.kind, event.time)
+    elif event.operation == CONTINUE:
+        answer = go_on(book, player, event.time)
+    else:
+        answer = stop(book, player, event.time)
+    player.number = event.number
+    player.operation, player.asset, player.kind = event.operation, event.asset, event.kind
+    player.code, player.entry, player.answer_until = answer
+    return answer
+
+
+def request_is_good(operation, asset, kind):
+    if operation == BEGIN:
+        return PLAY <= kind <= EXPORT
+    return operation in (CONTINUE, STOP) and asset == 0 and kind == 0
+
+
+def end_use(book, player, end):
+    """Close the player's use; one shorter than the timer gives its timed count back."""
+    entry = book.entries[player.open_entry]
+    if entry.has(TIMED) and end - player.begin < entry.timer:
+        entry.used_timed -= 1
+    player.open = player.open_entry = player.begin = player.until = 0
+
+
+def begin(book, player, number, kind, t):
+    if player.open:
+        return refused(11)
+    asset = book.asset(number)
+    if asset is None or asset.key == 0:
+        return refused(10)
+    suitable = suitable_entries(book, asset, kind)
+    if not suitable:
+        return refused(12)
+    grantable = [p for p in suitable if is_grantable(book.entries[p], t)]
+    if not grantable:
+        return refused(13)
+    position = min(grantable, key=lambda p: rank(book.entries[p], p, number))
+    entry = book.entries[position]
+    if entry.is_momentary():
+        until = t
+    else:
+        first = entry.first if entry.started else t
+        until = least_until(entry, first, t, t)
+    if entry.has(COUNT):
+        entry.used_count += 1
+    if entry.has(TIMED):
+        entry.used_timed += 1
+    if entry.has(ACCUMULATED):
+        entry.used_seconds += until - t
+    if entry.has(INTERVAL) and not entry.started:
+        entry.started, entry.first = 1, t
+    if not entry.is_momentary():
+        player.open, player.open_entry, player.begin, player.until = 1, position, t, until
+    return (0, position, until)
+
+
+def suitable_entries(book, asset, kind):
+    """Positions of the asset's own entries of this kind, and of those of its inherit if that is a parent."""
+    owners = {asset.number}
+    parent = book.asset(asset.inherit) if asset.inherit else None
+    if parent is not None and parent.is_parent():
+        owners.add(parent.number)
+    return [p for p, e in enumerate(book.entries) if e.kind == kind and e.asset in owners]
+
+
+def is_grantable(entry, t):
+    if entry.has(COUNT) and entry.used_count >= entry.count:
+        return False
+    if entry.has(TIMED) and entry.used_timed >= entry.timed:
+        return False
+    if entry.has(START) and t < entry.start:
+        return False
+    if entry.has(END) and t > entry.end:
+        return False
+    if entry.has(INTERVAL) and entry.started and t >= entry.first + entry.interval:
+        return False
+    if entry.has(ACCUMULATED) and entry.used_seconds >= entry.accumulated:
+        return False
+    return True
+
+
+def rank(entry, position, asked):
+    """Least is chosen first: rules (i) to (v) of the choice."""
+    end = entry.end if entry.has(END) else LATEST + 1
+    running = entry.has(INTERVAL) and entry.started
+    return (0 if entry.flags == 0 else 1, end, 0 if running else 1, 0 if entry.asset == asked else 1, position)
+
+
+def least_until(entry, first, t, paid_to):
+    """The least of the bounds; the seconds already paid for reach up to paid_to."""
+    bounds = [t + GRANT]
+    if entry.has(END):
+        bounds.append(entry.end + 1)
+    if entry.has(INTERVAL):
+        bounds.append(first + entry.interval)
+    if entry.has(ACCUMULATED):
+        bounds.append(paid_to + entry.accumulated - entry.used_seconds)
+    return min(bounds)
+
+
+def go_on(book, player, t):
+    if not player.open:
+        return refused(14)
+    entry = book.entries[player.open_entry]
+    until = least_until(entry, entry.first, t, player.until)
+    if until == player.until:
+        return refused(15)
+    if entry.has(ACCUMULATED):
+        entry.used_seconds += until - player.until
+    player.until = until
+    return (0, player.open_entry, until)
+
+
+def stop(book, player, t):
+    if not player.open:
+        return refused(14)
+    position = player.open_entry
+    entry = book.entries[position]
+    if entry.has(ACCUMULATED):
+        entry.used_seconds -= player.until - t
+    end_use(book, player, t)
+    return (0, position, t)
+
+
+# ---- An event record of 13 bytes
+
+def decode(record):
+    """The event in a record, or the number 6, 2 or 1 that turns it away."""
+    if len(record) != 13:
+        return 6
+    event = Event(record[0], number_of(record[1:5]), record[5], number_of(record[6:8]), record[8],
+                  number_of(record[9:13]))
+    if event.player >= PLAYERS:
+        return 2
+    if not request_is_good(event.operation, event.asset, event.kind):
+        return 1
+    return event
+
+
+def encode(event):
+    return (bytes([event.player]) + event.number.to_bytes(4, "big") + bytes([event.operation])
+            + event.asset.to_bytes(2, "big") + bytes([event.kind]) + event.time.to_bytes(4, "big"))
+
+
+def answer_record(book, record):
+    event = decode(record)
+    if isinstance(event, int):
+        return refused(event)
+    return step(book, event)
+
+
+def run(image, records):
+    """What the run program prints, as text: the image's bytes, then the bytes of its input."""
+    code, book = read(image)
+    if code != 0:
+        return f"{code}\n"
+    lines = []
+    for at in range(0, len(records), 13):
+        lines.append("%d %d %d\n" % answer_record(book, records[at:at + 13]))
+    return "".join(lines)
+
+
+# ---- The image
+
+HEADER = 11
+ASSET_FIELDS = [("number", 2), ("inherit", 2), ("key", 1)]
+ENTRY_FIELDS = [
+    ("object", 2), ("asset", 2), ("kind", 1), ("flags", 1), ("count", 4), ("timed", 4), ("timer", 4), ("start", 4),
+    ("end", 4), ("interval", 4), ("accumulated", 4), ("used_count", 4), ("used_timed", 4), ("first", 4),
+    ("used_seconds", 4), ("started", 1)]
+PLAYER_FIELDS = [
+    ("number", 4), ("operation", 1), ("asset", 2), ("kind", 1), ("code", 1), ("entry", 1), ("answer_until", 4),
+    ("open", 1), ("open_entry", 1), ("begin", 4), ("until", 4)]
+ASSET_SIZE, ENTRY_SIZE, PLAYER_SIZE = 5, 51, 24
+
+
+def number_of(data):
+    return int.from_bytes(data, "big")
+
+
+def write(book):
+    data = b"RBK" + (1).to_bytes(2, "big") + bytes([len(book.assets), len(book.entries)])
+    data += book.time.to_bytes(4, "big")
+    for fields, records in ((ASSET_FIELDS, book.assets), (ENTRY_FIELDS, book.entries), (PLAYER_FIELDS, book.players)):
+        for record in records:
+            for name, width in fields:
+                data += getattr(record, name).to_bytes(width, "big")
+    return data
+
+
+def read(data):
+    """(0, the book) for an accepted image, (20 to 27, None) for a refused one."""
+    if len(data) < HEADER:
+        return 20, None
+    if data[0:3] != b"RBK":
+        return 21, None
+    if number_of(data[3:5]) != 1:
+        return 22, None
+    assets, entries, time = data[5], data[6], number_of(data[7:11])
+    if assets > MOST or entries > MOST or time > LATEST:
+        return 23, None
+    if len(data) != HEADER + ASSET_SIZE * assets + ENTRY_SIZE * entries + PLAYER_SIZE * PLAYERS:
+        return 20, None
+    book, at = Book(time), HEADER
+    book.assets, at = take(data, at, Asset, ASSET_FIELDS, assets)
+    book.entries, at = take(data, at, Entry, ENTRY_FIELDS, entries)
+    book.players, at = take(data, at, Player, PLAYER_FIELDS, PLAYERS)
+    if not assets_are_good(book):
+        return 24, None
+    if not all(entry_is_good(book, entry) for entry in book.entries):
+        return 25, None
+    if not all(player_is_good(book, player) for player in book.players):
+        return 26, None
+    if not all(meters_are_good(book, position) for position in range(entries)):
+        return 27, None
+    return 0, book
+
+
+def take(data, at, make, fields, how_many):
+    records = []
+    for _ in range(how_many):
+        record = make()
+        for name, width in fields:
+            setattr(record, name, number_of(data[at:at + width]))
+            at += width
+        records.append(record)
+    return records, at
+
+
+def assets_are_good(book):
+    numbers = [asset.number for asset in book.assets]
+    return (0 not in numbers and len(set(numbers)) == len(numbers)
+            and all(asset.key in (0, 1) for asset in book.assets))
+
+
+def entry_is_good(book, entry):
+    if entry.object == 0 or book.asset(entry.asset) is None:
+        return False
+    if not PLAY <= entry.kind <= EXPORT or entry.flags > 63:
+        return False
+    limits = [
+        (COUNT, entry.count, 1, 1_000_000), (TIMED, entry.timed, 1, 1_000_000), (TIMED, entry.timer, 0, 1_000_000),
+        (START, entry.start, 0, LATEST), (END, entry.end, 0, LATEST), (INTERVAL, entry.interval, 1, 100_000_000),
+        (ACCUMULATED, entry.accumulated, 1, 100_000_000)]
+    for flag, limit, least, greatest in limits:
+        if entry.has(flag) and not least <= limit <= greatest:
+            return False
+        if not entry.has(flag) and limit != 0:
+            return False
+    if entry.has(START) and entry.has(END) and entry.start > entry.end:
+        return False
+    if entry.is_momentary() and (entry.has(ACCUMULATED) or entry.timer != 0):
+        return False
+    return True
+
+
+def player_is_good(book, player):
+    if player.number == 0:
+        return player == Player()
+    if not request_is_good(player.operation, player.asset, player.kind):
+        return False
+    if player.code == 0:
+        if player.entry >= len(book.entries):
+            return False
+    elif not 10 <= player.code <= 15 or player.entry != 255 or player.answer_until != 0:
+        return False
+    if player.open == 0:
+        return (player.open_entry, player.begin, player.until) == (0, 0, 0)
+    return player.open == 1 and open_use_is_good(book, player)
+
+
+def open_use_is_good(book, player):
+    if not player.begin <= book.time < player.until <= book.time + GRANT:
+        return False
+    if player.open_entry >= len(book.entries):
+        return False
+    entry = book.entries[player.open_entry]
+    if entry.kind not in (PLAY, DISPLAY, EXECUTE):
+        return False
+    if entry.has(START) and player.begin < entry.start:
+        return False
+    if entry.has(END) and player.until > entry.end + 1:
+        return False
+    if entry.has(INTERVAL):
+        if entry.started != 1 or player.begin < entry.first or player.until > entry.first + entry.interval:
+            return False
+    return True
+
+
+def meters_are_good(book, position):
+    entry = book.entries[position]
+    uses = [player for player in book.players if player.open and player.open_entry == position]
+    seconds = sum(player.until - player.begin for player in uses)
+    meters = [
+        (COUNT, entry.used_count, len(uses), entry.count), (TIMED, entry.used_timed, len(uses), entry.timed),
+        (ACCUMULATED, entry.used_seconds, seconds, entry.accumulated)]
+    for flag, used, least, greatest in meters:
+        if entry.has(flag) and not least <= used <= greatest:
+            return False
+        if not entry.has(flag) and used != 0:
+            return False
+    if entry.started > 1 or (entry.started == 0 and entry.first != 0) or entry.first > book.time:
+        return False
+    return entry.has(INTERVAL) or entry.started == 0
