@@ -1,7 +1,7 @@
 -- What a grant adds to the meters, and its until, fit 32 bits.
-use Prim.Native.Nat.{ℕ, _+_, _-_, _<_, _≤_, min}
+use Prim.Native.Nat.{ℕ, _+_, _-_, _<_, _≤_}
 use mathlib.Core.Path.{_≡_, refl}
-use mathlib.Core.Bool.{Bool, true, false, not, _&&_, _||_, cond, false≢true}
+use mathlib.Core.Bool.{Bool, true, false, _&&_, cond, false≢true}
 use lib.Dec.{ltb}
 use native.Mathlib.Nat.{min-le-left, min-le-right}
 use native.Mathlib.Omega.{arith}
@@ -9,7 +9,7 @@ use borrow.Author.Tests.{ltb-true}
 use Rattle.book.specs.declared.Limits.{Limits}
 use Rattle.book.specs.declared.Meters.{Meters}
 use Rattle.model.specs.Book.{latestTime, grantLength, flagged, momentary}
-use Rattle.model.specs.Events.{asked, where-flagged, cap, intervalFrom, leastUntil, grantUntil, moreUntil, grantable, countLeft, timedLeft, inDates, intervalLeft, secondsLeft}
+use Rattle.model.specs.Events.{asked, where-flagged, cap, intervalFrom, leastUntil, grantUntil, grantable, countLeft, timedLeft, inDates, intervalLeft, secondsLeft}
 
 -- what begun adds, for a begin at t until u, fits
 pub record Room (t u : ℕ) (l : Limits) (m : Meters) : Type 0 where

@@ -1,10 +1,10 @@
 -- Begin, continue and stop on one entry and the asking player's use, and the laws that make a step of the model of them.
 -- They are total: what a 32-bit number cannot hold does not arise, since a time that no event has is refused here too.
-use Prim.Native.Nat.{ℕ, _+_, _-_, _≤_}
-use mathlib.Core.Path.{_≡_, refl, sym, ap, _∙_}
-use mathlib.Core.Bool.{Bool, true, false, not, _&&_, _||_, cond}
-use mathlib.Core.List.{List, [], _∷_}
-use lib.ListN.{getD, set}
+use Prim.Native.Nat.{ℕ, _≤_}
+use mathlib.Core.Path.{_≡_, refl, ap}
+use mathlib.Core.Bool.{Bool, true, false, not, _&&_, cond}
+use mathlib.Core.List.{List}
+use lib.ListN.{set}
 use lib.Seq.{set-getD}
 use lib.Dec.{leb}
 use borrow.Author.Tests.{le-leb}
@@ -14,7 +14,7 @@ use Rattle.book.specs.declared.Entry.{Entry}
 use Rattle.book.specs.declared.Open.{Open}
 use Rattle.book.specs.Blank.{noEntry, closed}
 use Rattle.model.specs.Book.{limitsAt, metersAt, latestTime, momentary}
-use Rattle.model.specs.Events.{Done, Choice, chosen, refusal, noneGrantable, unchanged, granted, doContinue, more, doStop, isOn, grantable, grantUntil, moreUntil, begun, continued, ended, amend, expired, released}
+use Rattle.model.specs.Events.{Done, chosen, refusal, noneGrantable, unchanged, granted, doContinue, more, doStop, isOn, grantable, grantUntil, moreUntil, begun, continued, ended, amend, expired, released}
 use Rattle.uses.specs.declared.Part.{Part}
 
 -- a refusal that leaves both as they are
@@ -163,7 +163,7 @@ unfolding stored amend
 release-cases true t es o = refl
 release-cases false t es o = set-getD es (o .entry) noEntry
 
--- the settling of one use, as an entry stored
+-- the settling of one use, by the meters of its entry
 pub released-stored :
     (t : ℕ) (es : List Entry) (o : Open) →
     stored (o .entry) (releasedOn t (limitsAt es (o .entry)) (metersAt es (o .entry)) o) es ≡ released t o es

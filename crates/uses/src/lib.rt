@@ -5,7 +5,7 @@ ghost use mathlib.Core.Bool.{cond};
 ghost use Prim.Native.Nat.{_-_, _≤_};
 ghost use Rattle.book.specs.Blank.{closed};
 ghost use Rattle.model.specs.Book.{latestTime};
-ghost use Rattle.model.specs.Events.{expired, shut, begun, continued, ended, grantUntil, moreUntil, leastUntil};
+ghost use Rattle.model.specs.Events.{expired, shut, begun, continued, ended, grantUntil, moreUntil};
 ghost use Rattle.uses.specs.Uses.{kept, beginOn, continueOn, stopOn, releasedOn};
 ghost use Rattle.uses.specs.Room.{Room, MoreRoom};
 ghost use Rattle.uses.specs.Due.{anyDue};
