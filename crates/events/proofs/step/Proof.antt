@@ -43,7 +43,8 @@ enum-told-2 c = search needs
 
 taken-requires : tie.Need-taken-requires
 taken-requires c κs =
-    (omega (arith, c .before .before .before .before .before .before .if1 .left), gate-passed _ _ (sym (c .before .before .gate-of .ensures) ∙ c .enum-told2 .given .1) .early)
+    let a = c .before .before .before .before .before .before .before .before .args in
+    (omega (arith, c .before .before .before .before .before .before .if1 .left), gate-passed (a .t1) (a .e) (sym (c .before .before .gate-of .ensures) ∙ c .enum-told2 .given .1) .early)
 
 returns-2 : tie.Need-returns-2
 unfolding step stepBy
