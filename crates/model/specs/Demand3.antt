@@ -272,18 +272,18 @@ pub record Lengthened (s : State) (e : Event) (a : Answer) : Type 0 where
   pub no-more : RefusedWhen (until ≡ current .until) 15 a
   pub more : (until ≡ current .until → ⊥) → a ≡ record { code = 0; entry = current .entry; until = until }
 
--- "**Continue**: 14 if nothing is open.", else about the use that is
+-- "**Continue**: 14 if nothing is open.", else as above
 pub record Continues (s : State) (e : Event) : Type 0 where
   pub nothing : RefusedWhen (NothingOpen (e .time) (e .player) (s .account .uses)) 14 (step (s .book) e .answer)
   pub lengthened : (NothingOpen (e .time) (e .player) (s .account .uses) → ⊥) → Lengthened s e (step (s .book) e .answer)
 
--- "Answer: its entry, until t."
+-- "The use ends at t"; "Answer: its entry, until t."
 pub record Halted (s : State) (e : Event) (a : Answer) : Type 0 where
   pub current : Use
   pub is-current : IsCurrent (e .time) (e .player) (s .account .uses) current
   pub answer : a ≡ record { code = 0; entry = current .entry; until = e .time }
 
--- "**Stop**: 14 if nothing is open. The use ends at t"
+-- "**Stop**: 14 if nothing is open.", else as above
 pub record Stops (s : State) (e : Event) : Type 0 where
   pub nothing : RefusedWhen (NothingOpen (e .time) (e .player) (s .account .uses)) 14 (step (s .book) e .answer)
   pub halted : (NothingOpen (e .time) (e .player) (s .account .uses) → ⊥) → Halted s e (step (s .book) e .answer)

@@ -31,6 +31,7 @@ use Rattle.model.specs.Proof.Steps.{Inv, gate-refuse, gate-take, gate-re
 use Rattle.model.specs.Proof.Until.{until-least}
 use Rattle.model.specs.Proof.Run.{settled-filled, filled-limits, filled-meters, judged}
 
+-- what is no resend and is answered as taken has passed the gate
 takes-gate : (b : Book) (a : Account) (e : Event) → Inv b a → resent a e ≡ false → calledTaken (step b e .answer .code) ≡ true
     → gate (b .time) (lastAt (b .players) (e .player)) e ≡ Take
 unfolding step stepBy
@@ -87,7 +88,7 @@ module _ (s : State) (e : Event) (h : Inv (s .book) (s .account)) (t : Takes s e
       (λ c g. ap (λ (o : Open). isOn o) c)
       (λ u l o c. clash o (all-latest (ShutFor (e .time) (e .player)) (e .player) (s .account .uses) u l n (latest-player (e .player) (s .account .uses) u l)))
 
-  -- a use is open: not nothing
+  -- where a use is open there is not nothing open
   busy : (u : Use) → O ≡ heldAs u → Idle → ⊥
   busy u c n = clash (ap (λ (o : Open). isOn o) c) (on-idle n)
 
