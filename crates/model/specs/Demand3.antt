@@ -1,10 +1,10 @@
 -- Demand 3 as a statement: what is claimed of every list of events run from a fresh legal book. It is proved in `Proof.Demand3`.
 -- Uses no file of proofs. The rules appear here only where document 01 says so ("with the ledger's figures for the meters");
--- suitable, the order of the choice, and until are stated a second time, in words of their own.
+-- suitable, the order of the choice, until, and what a continue and a stop are answered are stated a second time, in words of their own.
 use mathlib.Core.Path.{_≡_}
 use mathlib.Core.Logic.{_↔_, _⊎_}
-use Prim.Native.Nat.{ℕ, zero, suc, _+_, _-_, _≤_, _<_}
-use mathlib.Core.Bool.{Bool, true, false, not, _&&_, _||_, cond}
+use Prim.Native.Nat.{ℕ, suc, _+_, _-_, _≤_, _<_}
+use mathlib.Core.Bool.{Bool, true, false, _&&_, _||_, cond}
 use mathlib.Core.List.{List, [], _∷_, map}
 use mathlib.Core.Option.{Option, none, some}
 use Rattle.laws.specs.Count.{one}
@@ -18,7 +18,6 @@ use Rattle.book.specs.declared.Book.{Book}
 use Rattle.book.specs.declared.Event.{Event}
 use Rattle.book.specs.declared.Kind.{Kind}
 use Rattle.book.specs.declared.Kind.the-variants.{Play, Display, Execute, Print, Export}
-use Rattle.book.specs.declared.Request.{Request}
 use Rattle.book.specs.declared.Request.the-variants.{Begin, Continue, Stop}
 use Rattle.book.specs.declared.Decoded.{Decoded}
 use Rattle.book.specs.declared.Decoded.the-variants.{Invalid, Valid}
@@ -26,7 +25,7 @@ use Rattle.book.specs.declared.Gate.{Gate}
 use Rattle.book.specs.declared.Gate.the-variants.{Refuse, Resend, Take}
 use Rattle.book.specs.Blank.{noLast, closed}
 use Rattle.model.specs.Book.{assetAt, limitsAt, metersAt, assetsIn, entriesIn, flagged}
-use Rattle.model.specs.Events.{kindNumber, where-flagged, Catalog, catalogOf, Choice, nobody, chosen, choose, grantUntil, done, refusal, noneGrantable, noted, gate, decoded, step, arrive, stepRecord}
+use Rattle.model.specs.Events.{kindNumber, where-flagged, catalogOf, Choice, nobody, chosen, choose, grantUntil, done, refusal, noneGrantable, noted, gate, decoded, step, arrive, stepRecord}
 use Rattle.model.specs.Ledger.{Use, Taken, Account, empty, latestTaken, resent, calledTaken, timeOf, latest, isOpen, spentCount, spentTimed, spentSeconds, countsTimed, sumOf, earliest, spent, outOfDates, noteArrival}
 
 -- ## The run
@@ -251,7 +250,45 @@ pub record Begins (s : State) (e : Event) (kind : Kind) (asset : ℕ) : Type 0 w
   pub reaches : PastChecks (step (s .book) e .answer) ↔ MayChoose s e asset (kindNumber kind)
   pub choice : PastChecks (step (s .book) e .answer) → Chosen s e kind asset
 
--- ## d. Resends struck out
+-- ## d. What a continue and a stop are answered
+
+-- answered with that code exactly when P; "Each of 1 to 15 returns entry 255 and until 0."
+abbrev pub RefusedWhen : Type 0 → ℕ → Answer → Type 0
+RefusedWhen P code a = (a .code ≡ code → P) × (P → a ≡ refusal code)
+
+-- the use that a continue or a stop is about: its player's latest, open at t
+pub record IsCurrent (t p : ℕ) (us : List Use) (u : Use) : Type 0 where
+  pub latest-use : latest p us ≡ some u
+  pub still-open : isOpen t u ≡ true
+
+-- "The new until is the least of t + 60, end + 1, first + interval, old until + unused seconds. Equal to the old: 15.";
+-- it is never below the old
+pub record Lengthened (s : State) (e : Event) (a : Answer) : Type 0 where
+  pub current : Use
+  pub is-current : IsCurrent (e .time) (e .player) (s .account .uses) current
+  pub until : ℕ
+  pub least : IsLeast (e .time) (current .until) (limitsAt (s .book .entries) (current .entry)) (s .account .uses) (current .entry) until
+  pub not-below : current .until ≤ until
+  pub no-more : RefusedWhen (until ≡ current .until) 15 a
+  pub more : (until ≡ current .until → ⊥) → a ≡ record { code = 0; entry = current .entry; until = until }
+
+-- "**Continue**: 14 if nothing is open.", else as above
+pub record Continues (s : State) (e : Event) : Type 0 where
+  pub nothing : RefusedWhen (NothingOpen (e .time) (e .player) (s .account .uses)) 14 (step (s .book) e .answer)
+  pub lengthened : (NothingOpen (e .time) (e .player) (s .account .uses) → ⊥) → Lengthened s e (step (s .book) e .answer)
+
+-- "The use ends at t"; "Answer: its entry, until t."
+pub record Halted (s : State) (e : Event) (a : Answer) : Type 0 where
+  pub current : Use
+  pub is-current : IsCurrent (e .time) (e .player) (s .account .uses) current
+  pub answer : a ≡ record { code = 0; entry = current .entry; until = e .time }
+
+-- "**Stop**: 14 if nothing is open.", else as above
+pub record Stops (s : State) (e : Event) : Type 0 where
+  pub nothing : RefusedWhen (NothingOpen (e .time) (e .player) (s .account .uses)) 14 (step (s .book) e .answer)
+  pub halted : (NothingOpen (e .time) (e .player) (s .account .uses) → ⊥) → Halted s e (step (s .book) e .answer)
+
+-- ## e. Resends struck out
 
 abbrev pub isResend : Account → Decoded → Bool
 isResend a (Invalid code) = false
@@ -266,7 +303,7 @@ unfoldable pub kept : State → List Decoded → List Answer
 kept s [] = []
 kept s (d ∷ ds) = cond (isResend (s .account) d) (kept (advance s d) ds) (arrive (s .book) d .answer ∷ kept (advance s d) ds)
 
--- ## e. Every answer by the ledger alone
+-- ## f. Every answer by the ledger alone
 
 -- what the player has open at T, and its latest taken event, as the book would store them
 abbrev pub heldBy : ℕ → Option Use → Open
@@ -306,6 +343,8 @@ pub record Demand3 (b : Book) : Type 0 where
   pub limits : (ds : List Decoded) → Limited (timeOf (after (starting b) ds .account .taken)) (after (starting b) ds .account .uses) (b .entries)
   pub begins : (ds : List Decoded) (e : Event) (kind : Kind) (asset : ℕ) → e .request ≡ Begin kind asset → Takes (after (starting b) ds) e
       → Begins (after (starting b) ds) e kind asset
+  pub continues : (ds : List Decoded) (e : Event) → e .request ≡ Continue → Takes (after (starting b) ds) e → Continues (after (starting b) ds) e
+  pub stops : (ds : List Decoded) (e : Event) → e .request ≡ Stop → Takes (after (starting b) ds) e → Stops (after (starting b) ds) e
   pub struckAnswers : (ds : List Decoded) → answers b (struck (starting b) ds) ≡ kept (starting b) ds
   pub struckBook : (ds : List Decoded) → final b (struck (starting b) ds) ≡ final b ds
   pub predictable : (ds : List Decoded) → answers b ds ≡ predicted b empty ds

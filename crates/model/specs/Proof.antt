@@ -14,6 +14,7 @@ pub mod Suitable
 pub mod Choice
 pub mod Until
 pub mod Run
+pub mod Current
 pub mod Demand3
 pub mod KeptFacts
 pub mod KeptRules

@@ -16,25 +16,21 @@ use Rattle.book.specs.declared.Open.{Open}
 use Rattle.book.specs.declared.Book.{Book}
 use Rattle.book.specs.declared.Event.{Event}
 use Rattle.book.specs.declared.Kind.{Kind}
-use Rattle.book.specs.declared.Request.{Request}
 use Rattle.book.specs.declared.Request.the-variants.{Begin}
 use Rattle.book.specs.declared.Decoded.{Decoded}
-use Rattle.book.specs.declared.Gate.{Gate}
-use Rattle.book.specs.declared.Gate.the-variants.{Refuse, Resend, Take}
 use Rattle.model.specs.Book.{limitsAt, entriesIn, flagged, Legal, Fresh}
-use Rattle.model.specs.Events.{kindNumber, where-flagged, isOn, Catalog, catalogOf, usable, parentOf, suitable, asked, countLeft, timedLeft, inDates, intervalLeft, secondsLeft, grantable, suits, allowed, goesBefore, Choice, nobody, chosen, anyOf, choose, granted, doBegin, done, lastAt, gate, stepBy, step}
-use Rattle.model.specs.Ledger.{Use, Account, empty, resent, calledTaken, isOpen, spentCount, spentTimed, spentSeconds, earliest, over, spent, outOfDates}
-use Rattle.model.specs.Demand3.{State, after, starting, Takes, PastChecks, NothingOpen, Suits, MayChoose, outOrSpent, NoneLeft, startOr, isSome, figures, filled, chosenAnswer, Granted, Chosen, Begins, heldIn, Demand3}
-use Rattle.model.specs.Proof.Facts.{on-test, clash, and-left, and-right, and-both}
-use Rattle.model.specs.Proof.Sums.{Tidy, tidy-later, ShutFor, all-latest, all-shut, latest-player}
-use Rattle.model.specs.Proof.Held.{held-cases}
+use Rattle.model.specs.Events.{kindNumber, where-flagged, isOn, Catalog, catalogOf, usable, parentOf, suitable, asked, countLeft, timedLeft, inDates, intervalLeft, secondsLeft, grantable, suits, allowed, goesBefore, Choice, nobody, chosen, anyOf, choose, granted, doBegin, done, step}
+use Rattle.model.specs.Ledger.{Use, empty, spentCount, spentTimed, spentSeconds, earliest, over, spent, outOfDates}
+use Rattle.model.specs.Demand3.{State, after, starting, Takes, PastChecks, Suits, MayChoose, outOrSpent, NoneLeft, startOr, isSome, figures, filled, chosenAnswer, Granted, Chosen, Begins, heldIn, Demand3}
+use Rattle.model.specs.Proof.Facts.{on-test, and-left, and-right, and-both}
 use Rattle.model.specs.Proof.Concrete.{held-ext, choose-sound, choose-none, none-choose}
 use Rattle.model.specs.Proof.Grounds.{legal-grounds, static-self}
-use Rattle.model.specs.Proof.Steps.{Inv, gate-refuse, gate-take, gate-resend, resent-is}
+use Rattle.model.specs.Proof.Steps.{Inv}
 use Rattle.model.specs.Proof.Suitable.{any-sure, sure-any, usable-in, in-usable, suits-to, to-suits}
 use Rattle.model.specs.Proof.Choice.{choose-first, weightAt, before-weight, precedes}
 use Rattle.model.specs.Proof.Until.{grant-until}
-use Rattle.model.specs.Proof.Run.{fresh-inv, after-inv, after-static, limited, struck-answers, struck-book, filled-limits, filled-meters, judged, answers-predicted, record-answers, record-final}
+use Rattle.model.specs.Proof.Current.{answer-is, idle-on, on-idle, continues, stops}
+use Rattle.model.specs.Proof.Run.{fresh-inv, after-inv, after-static, limited, struck-answers, struck-book, filled-limits, filled-meters, answers-predicted, record-answers, record-final}
 
 -- ## Grantable by the ledger
 
@@ -127,17 +123,6 @@ passed-begin c es o t asset kind p q r =
 
 -- ## A begin that is taken
 
-takes-gate : (b : Book) (a : Account) (e : Event) → Inv b a → resent a e ≡ false → calledTaken (step b e .answer .code) ≡ true
-    → gate (b .time) (lastAt (b .players) (e .player)) e ≡ Take
-unfolding step stepBy
-takes-gate b a e h r t = go (gate (b .time) (lastAt (b .players) (e .player)) e) refl t
-  where
-    go : (g : Gate) → gate (b .time) (lastAt (b .players) (e .player)) e ≡ g → calledTaken (stepBy g b e .answer .code) ≡ true
-        → gate (b .time) (lastAt (b .players) (e .player)) e ≡ Take
-    go (Refuse c) q x = clash x (gate-refuse _ _ e c q)
-    go Resend q x = clash (resent-is b a e h ∙ gate-resend _ _ e q) r
-    go Take q x = q
-
 module _ (s : State) (e : Event) (h : Inv (s .book) (s .account)) (kind : Kind) (asset : ℕ) (x : e .request ≡ Begin kind asset) (t : Takes s e) where
   abbrev B : Book
   B = s .book
@@ -148,32 +133,12 @@ module _ (s : State) (e : Event) (h : Inv (s .book) (s .account)) (kind : Kind) 
   abbrev O : Open
   O = heldIn (e .time) (e .player) (s .account .uses)
 
-  taking : gate (B .time) (lastAt (B .players) (e .player)) e ≡ Take
-  taking = takes-gate B (s .account) e h (t .new) (t .taken)
-
   begin-is : step B e .answer ≡ doBegin (catalogOf B) F O (e .time) asset (kindNumber kind) .answer
-  unfolding step stepBy done
-  begin-is = rw taking (judged B (s .account) e h taking ∙ ap (λ (q : Request). done q (catalogOf B) F O (e .time) .answer) x)
+  unfolding done
+  begin-is = answer-is s e h t (Begin kind asset) x
 
   suits-same : suits (catalogOf B) F asset (kindNumber kind) ≡ suits (catalogOf B) (B .entries) asset (kindNumber kind)
   suits-same = fun-ext (λ j. ap (suitable asset (parentOf (catalogOf B) asset) (kindNumber kind)) (filled-limits (e .time) (s .account .uses) 0 (B .entries) j))
-
-  tidy : Tidy (e .time) (s .account .uses)
-  tidy = tidy-later (B .time) (e .time) (s .account .uses) (gate-take _ _ e taking .later) (h .held .tidy)
-
-  -- nothing open, by the latest use and by all
-  idle-on : isOn O ≡ false → NothingOpen (e .time) (e .player) (s .account .uses)
-  idle-on q =
-      all-shut (e .time) (e .player) (s .account .uses) tidy (λ u l.
-      on-test (isOpen (e .time) u)
-      (λ o. let z : isOn O ≡ true = rw (l, o) refl in clash z q)
-      (λ o. o))
-
-  on-idle : NothingOpen (e .time) (e .player) (s .account .uses) → isOn O ≡ false
-  on-idle n =
-      held-cases (e .time) (e .player) (s .account .uses) O refl
-      (λ c g. ap (λ (o : Open). isOn o) c)
-      (λ u l o c. clash o (all-latest (ShutFor (e .time) (e .player)) (e .player) (s .account .uses) u l n (latest-player (e .player) (s .account .uses) u l)))
 
   reaches-to : PastChecks (step B e .answer) → MayChoose s e asset (kindNumber kind)
   unfolding catalogOf
@@ -181,7 +146,7 @@ module _ (s : State) (e : Event) (h : Inv (s .book) (s .account)) (kind : Kind) 
       let p = begin-passed (catalogOf B) F O (e .time) asset (kindNumber kind) (rw begin-is at n) in
       let y = any-sure (suits (catalogOf B) (B .entries) asset (kindNumber kind)) (entriesIn B) (rw suits-same at (p .some-suits)) in
       record {
-        idle = idle-on (p .off);
+        idle = idle-on s e h t (p .off);
         asset-in = usable-in B (h .grounds) asset (p .asset-in);
         entry = y .0;
         suits = suits-to B (h .grounds) asset (kindNumber kind) (y .0) (y .1 .below) (y .1 .passes);
@@ -191,7 +156,7 @@ module _ (s : State) (e : Event) (h : Inv (s .book) (s .account)) (kind : Kind) 
   unfolding catalogOf
   to-reaches m =
       rw begin-is
-      (passed-begin (catalogOf B) F O (e .time) asset (kindNumber kind) (on-idle (m .idle)) (in-usable B (h .grounds) asset (m .asset-in))
+      (passed-begin (catalogOf B) F O (e .time) asset (kindNumber kind) (on-idle s e h t (m .idle)) (in-usable B (h .grounds) asset (m .asset-in))
       (rw suits-same
       (sure-any (suits (catalogOf B) (B .entries) asset (kindNumber kind)) (entriesIn B) (m .entry) (m .suits .below)
       (to-suits B (h .grounds) asset (kindNumber kind) (m .entry) (m .suits)))))
@@ -289,6 +254,8 @@ demand3 b g f =
           (limited _ _ _ (b .entries) _ _ _
           (held-ext refl refl (λ i. sym (after-static ds (starting b) .limits i)) (λ i. refl) (λ p. refl) (h ds .held)));
       begins = λ ds e kind asset x t. begins (after (starting b) ds) e (h ds) kind asset x t;
+      continues = λ ds e x t. continues (after (starting b) ds) e (h ds) t x;
+      stops = λ ds e x t. stops (after (starting b) ds) e (h ds) t x;
       struckAnswers = λ ds. struck-answers ds (starting b) start;
       struckBook = λ ds. struck-book ds (starting b) start;
       predictable = λ ds. answers-predicted b ds (starting b) start (static-self b);

@@ -268,7 +268,7 @@ module _ {T k n : ℕ} {lim : ℕ → Limits} {met : ℕ → Meters} {opn : ℕ 
     unfolding moreUntil leastUntil caps
     more-eq = ev
 
-    more-ge : u .until ≤ v
+    pub more-ge : u .until ≤ v
     more-ge = rw more-eq (caps-ge _ _ _ _ _ _ _ (u .until) (own-sound .dates .last) (λ f. omega (arith, own-from f, own-span .last f)) (λ f. omega arith) (own-sound .near))
 
     more-near : v ≤ T + grantLength (lim (u .entry) .kind)

@@ -188,7 +188,7 @@ filled-meters T us es i = filled-from T us 0 es i ∙ ap (λ (k : ℕ). figures 
 entry-path : {x y : Entry} → x .limits ≡ y .limits → x .meters ≡ y .meters → x ≡ y
 entry-path p q = λ i. record { limits = p i; meters = q i }
 
-settled-filled : (S T : ℕ) (es : List Entry) (ps : List Player) (us : List Use) → S ≤ T
+pub settled-filled : (S T : ℕ) (es : List Entry) (ps : List Player) (us : List Use) → S ≤ T
     → Held S (length ps) (length es) (limitsAt es) (metersAt es) (openAt ps) us → settled T ps es ≡ filled T us es
 settled-filled S T es ps us later h =
     let g = settled-held S T es ps us later h in

@@ -59,7 +59,7 @@ module _ (t : ℕ) (us : List Use) (i : ℕ) (l : Limits) where
   lent-least from x (span f e) = rw (e, ← from-figures f) (caps-second _ _ _ _ _ _ _ f)
   lent-least from x (unused f e) = rw (e, ← seconds-figures f) (caps-third _ _ _ _ _ _ _ f)
 
-  until-least : (from : ℕ) → IsLeast t from l us i (leastUntil t from l (figures (λ p. t) us i l))
+  pub until-least : (from : ℕ) → IsLeast t from l us i (leastUntil t from l (figures (λ p. t) us i l))
   unfolding grantLength
   until-least from = rw (lent-is from) (record {
     listed = caps-pick (flagged 8 l) (flagged 16 l) (flagged 32 l) _ _ _ _
