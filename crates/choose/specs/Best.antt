@@ -1,0 +1,122 @@
+-- The best entry of the first so many, as a loop over the entries carries it, and the law of one turn.
+use Prim.Native.Nat.{ℕ, zero, suc, _+_, _≤_}
+use mathlib.Core.Path.{_≡_, refl, sym, ap, _∙_}
+use mathlib.Core.Bool.{Bool, true, false, not, _&&_, _||_, cond}
+use mathlib.Core.List.{List}
+use native.Mathlib.Numerals.{add-one}
+use lib.Dec.{ltb, eqb}
+use Rattle.laws.specs.Count.{one}
+use Rattle.book.specs.declared.Limits.{Limits}
+use Rattle.book.specs.declared.Meters.{Meters}
+use Rattle.book.specs.declared.Entry.{Entry}
+use Rattle.model.specs.Book.{limitsAt, metersAt}
+use Rattle.model.specs.Events.{Choice, nobody, chosen, prefer, chooseOf, anyOf, suitable, grantable, goesBefore, rankOf, ranksBefore}
+use Rattle.rules.specs.declared.Rank.{Rank}
+use Rattle.rules.specs.Rules.{asRank}
+use Rattle.choose.specs.declared.Best.{Best}
+
+-- the position that was chosen, 64 where nobody is
+abbrev pub position : Choice → ℕ
+position nobody = 64
+position (chosen i) = i
+
+-- the rank of an entry, as the code holds it
+unfoldable pub rankNumbers : ℕ → Limits → Meters → Rank
+rankNumbers asset l m = record {
+  flags = rankOf asset l m .flags;
+  end = rankOf asset l m .end;
+  fresh = rankOf asset l m .fresh;
+  inherited = rankOf asset l m .inherited;
+}
+
+-- every entry's rank goes before this one
+abbrev pub lastRank : Rank
+lastRank = record { flags = 2; end = 0; fresh = 0; inherited = 0 }
+
+abbrev pub rankChosen : List Entry → ℕ → Choice → Rank
+rankChosen es asset nobody = lastRank
+rankChosen es asset (chosen i) = rankNumbers asset (limitsAt es i) (metersAt es i)
+
+abbrev pub suitsAt : List Entry → ℕ → ℕ → ℕ → ℕ → Bool
+suitsAt es asset parent kind i = suitable asset parent kind (limitsAt es i)
+
+abbrev pub allowedAt : List Entry → ℕ → ℕ → ℕ → ℕ → ℕ → Bool
+allowedAt es asset parent kind t i = suitsAt es asset parent kind i && grantable t (limitsAt es i) (metersAt es i)
+
+-- of the first n entries, the one chosen
+unfoldable pub choiceAfter : List Entry → ℕ → ℕ → ℕ → ℕ → ℕ → Choice
+choiceAfter es asset parent kind t n = chooseOf (allowedAt es asset parent kind t) (goesBefore es asset) n
+
+-- of the first n entries: whether any suits, the position of the one chosen, and its rank
+unfoldable pub bestAfter : List Entry → ℕ → ℕ → ℕ → ℕ → ℕ → Best
+bestAfter es asset parent kind t n = record {
+  suits = anyOf (suitsAt es asset parent kind) n;
+  at = position (choiceAfter es asset parent kind t n);
+  rank = rankChosen es asset (choiceAfter es asset parent kind t n);
+}
+
+-- entry i, with those limits and meters, against the best so far
+unfoldable pub considered : ℕ → ℕ → ℕ → ℕ → ℕ → Limits → Meters → Best → Best
+considered asset parent kind t i l m best =
+    cond (suitable asset parent kind l)
+    (cond (ranksBefore (rankOf asset l m) (asRank (best .rank)) && grantable t l m)
+    (record { suits = true; at = i; rank = rankNumbers asset l m })
+    (record { suits = true; at = best .at; rank = best .rank }))
+    best
+
+or-true : (a : Bool) → (a || true) ≡ true
+or-true true = refl
+or-true false = refl
+
+or-false : (a : Bool) → (a || false) ≡ a
+or-false true = refl
+or-false false = refl
+
+and-false : (a : Bool) → false ≡ (a && false)
+and-false true = refl
+and-false false = refl
+
+one-below : (w : Bool) → ltb (one w) 2 ≡ true
+one-below true = refl
+one-below false = refl
+
+before-last : (asset : ℕ) (l : Limits) (m : Meters) → ranksBefore (rankOf asset l m) (asRank lastRank) ≡ true
+unfolding ranksBefore rankOf
+before-last asset l m = rw (one-below (not (eqb (l .flags) 0)))
+
+module _ (es : List Entry) (asset k : ℕ) (any : Bool) where
+  abbrev chosenBest : Bool → Choice → Best
+  chosenBest s c = record { suits = s; at = position c; rank = rankChosen es asset c }
+
+  suits-now : (c : Choice) → chosenBest (any || true) c ≡ chosenBest true c
+  suits-now c = ap (λ (s : Bool). chosenBest s c) (or-true any)
+
+  against : (b : Bool) (j : ℕ) → chosenBest (any || true) (cond b (chosen k) (chosen j)) ≡ cond (b && true) (chosenBest true (chosen k)) (chosenBest true (chosen j))
+  against true j = suits-now (chosen k)
+  against false j = suits-now (chosen j)
+
+  turn :
+      (s g : Bool) (c : Choice) →
+      chosenBest (any || s) (prefer (s && g) k (goesBefore es asset k) c)
+      ≡ cond s
+      (cond (ranksBefore (rankOf asset (limitsAt es k) (metersAt es k)) (asRank (rankChosen es asset c)) && g)
+      (chosenBest true (chosen k))
+      (chosenBest true c))
+      (chosenBest any c)
+  unfolding rankNumbers
+  turn false g c = ap (λ (s : Bool). chosenBest s c) (or-false any)
+  turn true false c =
+      suits-now c
+      ∙ ap (λ (b : Bool). cond b (chosenBest true (chosen k)) (chosenBest true c)) (and-false (ranksBefore (rankOf asset (limitsAt es k) (metersAt es k)) (asRank (rankChosen es asset c))))
+  turn true true nobody = rw (before-last asset (limitsAt es k) (metersAt es k)) (suits-now (chosen k))
+  turn true true (chosen j) = against (goesBefore es asset k j) j
+
+-- what a loop over the entries carries, one entry further
+pub best-turn :
+    (es : List Entry) (asset parent kind t k : ℕ) →
+    bestAfter es asset parent kind t (k + 1)
+    ≡ considered asset parent kind t k (limitsAt es k) (metersAt es k) (bestAfter es asset parent kind t k)
+unfolding bestAfter considered choiceAfter chooseOf anyOf
+best-turn es asset parent kind t k =
+    rw add-one
+    (turn es asset k (anyOf (suitsAt es asset parent kind) k) (suitsAt es asset parent kind k) (grantable t (limitsAt es k) (metersAt es k)) (choiceAfter es asset parent kind t k))

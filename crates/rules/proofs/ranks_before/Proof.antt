@@ -1,0 +1,11 @@
+use Rattle.model.specs.Events.{ranksBefore}
+use mathlib.Core.Path.{refl}
+use Rattle.rules.proofs.ranks_before.Statement.{statement}
+use Rattle.rules.proofs.ranks_before.Tie as tie
+
+returns : tie.Need-returns
+unfolding ranksBefore
+returns c = refl
+
+pub ranks-before-spec : {M : Type 1} → statement M
+ranks-before-spec = tie.close (tie.spec returns)

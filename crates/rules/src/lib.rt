@@ -1,0 +1,281 @@
+// The rules of document 01 on one entry and one player: the checks on an event's number and time, which entry suits and is grantable,
+// which of two goes first, and the least until. All is read from the limits and meters of one entry, so no function here takes a book.
+// Every function is total, and its contract gives its whole result.
+ghost use mathlib.Core.Path.{_≡_};
+ghost use mathlib.Core.Bool.{cond};
+ghost use Prim.Native.Nat.{_-_, min};
+ghost use Rattle.laws.specs.Count.{one};
+ghost use Rattle.model.specs.Book.{grantLength, momentary};
+ghost use Rattle.model.specs.Events.{kindNumber, sameRequest, gate, noted, grantable, suitable, rankOf, ranksBefore, cap, leastUntil, where-flagged};
+ghost use Rattle.rules.specs.Rules.{wireOf, flagsOf, asRank};
+use book::Answer;
+use book::Event;
+use book::Gate;
+use book::Kind;
+use book::Last;
+use book::Limits;
+use book::Meters;
+use book::Request;
+
+// The three numbers of a request, as event records and images have them.
+pub struct Wire {
+    pub operation: u8,
+    pub asset: u16,
+    pub kind: u8,
+}
+
+// Which limits of an entry are flagged.
+pub struct Flags {
+    pub count: bool,
+    pub timed: bool,
+    pub start: bool,
+    pub end: bool,
+    pub interval: bool,
+    pub accumulated: bool,
+}
+
+// What an entry is chosen by, in the order of the fields: the lesser number goes first.
+pub struct Rank {
+    pub flags: u8,
+    pub end: u64,
+    pub fresh: u8,
+    pub inherited: u8,
+}
+
+pub fn pick32(w: bool, a: u32, b: u32) -> u32
+    ensures { λ r. ⌜ r ≡ cond w a b ⌝ }
+{
+    if w { a } else { b }
+}
+
+// The number where the test passes, else 0.
+pub fn when(w: bool, v: u32) -> u32
+    ensures { λ r. ⌜ r ≡ where-flagged w v ⌝ }
+{
+    if w { v } else { 0 }
+}
+
+pub fn pick64(w: bool, a: u64, b: u64) -> u64
+    ensures { λ r. ⌜ r ≡ cond w a b ⌝ }
+{
+    if w { a } else { b }
+}
+
+// 1 for a test that passes, 0 for one that fails.
+pub fn one(w: bool) -> u8
+    ensures { λ r. ⌜ r ≡ one w ⌝ }
+{
+    if w { 1 } else { 0 }
+}
+
+pub fn pick_gate(w: bool, a: Gate, b: Gate) -> Gate
+    ensures { λ r. ⌜ r ≡ cond w a b ⌝ }
+{
+    if w { a } else { b }
+}
+
+// The difference, 0 where there is none.
+pub fn less(a: u32, b: u32) -> u32
+    ensures { λ r. ⌜ r ≡ a - b ⌝ }
+{
+    if a < b {
+        return 0;
+    }
+    a - b
+}
+
+pub fn least(a: u64, b: u64) -> u64
+    ensures { λ r. ⌜ r ≡ min a b ⌝ }
+{
+    if a < b { a } else { b }
+}
+
+// How many slots of a table count: a count above 64, which no image has, counts as 64.
+pub fn at_most_64(count: u8) -> usize
+    ensures { λ r. ⌜ r ≡ min count 64 ⌝ }
+{
+    let n = count as usize;
+    if n < 64 { n } else { 64 }
+}
+
+pub fn kind_number(k: Kind) -> u8
+    ensures { λ r. ⌜ r ≡ kindNumber k ⌝ }
+{
+    match k {
+        Kind::Play => 1,
+        Kind::Display => 2,
+        Kind::Execute => 3,
+        Kind::Print => 4,
+        Kind::Export => 5,
+    }
+}
+
+// Wrong and ruled out: a kind or an asset for a continue or a stop, two operations with one number.
+pub fn wire_of(q: Request) -> Wire
+    ensures { λ r. ⌜ r ≡ wireOf q ⌝ }
+{
+    match q {
+        Request::Begin(k, a) => Wire {
+            operation: 1,
+            asset: a,
+            kind: kind_number(k),
+        },
+        Request::Continue => Wire {
+            operation: 2,
+            asset: 0,
+            kind: 0,
+        },
+        Request::Stop => Wire {
+            operation: 3,
+            asset: 0,
+            kind: 0,
+        },
+    }
+}
+
+// Wrong and ruled out: taking a begin of another asset or kind for the same request.
+pub fn same_request(last: Last, q: Request) -> bool
+    ensures { λ r. ⌜ r ≡ sameRequest last q ⌝ }
+{
+    let w = wire_of(q);
+    (w.operation == last.operation) & (w.asset == last.asset) & (w.kind == last.kind)
+}
+
+// Wrong and ruled out: reading the time of a resend, a resend of number 0, a number after 4294967295, the time judged before the number.
+pub fn gate_of(now: u32, last: Last, e: Event) -> Gate
+    ensures { λ r. ⌜ r ≡ gate now last e ⌝ }
+{
+    let q = e.request;
+    let same = same_request(last, q);
+    let next = last.number as u64 + 1;
+    let number = e.number as u64;
+    let timely = (now <= e.time) & (e.time <= 4000000000);
+    let follows = (last.number < 4294967295) & (number == next);
+    let repeats = !(last.number == 0) & (e.number == last.number);
+    let in_time = pick_gate(!timely, Gate::Refuse(5), Gate::Take);
+    let in_line = pick_gate(!follows, Gate::Refuse(3), in_time);
+    let again = pick_gate(same, Gate::Resend, Gate::Refuse(4));
+    pick_gate(
+        15 < e.player,
+        Gate::Refuse(2),
+        pick_gate(repeats, again, in_line),
+    )
+}
+
+// Wrong and ruled out: storing another number, request or answer than those of the event.
+pub fn noted_last(e: Event, a: Answer) -> Last
+    ensures { λ r. ⌜ r ≡ noted e a ⌝ }
+{
+    let q = e.request;
+    let w = wire_of(q);
+    Last {
+        number: e.number,
+        operation: w.operation,
+        asset: w.asset,
+        kind: w.kind,
+        answer: a,
+    }
+}
+
+pub fn flags_of(l: Limits) -> Flags
+    ensures { λ r. ⌜ r ≡ flagsOf l ⌝ }
+{
+    Flags {
+        count: l.flags % 2 == 1,
+        timed: l.flags / 2 % 2 == 1,
+        start: l.flags / 4 % 2 == 1,
+        end: l.flags / 8 % 2 == 1,
+        interval: l.flags / 16 % 2 == 1,
+        accumulated: l.flags / 32 % 2 == 1,
+    }
+}
+
+// How many seconds a grant of a kind gives at the most.
+pub fn grant_length(kind: u8) -> u32
+    ensures { λ r. ⌜ r ≡ grantLength kind ⌝ }
+{
+    60
+}
+
+pub fn momentary(kind: u8) -> bool
+    ensures { λ r. ⌜ r ≡ momentary kind ⌝ }
+{
+    (4 <= kind) & (kind <= 5)
+}
+
+// Wrong and ruled out: an inherited entry where there is no parent, another kind.
+pub fn suitable(l: Limits, asset: u16, parent: u16, kind: u8) -> bool
+    ensures { λ r. ⌜ r ≡ suitable asset parent kind l ⌝ }
+{
+    (l.kind == kind) & ((l.asset == asset) | (!(parent == 0) & (l.asset == parent)))
+}
+
+// Wrong and ruled out: end taken as excluded, a limit tested without its flag, a sum that wraps.
+pub fn grantable(l: Limits, m: Meters, t: u32) -> bool
+    ensures { λ r. ⌜ r ≡ grantable t l m ⌝ }
+{
+    let first = m.first as u64;
+    let interval = l.interval as u64;
+    let due = first + interval;
+    let now = t as u64;
+    let f = flags_of(l);
+    (!f.count | (m.count < l.count))
+        & (!f.timed | (m.timed < l.timed))
+        & ((!f.start | (l.start <= t)) & (!f.end | (t <= l.end)))
+        & (!f.interval | (!(m.started == 1) | (now < due)))
+        & (!f.accumulated | (m.seconds < l.accumulated))
+}
+
+pub fn rank_of(l: Limits, m: Meters, asset: u16) -> Rank
+    ensures { λ r. ⌜ asRank r ≡ rankOf asset l m ⌝ }
+{
+    let f = flags_of(l);
+    let end = l.end as u64;
+    Rank {
+        flags: one(!(l.flags == 0)),
+        end: pick64(f.end, end, 4294967296),
+        fresh: one(!(m.started == 1)),
+        inherited: one(!(l.asset == asset)),
+    }
+}
+
+// Wrong and ruled out: own after inherited, a later end first, fields compared in another order.
+pub fn ranks_before(a: Rank, b: Rank) -> bool
+    ensures { λ r. ⌜ r ≡ ranksBefore (asRank a) (asRank b) ⌝ }
+{
+    (a.flags < b.flags)
+        | (a.flags == b.flags)
+            & ((a.end < b.end)
+                | (a.end == b.end)
+                    & ((a.fresh < b.fresh) | (a.fresh == b.fresh) & (a.inherited < b.inherited)))
+}
+
+pub fn capped(w: bool, v: u64, x: u64) -> u64
+    ensures { λ r. ⌜ r ≡ cap w v x ⌝ }
+{
+    if w {
+        return least(v, x);
+    }
+    x
+}
+
+// Wrong and ruled out: a limit left out, a limit that is not flagged, first instead of t where no interval has started.
+pub fn least_until(t: u32, from: u32, l: Limits, m: Meters) -> u64
+    ensures { λ r. ⌜ r ≡ leastUntil t from l m ⌝ }
+{
+    let f = flags_of(l);
+    let now = t as u64;
+    let length = grant_length(l.kind) as u64;
+    let granted = now + length;
+    let unused = less(l.accumulated, m.seconds) as u64;
+    let paid = from as u64 + unused;
+    let first = pick32(m.started == 1, m.first, t) as u64;
+    let interval = l.interval as u64;
+    let due = first + interval;
+    let end = l.end as u64;
+    capped(
+        f.end,
+        end + 1,
+        capped(f.interval, due, capped(f.accumulated, paid, granted)),
+    )
+}

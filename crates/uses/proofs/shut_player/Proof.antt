@@ -1,0 +1,17 @@
+use Rattle.model.specs.Events.{shut}
+use borrow.Author.Needs.{needs}
+use Rattle.uses.proofs.shut_player.Statement.{statement}
+use Rattle.uses.proofs.shut_player.Tie as tie
+
+due-requires : tie.Need-due-requires
+due-requires c κs = search needs
+
+pick-open-requires : tie.Need-pick-open-requires
+pick-open-requires c κs = search needs
+
+returns : tie.Need-returns
+unfolding shut
+returns c = rw (c .pick-open .ensures, c .before .due .ensures)
+
+pub shut-player-spec : {M : Type 1} → statement M
+shut-player-spec = tie.close (tie.spec due-requires pick-open-requires returns)

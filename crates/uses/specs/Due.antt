@@ -1,0 +1,82 @@
+-- Whether any player's use is due, and that settling changes nothing where none is.
+use Prim.Native.Nat.{ℕ, zero, suc, _+_, _<_, _≤_}
+use mathlib.Core.Path.{_≡_, refl, sym, ap₂, ap, _∙_}
+use mathlib.Core.Bool.{Bool, true, false, _||_, cond}
+use mathlib.Core.List.{List, [], _∷_, map}
+use lib.ListN.{length, getD}
+use native.Mathlib.Omega.{arith}
+use native.Mathlib.Numerals.{add-one}
+use Rattle.book.specs.declared.Entry.{Entry}
+use Rattle.book.specs.declared.Player.{Player}
+use Rattle.book.specs.declared.Open.{Open}
+use Rattle.model.specs.Book.{playerAt}
+use Rattle.model.specs.Events.{anyOf, expired, shut, released, settled}
+
+unfoldable pub dueAt : ℕ → List Player → ℕ → Bool
+dueAt t ps i = expired t (playerAt ps i .current)
+
+-- of the sixteen players
+unfoldable pub anyDue : ℕ → List Player → Bool
+anyDue t ps = anyOf (dueAt t ps) 16
+
+-- a turn of the loop
+pub any-of-next : (f : ℕ → Bool) (n : ℕ) → anyOf f (n + 1) ≡ (anyOf f n || f n)
+unfolding anyOf
+any-of-next f n = rw add-one
+
+or-left : (a b : Bool) → (a || b) ≡ false → a ≡ false
+or-left false b h = refl
+or-left true b h = h
+
+or-right : (a b : Bool) → (a || b) ≡ false → b ≡ false
+or-right false b h = h
+or-right true false h = refl
+or-right true true h = h
+
+or-assoc : (a b c : Bool) → (a || b || c) ≡ (a || (b || c))
+or-assoc true b c = refl
+or-assoc false b c = refl
+
+or-none : (a : Bool) → a ≡ (a || false)
+or-none true = refl
+or-none false = refl
+
+-- the first apart from the others
+any-of-first : (f : ℕ → Bool) (n : ℕ) → anyOf f (suc n) ≡ (f 0 || anyOf (λ i. f (suc i)) n)
+unfolding anyOf
+any-of-first f zero = or-none (f 0)
+any-of-first f (suc n) =
+    ap (λ (a : Bool). a || f (suc n)) (any-of-first f n) ∙ or-assoc (f 0) (anyOf (λ i. f (suc i)) n) (f (suc n))
+
+shut-same : (t : ℕ) (p : Player) → expired t (p .current) ≡ false → shut t p ≡ p
+unfolding shut
+shut-same t p h = rw h
+
+released-same : (t : ℕ) (o : Open) (es : List Entry) → expired t o ≡ false → released t o es ≡ es
+unfolding released
+released-same t o es h = rw h
+
+none-from :
+    (t : ℕ) (ps : List Player) (es : List Entry) (n : ℕ) →
+    length ps ≤ n →
+    anyOf (dueAt t ps) n ≡ false →
+    (map (shut t) ps ≡ ps) × (settled t ps es ≡ es)
+unfolding dueAt settled
+none-from t [] es n h e = (refl, refl)
+none-from t (p ∷ ps) es zero h e = absurd (omega arith)
+none-from t (p ∷ ps) es (suc n) h e =
+    let d = sym (any-of-first (dueAt t (p ∷ ps)) n) ∙ e in
+    let here = or-left (expired t (p .current)) (anyOf (dueAt t ps) n) d in
+    let rest = none-from t ps es n (omega arith) (or-right (expired t (p .current)) (anyOf (dueAt t ps) n) d) in (
+      ap₂ (λ (q : Player) (qs : List Player). q ∷ qs) (shut-same t p here) (rest .0),
+      ap (λ (l : List Entry). settled t ps l) (released-same t (p .current) es here) ∙ rest .1,
+    )
+
+-- "each open use of any player with until ≤ t ends": none, so settling leaves players and entries as they are
+pub none-due :
+    (t : ℕ) (ps : List Player) (es : List Entry) →
+    length ps ≡ 16 →
+    anyDue t ps ≡ false →
+    (map (shut t) ps ≡ ps) × (settled t ps es ≡ es)
+unfolding anyDue
+none-due t ps es h e = none-from t ps es 16 (omega arith) e

@@ -1,0 +1,113 @@
+-- What a grant adds to the meters, and its until, fit 32 bits.
+use Prim.Native.Nat.{ℕ, _+_, _-_, _<_, _≤_, min}
+use mathlib.Core.Path.{_≡_, refl}
+use mathlib.Core.Bool.{Bool, true, false, not, _&&_, _||_, cond, false≢true}
+use lib.Dec.{ltb}
+use native.Mathlib.Nat.{min-le-left, min-le-right}
+use native.Mathlib.Omega.{arith}
+use borrow.Author.Tests.{ltb-true}
+use Rattle.book.specs.declared.Limits.{Limits}
+use Rattle.book.specs.declared.Meters.{Meters}
+use Rattle.model.specs.Book.{latestTime, grantLength, flagged, momentary}
+use Rattle.model.specs.Events.{asked, where-flagged, cap, intervalFrom, leastUntil, grantUntil, moreUntil, grantable, countLeft, timedLeft, inDates, intervalLeft, secondsLeft}
+
+-- what begun adds, for a begin at t until u, fits
+pub record Room (t u : ℕ) (l : Limits) (m : Meters) : Type 0 where
+  pub count : m .count + where-flagged (flagged 1 l) 1 < 4294967296
+  pub timed : m .timed + where-flagged (flagged 2 l) 1 < 4294967296
+  pub seconds : m .seconds + where-flagged (flagged 32 l) (u - t) < 4294967296
+
+-- what continued adds, from u to v, fits
+pub record MoreRoom (u v : ℕ) (l : Limits) (m : Meters) : Type 0 where
+  pub seconds : m .seconds + where-flagged (flagged 32 l) (v - u) < 4294967296
+
+-- the limits fit, as numbers of 32 bits do
+pub record Narrow (l : Limits) (m : Meters) : Type 0 where
+  pub countLimit : l .count < 4294967296
+  pub timedLimit : l .timed < 4294967296
+  pub secondsLimit : l .accumulated < 4294967296
+  pub count : m .count < 4294967296
+  pub timed : m .timed < 4294967296
+  pub seconds : m .seconds < 4294967296
+
+and-left : (a b : Bool) → (a && b) ≡ true → a ≡ true
+and-left true b h = refl
+and-left false b h = h
+
+and-right : (a b : Bool) → (a && b) ≡ true → b ≡ true
+and-right true b h = h
+and-right false true h = refl
+and-right false false h = h
+
+cap-under : (w : Bool) (v x : ℕ) → cap w v x ≤ x
+cap-under true v x = min-le-right v x
+cap-under false v x = omega arith
+
+cap-flagged : (w : Bool) (v x : ℕ) → w ≡ true → cap w v x ≤ v
+cap-flagged true v x h = min-le-left v x
+cap-flagged false v x h = absurd (false≢true h)
+
+least-length : (t from : ℕ) (l : Limits) (m : Meters) → leastUntil t from l m ≤ t + 60
+unfolding leastUntil grantLength
+least-length t from l m =
+    let paid = cap (flagged 32 l) (from + (l .accumulated - m .seconds)) (t + 60) in
+    let due = cap (flagged 16 l) (intervalFrom t m + l .interval) paid in
+    omega (arith, cap-under (flagged 8 l) (l .end + 1) due, cap-under (flagged 16 l) (intervalFrom t m + l .interval) paid, cap-under (flagged 32 l) (from + (l .accumulated - m .seconds)) (t + 60))
+
+least-paid : (t from : ℕ) (l : Limits) (m : Meters) → flagged 32 l ≡ true → leastUntil t from l m ≤ from + (l .accumulated - m .seconds)
+unfolding leastUntil grantLength
+least-paid t from l m h =
+    let paid = cap (flagged 32 l) (from + (l .accumulated - m .seconds)) (t + 60) in
+    let due = cap (flagged 16 l) (intervalFrom t m + l .interval) paid in
+    omega (arith, cap-under (flagged 8 l) (l .end + 1) due, cap-under (flagged 16 l) (intervalFrom t m + l .interval) paid, cap-flagged (flagged 32 l) (from + (l .accumulated - m .seconds)) (t + 60) h)
+
+-- a continue's until, at a time that an event may have
+pub more-fits : (t from : ℕ) (l : Limits) (m : Meters) → t ≤ latestTime → leastUntil t from l m < 4294967296
+more-fits t from l m h = omega (arith, least-length t from l m)
+
+momentary-length : (w : Bool) (t v : ℕ) → v ≤ t + 60 → cond w t v ≤ t + 60
+momentary-length true t v h = omega arith
+momentary-length false t v h = h
+
+pub grant-fits : (t : ℕ) (l : Limits) (m : Meters) → t ≤ latestTime → grantUntil t l m < 4294967296
+unfolding grantUntil
+grant-fits t l m h = omega (arith, momentary-length (momentary (l .kind)) t (leastUntil t t l m) (least-length t t l m))
+
+seconds-room :
+    (w : Bool) (s a v u n : ℕ) →
+    (w ≡ true → v ≤ u + (a - s)) →
+    s < n →
+    a < n →
+    s + where-flagged w (v - u) < n
+seconds-room true s a v u n h p q = omega (arith, h refl)
+seconds-room false s a v u n h p q = omega arith
+
+count-room : (w : Bool) (a b n : ℕ) → asked w (ltb a b) ≡ true → a < n → b < n → a + where-flagged w 1 < n
+count-room true a b n h p q = omega (arith, ltb-true a b h)
+count-room false a b n h p q = omega arith
+
+pub more-room :
+    (t from : ℕ) (l : Limits) (m : Meters) →
+    Narrow l m →
+    MoreRoom from (leastUntil t from l m) l m
+more-room t from l m n = record {
+  seconds =
+      seconds-room (flagged 32 l) (m .seconds) (l .accumulated) (leastUntil t from l m) from 4294967296 (least-paid t from l m) (n .seconds) (n .secondsLimit);
+}
+
+momentary-paid : (w : Bool) (t v x : ℕ) → v ≤ t + x → cond w t v ≤ t + x
+momentary-paid true t v x h = omega arith
+momentary-paid false t v x h = h
+
+pub grant-room : (t : ℕ) (l : Limits) (m : Meters) → grantable t l m ≡ true → Narrow l m → Room t (grantUntil t l m) l m
+unfolding grantable countLeft timedLeft grantUntil
+grant-room t l m g n =
+    let counts = countLeft l m && timedLeft l m in
+    let early = counts && inDates t l in
+    let both = and-left counts (inDates t l) (and-left early (intervalLeft t l m) (and-left (early && intervalLeft t l m) (secondsLeft l m) g)) in
+    record {
+      count = count-room (flagged 1 l) (m .count) (l .count) 4294967296 (and-left (countLeft l m) (timedLeft l m) both) (n .count) (n .countLimit);
+      timed = count-room (flagged 2 l) (m .timed) (l .timed) 4294967296 (and-right (countLeft l m) (timedLeft l m) both) (n .timed) (n .timedLimit);
+      seconds = seconds-room (flagged 32 l) (m .seconds) (l .accumulated) (cond (momentary (l .kind)) t (leastUntil t t l m)) t 4294967296
+          (λ h. momentary-paid (momentary (l .kind)) t (leastUntil t t l m) (l .accumulated - m .seconds) (least-paid t t l m h)) (n .seconds) (n .secondsLimit);
+    }

@@ -1,0 +1,171 @@
+-- Begin, continue and stop on one entry and the asking player's use, and the laws that make a step of the model of them.
+-- They are total: what a 32-bit number cannot hold does not arise, since a time that no event has is refused here too.
+use Prim.Native.Nat.{ℕ, _+_, _-_, _≤_}
+use mathlib.Core.Path.{_≡_, refl, sym, ap, _∙_}
+use mathlib.Core.Bool.{Bool, true, false, not, _&&_, _||_, cond}
+use mathlib.Core.List.{List, [], _∷_}
+use lib.ListN.{getD, set}
+use lib.Seq.{set-getD}
+use lib.Dec.{leb}
+use borrow.Author.Tests.{le-leb}
+use Rattle.book.specs.declared.Limits.{Limits}
+use Rattle.book.specs.declared.Meters.{Meters}
+use Rattle.book.specs.declared.Entry.{Entry}
+use Rattle.book.specs.declared.Open.{Open}
+use Rattle.book.specs.Blank.{noEntry, closed}
+use Rattle.model.specs.Book.{limitsAt, metersAt, latestTime, momentary}
+use Rattle.model.specs.Events.{Done, Choice, chosen, refusal, noneGrantable, unchanged, granted, doContinue, more, doStop, isOn, grantable, grantUntil, moreUntil, begun, continued, ended, amend, expired, released}
+use Rattle.uses.specs.declared.Part.{Part}
+
+-- a refusal that leaves both as they are
+abbrev pub kept : ℕ → Meters → Open → Part
+kept code m o = record { answer = refusal code; meters = m; current = o }
+
+-- a begin on entry i at t
+unfoldable pub beginOn : ℕ → ℕ → Limits → Meters → Open → Part
+beginOn i t l m o =
+    cond (grantable t l m && leb t latestTime)
+    (record {
+      answer = record { code = 0; entry = i; until = grantUntil t l m };
+      meters = begun t (grantUntil t l m) l m;
+      current = cond (momentary (l .kind)) o (record { on = 1; entry = i; begin = t; until = grantUntil t l m });
+    })
+    (kept noneGrantable m o)
+
+-- whether a continue at t gets more time
+abbrev pub lengthens : ℕ → Limits → Meters → Open → Bool
+lengthens t l m o = leb t latestTime && not (leb (moreUntil t (o .until) l m) (o .until))
+
+unfoldable pub continueOn : ℕ → Limits → Meters → Open → Part
+continueOn t l m o =
+    cond (not (isOn o)) (kept 14 m o)
+    (cond (not (lengthens t l m o)) (kept 15 m o)
+    (record {
+      answer = record { code = 0; entry = o .entry; until = moreUntil t (o .until) l m };
+      meters = continued (o .until) (moreUntil t (o .until) l m) l m;
+      current = record { on = 1; entry = o .entry; begin = o .begin; until = moreUntil t (o .until) l m };
+    }))
+
+unfoldable pub stopOn : ℕ → Limits → Meters → Open → Part
+stopOn t l m o =
+    cond (not (isOn o)) (kept 14 m o)
+    (record {
+      answer = record { code = 0; entry = o .entry; until = t };
+      meters = ended (o .begin) (o .until) t l m;
+      current = closed;
+    })
+
+-- the meters of the entry of a use, settled at t
+unfoldable pub releasedOn : ℕ → Limits → Meters → Open → Meters
+releasedOn t l m o = cond (expired t o) (ended (o .begin) (o .until) (o .until) l m) m
+
+-- ## Put back into the entries
+
+-- the meters of entry i become m
+unfoldable pub stored : ℕ → Meters → List Entry → List Entry
+stored i m es = set es i (record { limits = limitsAt es i; meters = m })
+
+-- what an operation on entry i leaves
+unfoldable pub placed : ℕ → Part → List Entry → Done
+placed i p es = record { answer = p .answer; entries = stored i (p .meters) es; current = p .current }
+
+pub stored-same : (i : ℕ) (es : List Entry) → stored i (metersAt es i) es ≡ es
+unfolding stored
+stored-same i es = set-getD es i noEntry
+
+kept-placed : (i code : ℕ) (es : List Entry) (o : Open) → placed i (kept code (metersAt es i) o) es ≡ unchanged code es o
+unfolding placed
+kept-placed i code es o = ap (λ (x : List Entry). unchanged code x o) (stored-same i es)
+
+-- a grantable entry, at a time that an event may have
+pub begin-on-granted :
+    (i t : ℕ) (l : Limits) (m : Meters) (o : Open) →
+    grantable t l m ≡ true →
+    t ≤ latestTime →
+    beginOn i t l m o
+    ≡ record {
+      answer = record { code = 0; entry = i; until = grantUntil t l m };
+      meters = begun t (grantUntil t l m) l m;
+      current = cond (momentary (l .kind)) o (record { on = 1; entry = i; begin = t; until = grantUntil t l m });
+    }
+unfolding beginOn
+begin-on-granted i t l m o g h = rw (g, le-leb t latestTime h)
+
+pub begin-placed :
+    (i t : ℕ) (es : List Entry) (o : Open) →
+    grantable t (limitsAt es i) (metersAt es i) ≡ true →
+    t ≤ latestTime →
+    placed i (beginOn i t (limitsAt es i) (metersAt es i) o) es ≡ granted t es o (chosen i)
+unfolding placed stored amend
+begin-placed i t es o g h = rw (begin-on-granted i t (limitsAt es i) (metersAt es i) o g h)
+
+continue-cases :
+    (on some : Bool) (t : ℕ) (es : List Entry) (o : Open) →
+    placed (o .entry)
+    (cond (not on) (kept 14 (metersAt es (o .entry)) o)
+    (cond (not (true && not some)) (kept 15 (metersAt es (o .entry)) o)
+    (record {
+      answer = record { code = 0; entry = o .entry; until = more es o t };
+      meters = continued (o .until) (more es o t) (limitsAt es (o .entry)) (metersAt es (o .entry));
+      current = record { on = 1; entry = o .entry; begin = o .begin; until = more es o t };
+    })))
+    es
+    ≡ cond (not on) (unchanged 14 es o)
+    (cond some (unchanged 15 es o)
+    (record {
+      answer = record { code = 0; entry = o .entry; until = more es o t };
+      entries = amend (o .entry) (continued (o .until) (more es o t)) es;
+      current = record { on = 1; entry = o .entry; begin = o .begin; until = more es o t };
+    }))
+unfolding placed stored amend
+continue-cases false some t es o = kept-placed (o .entry) 14 es o
+continue-cases true true t es o = kept-placed (o .entry) 15 es o
+continue-cases true false t es o = refl
+
+pub continue-placed :
+    (t : ℕ) (es : List Entry) (o : Open) →
+    t ≤ latestTime →
+    placed (o .entry) (continueOn t (limitsAt es (o .entry)) (metersAt es (o .entry)) o) es ≡ doContinue es o t
+unfolding continueOn doContinue
+continue-placed t es o h = rw (le-leb t latestTime h) (continue-cases (isOn o) (leb (more es o t) (o .until)) t es o)
+
+stop-cases :
+    (on : Bool) (t : ℕ) (es : List Entry) (o : Open) →
+    placed (o .entry)
+    (cond (not on) (kept 14 (metersAt es (o .entry)) o)
+    (record {
+      answer = record { code = 0; entry = o .entry; until = t };
+      meters = ended (o .begin) (o .until) t (limitsAt es (o .entry)) (metersAt es (o .entry));
+      current = closed;
+    }))
+    es
+    ≡ cond (not on) (unchanged 14 es o)
+    (record {
+      answer = record { code = 0; entry = o .entry; until = t };
+      entries = amend (o .entry) (ended (o .begin) (o .until) t) es;
+      current = closed;
+    })
+unfolding placed stored amend
+stop-cases false t es o = ap (λ (x : List Entry). unchanged 14 x o) (stored-same (o .entry) es)
+stop-cases true t es o = refl
+
+pub stop-placed :
+    (t : ℕ) (es : List Entry) (o : Open) →
+    placed (o .entry) (stopOn t (limitsAt es (o .entry)) (metersAt es (o .entry)) o) es ≡ doStop es o t
+unfolding stopOn doStop
+stop-placed t es o = stop-cases (isOn o) t es o
+
+release-cases :
+    (w : Bool) (t : ℕ) (es : List Entry) (o : Open) →
+    stored (o .entry) (cond w (ended (o .begin) (o .until) (o .until) (limitsAt es (o .entry)) (metersAt es (o .entry))) (metersAt es (o .entry))) es
+    ≡ cond w (amend (o .entry) (ended (o .begin) (o .until) (o .until)) es) es
+unfolding stored amend
+release-cases true t es o = refl
+release-cases false t es o = set-getD es (o .entry) noEntry
+
+-- the settling of one use, as an entry stored
+pub released-stored :
+    (t : ℕ) (es : List Entry) (o : Open) →
+    stored (o .entry) (releasedOn t (limitsAt es (o .entry)) (metersAt es (o .entry)) o) es ≡ released t o es
+unfolding releasedOn released
+released-stored t es o = release-cases (expired t o) t es o

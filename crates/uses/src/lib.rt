@@ -1,0 +1,246 @@
+// A use on its entry: begin, continue and stop on the limits and meters of one entry and the asking player's open use, and the settling of a use.
+// Every function is total. A time that no event has (above 4000000000) grants nothing, so no sum passes 32 bits.
+ghost use mathlib.Core.Path.{_≡_};
+ghost use mathlib.Core.Bool.{cond};
+ghost use Prim.Native.Nat.{_-_, _≤_};
+ghost use Rattle.book.specs.Blank.{closed};
+ghost use Rattle.model.specs.Book.{latestTime};
+ghost use Rattle.model.specs.Events.{expired, shut, begun, continued, ended, grantUntil, moreUntil, leastUntil};
+ghost use Rattle.uses.specs.Uses.{kept, beginOn, continueOn, stopOn, releasedOn};
+ghost use Rattle.uses.specs.Room.{Room, MoreRoom};
+ghost use Rattle.uses.specs.Due.{anyDue};
+use book::Answer;
+use book::Limits;
+use book::Meters;
+use book::Open;
+use book::Player;
+use rules::flags_of;
+use rules::grantable;
+use rules::least_until;
+use rules::less;
+use rules::momentary;
+use rules::one;
+use rules::pick32;
+use rules::when;
+
+// What an operation leaves: the answer, the entry's meters, and the asking player's use.
+pub struct Part {
+    pub answer: Answer,
+    pub meters: Meters,
+    pub current: Open,
+}
+
+pub fn pick_open(w: bool, a: Open, b: Open) -> Open
+    ensures { λ r. ⌜ r ≡ cond w a b ⌝ }
+{
+    if w { a } else { b }
+}
+
+pub fn pick_meters(w: bool, a: Meters, b: Meters) -> Meters
+    ensures { λ r. ⌜ r ≡ cond w a b ⌝ }
+{
+    if w { a } else { b }
+}
+
+// A refusal that leaves meters and use as they are.
+pub fn kept(code: u8, m: Meters, o: Open) -> Part
+    ensures { λ r. ⌜ r ≡ kept code m o ⌝ }
+{
+    Part {
+        answer: Answer {
+            code: code,
+            entry: 255,
+            until: 0,
+        },
+        meters: m,
+        current: o,
+    }
+}
+
+fn grant_until(l: Limits, m: Meters, t: u32) -> u32
+    requires { ⌜ t ≤ latestTime ⌝ }
+    ensures { λ r. ⌜ r ≡ grantUntil t l m ⌝ }
+{
+    let until = least_until(t, t, l, m) as u32;
+    pick32(momentary(l.kind), t, until)
+}
+
+fn more_until(l: Limits, m: Meters, old: u32, t: u32) -> u32
+    requires { ⌜ t ≤ latestTime ⌝ }
+    ensures { λ r. ⌜ r ≡ moreUntil t old l m ⌝ }
+{
+    least_until(t, old, l, m) as u32
+}
+
+// Wrong and ruled out: a first that a later begin overwrites, a meter that rises without its flag.
+fn begun_meters(l: Limits, m: Meters, t: u32, until: u32) -> Meters
+    requires { ⌜ Room t until l m ⌝ }
+    ensures { λ r. ⌜ r ≡ begun t until l m ⌝ }
+{
+    let f = flags_of(l);
+    let first = pick32(m.started == 1, m.first, t);
+    Meters {
+        count: m.count + when(f.count, 1),
+        timed: m.timed + when(f.timed, 1),
+        first: when(f.interval, first),
+        seconds: m.seconds + when(f.accumulated, less(until, t)),
+        started: one(f.interval),
+    }
+}
+
+fn continued_meters(l: Limits, m: Meters, old: u32, until: u32) -> Meters
+    requires { ⌜ MoreRoom old until l m ⌝ }
+    ensures { λ r. ⌜ r ≡ continued old until l m ⌝ }
+{
+    let f = flags_of(l);
+    let mut n = m;
+    n.seconds = m.seconds + when(f.accumulated, less(until, old));
+    n
+}
+
+// Wrong and ruled out: a count that goes back, a timed count that stays after a short use, seconds that stay after a stop.
+pub fn ended_meters(l: Limits, m: Meters, begin: u32, until: u32, end: u32) -> Meters
+    ensures { λ r. ⌜ r ≡ ended begin until end l m ⌝ }
+{
+    let f = flags_of(l);
+    let short = less(end, begin) < l.timer;
+    Meters {
+        count: m.count,
+        timed: less(m.timed, when(f.timed & short, 1)),
+        first: m.first,
+        seconds: less(m.seconds, when(f.accumulated, less(until, end))),
+        started: m.started,
+    }
+}
+
+// Wrong and ruled out: an until past end + 1, a momentary use that opens, a grant that no meter shows.
+pub fn begin_on(l: Limits, m: Meters, o: Open, i: u8, t: u32) -> Part
+    ensures { λ r. ⌜ r ≡ beginOn i t l m o ⌝ }
+{
+    if !grantable(l, m, t) {
+        return kept(13, m, o);
+    }
+    if 4000000000 < t {
+        return kept(13, m, o);
+    }
+    let until = grant_until(l, m, t);
+    let begun = begun_meters(l, m, t, until);
+    let use_begun = Open {
+        on: 1,
+        entry: i,
+        begin: t,
+        until: until,
+    };
+    Part {
+        answer: Answer {
+            code: 0,
+            entry: i,
+            until: until,
+        },
+        meters: begun,
+        current: pick_open(momentary(l.kind), o, use_begun),
+    }
+}
+
+// Wrong and ruled out: 15 with time unspent, a begin that moves, seconds counted twice.
+pub fn continue_on(l: Limits, m: Meters, o: Open, t: u32) -> Part
+    ensures { λ r. ⌜ r ≡ continueOn t l m o ⌝ }
+{
+    if !(o.on == 1) {
+        return kept(14, m, o);
+    }
+    if 4000000000 < t {
+        return kept(15, m, o);
+    }
+    let until = more_until(l, m, o.until, t);
+    if until <= o.until {
+        return kept(15, m, o);
+    }
+    let meters = continued_meters(l, m, o.until, until);
+    Part {
+        answer: Answer {
+            code: 0,
+            entry: o.entry,
+            until: until,
+        },
+        meters: meters,
+        current: Open {
+            on: 1,
+            entry: o.entry,
+            begin: o.begin,
+            until: until,
+        },
+    }
+}
+
+// Wrong and ruled out: a use that stays open, the old until in the answer.
+pub fn stop_on(l: Limits, m: Meters, o: Open, t: u32) -> Part
+    ensures { λ r. ⌜ r ≡ stopOn t l m o ⌝ }
+{
+    if !(o.on == 1) {
+        return kept(14, m, o);
+    }
+    let meters = ended_meters(l, m, o.begin, o.until, t);
+    Part {
+        answer: Answer {
+            code: 0,
+            entry: o.entry,
+            until: t,
+        },
+        meters: meters,
+        current: Open {
+            on: 0,
+            entry: 0,
+            begin: 0,
+            until: 0,
+        },
+    }
+}
+
+// Wrong and ruled out: until taken as included, a use that is not open.
+pub fn due(o: Open, t: u32) -> bool
+    ensures { λ r. ⌜ r ≡ expired t o ⌝ }
+{
+    (o.on == 1) & (o.until <= t)
+}
+
+// Wrong and ruled out: a last event that settling changes.
+pub fn shut_player(p: Player, t: u32) -> Player
+    ensures { λ r. ⌜ r ≡ shut t p ⌝ }
+{
+    let o = p.current;
+    let last = p.last;
+    let closed = Open {
+        on: 0,
+        entry: 0,
+        begin: 0,
+        until: 0,
+    };
+    Player {
+        last: last,
+        current: pick_open(due(o, t), closed, o),
+    }
+}
+
+// Wrong and ruled out: an end at t instead of its until.
+pub fn released_meters(l: Limits, m: Meters, o: Open, t: u32) -> Meters
+    ensures { λ r. ⌜ r ≡ releasedOn t l m o ⌝ }
+{
+    let ended = ended_meters(l, m, o.begin, o.until, o.until);
+    pick_meters(due(o, t), ended, m)
+}
+
+// Wrong and ruled out: only the asking player looked at.
+pub fn any_due(ps: [Player; 16], t: u32) -> bool
+    ensures { λ r. ⌜ r ≡ anyDue t ps ⌝ }
+{
+    let mut w = false;
+    let mut i: usize = 0;
+    while i < 16 {
+        let p = ps[i];
+        let o = p.current;
+        w = w | due(o, t);
+        i = i + 1;
+    }
+    w
+}
