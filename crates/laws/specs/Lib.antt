@@ -1,3 +1,5 @@
 pub mod Buffer
 pub mod Count
 pub mod Fields
+pub mod FieldLaws
+pub mod TableLaws

@@ -1,0 +1,255 @@
+// One event on a book, by value: the checks, settling, what begin, continue and stop do, and the book that is left.
+// The rules are those of the crates below, on one entry and one player; this crate reads them out of the book and stores what they leave.
+ghost use mathlib.Core.Path.{_≡_};
+ghost use Prim.Native.Nat.{_≤_};
+ghost use lib.ListN.{getD};
+ghost use Rattle.book.specs.Blank.{noEntry};
+ghost use Rattle.model.specs.Book.{latestTime};
+ghost use Rattle.model.specs.Events.{refusal, catalogOf, doBegin, doContinue, doStop, done, takenStep, step, stepRecord};
+ghost use Rattle.uses.specs.Uses.{placed};
+ghost use Rattle.events.specs.Settle.{settledBook};
+ghost use Rattle.events.specs.Step.{refused, storedBook};
+use book::Answer;
+use book::Book;
+use book::Decoded;
+use book::Entry;
+use book::Event;
+use book::Gate;
+use book::Meters;
+use book::Open;
+use book::Outcome;
+use book::Player;
+use book::Request;
+use uses::Part;
+
+// What an operation leaves, and at which entry; 64 where it leaves all entries as they are.
+struct Act {
+    at: usize,
+    part: Part,
+}
+
+// The book after every use that is due at t has ended, players 0 to 15 in turn.
+// Wrong and ruled out: the asking player alone settled, an entry of a use that is not due changed.
+pub fn settle(b: Book, t: u32) -> Book
+    ensures { λ r. ⌜ r ≡ settledBook t b ⌝ }
+{
+    let players = b.players;
+    if !uses::any_due(players, t) {
+        return b;
+    }
+    settle_all(b, t)
+}
+
+fn settle_all(b: Book, t: u32) -> Book
+    ensures { λ r. ⌜ r ≡ settledBook t b ⌝ }
+{
+    let mut n = b;
+    let mut i: usize = 0;
+    while i < 16 {
+        let p = n.players[i];
+        let o = p.current;
+        let k = o.entry as usize;
+        if k < 64 {
+            let x = n.entries[k];
+            let l = x.limits;
+            let m = x.meters;
+            let y = Entry {
+                limits: l,
+                meters: uses::released_meters(l, m, o, t),
+            };
+            n.entries[k] = y;
+        }
+        let q = uses::shut_player(p, t);
+        n.players[i] = q;
+        i = i + 1;
+    }
+    n
+}
+
+fn refused_act(code: u8, o: Open) -> Act
+    ensures { λ r. ⌜ r ≡ refused code o ⌝ }
+{
+    let m = Meters {
+        count: 0,
+        timed: 0,
+        first: 0,
+        seconds: 0,
+        started: 0,
+    };
+    Act {
+        at: 64,
+        part: uses::kept(code, m, o),
+    }
+}
+
+// An entry, blank at a position that no book has.
+fn entry_at(b: Book, k: usize) -> Entry
+    ensures { λ r. ⌜ r ≡ getD (b .entries) k noEntry ⌝ }
+{
+    if k < 64 {
+        return b.entries[k];
+    }
+    book::blank_entry()
+}
+
+fn begin(b: Book, o: Open, asset: u16, kind: u8, t: u32) -> Act
+    requires { ⌜ t ≤ latestTime ⌝ }
+    ensures { λ r. ⌜ placed (r .at) (r .part) (b .entries) ≡ doBegin (catalogOf b) (b .entries) o t asset kind ⌝ }
+{
+    if o.on == 1 {
+        return refused_act(11, o);
+    }
+    let table = b.assets;
+    let reach = assets::reach_of(table, b.assetcount, asset);
+    if !reach.usable {
+        return refused_act(10, o);
+    }
+    let entries = b.entries;
+    let best = choose::chosen(entries, b.entrycount, asset, reach.parent, kind, t);
+    if !best.suits {
+        return refused_act(12, o);
+    }
+    let k = best.at;
+    if 64 <= k {
+        return refused_act(13, o);
+    }
+    let x = b.entries[k];
+    let l = x.limits;
+    let m = x.meters;
+    Act {
+        at: k,
+        part: uses::begin_on(l, m, o, k as u8, t),
+    }
+}
+
+fn go_on(b: Book, o: Open, t: u32) -> Act
+    requires { ⌜ t ≤ latestTime ⌝ }
+    ensures { λ r. ⌜ placed (r .at) (r .part) (b .entries) ≡ doContinue (b .entries) o t ⌝ }
+{
+    let k = o.entry as usize;
+    let x = entry_at(b, k);
+    let l = x.limits;
+    let m = x.meters;
+    Act {
+        at: k,
+        part: uses::continue_on(l, m, o, t),
+    }
+}
+
+fn stop(b: Book, o: Open, t: u32) -> Act
+    ensures { λ r. ⌜ placed (r .at) (r .part) (b .entries) ≡ doStop (b .entries) o t ⌝ }
+{
+    let k = o.entry as usize;
+    let x = entry_at(b, k);
+    let l = x.limits;
+    let m = x.meters;
+    Act {
+        at: k,
+        part: uses::stop_on(l, m, o, t),
+    }
+}
+
+fn operate(b: Book, o: Open, q: Request, t: u32) -> Act
+    requires { ⌜ t ≤ latestTime ⌝ }
+    ensures { λ r. ⌜ placed (r .at) (r .part) (b .entries) ≡ done q (catalogOf b) (b .entries) o t ⌝ }
+{
+    match q {
+        Request::Begin(kind, asset) => begin(b, o, asset, rules::kind_number(kind), t),
+        Request::Continue => go_on(b, o, t),
+        Request::Stop => stop(b, o, t),
+    }
+}
+
+// The book with what an operation left, the event and its answer stored.
+fn stored_book(b: Book, e: Event, a: Act) -> Book
+    requires { ⌜ e .player ≤ 15 ⌝ }
+    ensures { λ r. ⌜ r ≡ storedBook b e (placed (a .at) (a .part) (b .entries)) ⌝ }
+{
+    let mut n = b;
+    let k = a.at;
+    let part = a.part;
+    if k < 64 {
+        let x = n.entries[k];
+        let l = x.limits;
+        let m = part.meters;
+        let y = Entry {
+            limits: l,
+            meters: m,
+        };
+        n.entries[k] = y;
+    }
+    let answer = part.answer;
+    let current = part.current;
+    let j = e.player as usize;
+    let p = Player {
+        last: rules::noted_last(e, answer),
+        current: current,
+    };
+    n.players[j] = p;
+    n.time = e.time;
+    n
+}
+
+fn taken(b: Book, e: Event) -> Outcome
+    requires { ⌜ (e .player ≤ 15) × (e .time ≤ latestTime) ⌝ }
+    ensures { λ r. ⌜ r ≡ takenStep b e ⌝ }
+{
+    let n = settle(b, e.time);
+    let j = e.player as usize;
+    let p = n.players[j];
+    let o = p.current;
+    let q = e.request;
+    let a = operate(n, o, q, e.time);
+    let part = a.part;
+    let answer = part.answer;
+    Outcome {
+        answer: answer,
+        book: stored_book(n, e, a),
+    }
+}
+
+fn turned_away(b: Book, code: u8) -> Outcome
+    ensures { λ r. ⌜ r ≡ record { answer = refusal code; book = b } ⌝ }
+{
+    Outcome {
+        answer: Answer {
+            code: code,
+            entry: 255,
+            until: 0,
+        },
+        book: b,
+    }
+}
+
+// Wrong and ruled out: a resend that is metered again, an event turned away that changes the book, a book returned untouched by a grant.
+pub fn step(b: Book, e: Event) -> Outcome
+    ensures { λ r. ⌜ r ≡ step b e ⌝ }
+{
+    if 15 < e.player {
+        return turned_away(b, 2);
+    }
+    let j = e.player as usize;
+    let p = b.players[j];
+    let last = p.last;
+    match rules::gate_of(b.time, last, e) {
+        Gate::Refuse(code) => turned_away(b, code),
+        Gate::Resend => {
+            let answer = last.answer;
+            Outcome {
+                answer: answer,
+                book: b,
+            }
+        }
+        Gate::Take => taken(b, e),
+    }
+}
+
+// Wrong and ruled out: 1 before 2, an answer to a record of 12 or 14 bytes other than 6.
+pub fn step_record(b: Book, s: &[u8]) -> Outcome
+    ensures { λ r. ⌜ r ≡ stepRecord b (now (s .entry)) ⌝ }
+{
+    match decode::decode(s) {
+        Decoded::Invalid(code) => turned_away(b, code),
+        Decoded::Valid(e) => step(b, e),
+    }
+}

@@ -1,0 +1,29 @@
+-- Demand 2, of images: "a book written and read back is the same book, and an accepted image writes the same bytes."
+-- Statements alone, in the terms of `Book` and `Image`; the proofs stand in `Proof.RoundTrip`.
+use Prim.Native.Nat.{ℕ, _≤_}
+use mathlib.Core.Path.{_≡_}
+use mathlib.Core.List.{List}
+use lib.ListN.{length, take, drop}
+use Rattle.book.specs.declared.Book.{Book}
+use Rattle.model.specs.Book.{Legal}
+use Rattle.model.specs.Image.{Typed, Bytes, image, lengthOf, writeAnswer, writeBuffer, readCode, readBook}
+
+pub record Demand2 : Type 0 where
+  -- "a book written and read back is the same book", whatever book was held before
+  pub readsBack : (held b : Book) → Legal b → Typed b → (readCode (image b) ≡ 0) × (readBook held (image b) ≡ b)
+  -- what is written is bytes, so that the statements below hold of it too
+  pub imageBytes : (b : Book) → Legal b → Typed b → Bytes (image b)
+  -- "an accepted image writes the same bytes"
+  pub writesBack : (held : Book) (s : List ℕ) → Bytes s → readCode s ≡ 0 → image (readBook held s) ≡ s
+  -- what is accepted is a legal book, so the two hold of it in turn
+  pub acceptedLegal : (held : Book) (s : List ℕ) → Bytes s → readCode s ≡ 0 → Legal (readBook held s) × Typed (readBook held s)
+  -- "20 to 27 | image refused | the book held before, unchanged"
+  pub refusedKeeps : (held : Book) (s : List ℕ) → (readCode s ≡ 0 → ⊥) → readBook held s ≡ held
+  -- "The writer fills that many bytes, no more, and returns the length."
+  pub writtenLength : (b : Book) → length (image b) ≡ lengthOf b
+  -- "Length 11 + 5A + 51P + 384, at most 3,979": never the 30 of a refusal
+  pub lengthBounds : (b : Book) → (395 ≤ lengthOf b) × (lengthOf b ≤ 3979)
+  -- the bytes filled are the image, and those behind them stay
+  pub written : (b : Book) (old : List ℕ) → lengthOf b ≤ length old → take (writeAnswer b (length old)) (writeBuffer b old) ≡ image b
+  pub behindKept : (b : Book) (old : List ℕ) → lengthOf b ≤ length old
+      → drop (writeAnswer b (length old)) (writeBuffer b old) ≡ drop (lengthOf b) old

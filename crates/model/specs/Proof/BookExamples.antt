@@ -1,0 +1,252 @@
+-- Books that meet the premises of demand 2, from the empty one to one of the greatest size, and the reader run on images of a
+-- small book, right and damaged, one for each of its answers. The bytes of that book are written out: a round trip alone does
+-- not tell two fields that stand in each other's place.
+use Prim.Native.Nat.{ℕ, _+_, _-_, _%_, _<_}
+use mathlib.Core.Path.{_≡_, refl, sym, ap, subst, _∙_}
+use mathlib.Core.List.{List, [], _∷_, _++_, append-nil}
+use native.Mathlib.Omega.{arith}
+use lib.ListN.{getD, set, take, replicate, List·getD-eq-default}
+use Rattle.laws.specs.Count.{all, first, sum, joined, listed}
+use Rattle.laws.specs.Fields.{Fit}
+use Rattle.laws.specs.FieldLaws.{zeros-fit}
+use Rattle.laws.specs.TableLaws.{below-or-not, blanks, listed-at, length-listed}
+use Rattle.book.specs.declared.Asset.{Asset}
+use Rattle.book.specs.declared.Entry.{Entry}
+use Rattle.book.specs.declared.Player.{Player}
+use Rattle.book.specs.declared.Book.{Book}
+use Rattle.book.specs.Blank.{noAsset, noEntry, noPlayer, noMeters, noBook}
+use Rattle.model.specs.Book.{assetsIn, entriesIn, grantLength, assetPosition, inBook, flagged, momentary, limit, assetLegal, assetsLegal}
+use Rattle.model.specs.Book.{rangesLegal, limitsLegal, entriesLegal, playerBlank, requestLegal, takenCode, answerLegal, insideDates}
+use Rattle.model.specs.Book.{insideInterval, useLegal, openLegal, playerLegal, playersLegal, meterLegal, startLegal, opens, openUses}
+use Rattle.model.specs.Book.{openSeconds, metersCover, entryMetersLegal, metersLegal, ruleBroken, Legal, Fresh}
+use Rattle.model.specs.Image.{assetWidths, assetValues, entryWidths, entryValues, playerWidths, playerValues, imageLength, headerBytes}
+use Rattle.model.specs.Image.{assetBytes, entryBytes, playerBytes, image, lengthOf, markIn, versionIn, assetCountIn, entryCountIn, timeIn}
+use Rattle.model.specs.Image.{assetIn, entryIn, playerIn, assetTable, entryTable, playerTable, entriesFrom, playersFrom, bookIn}
+use Rattle.model.specs.Image.{headerBroken, readCode, readBook, Typed}
+use Rattle.model.specs.Proof.RoundTrip.{demand2}
+
+-- ## The book with nothing in it
+
+pub noBook-legal : Legal noBook
+unfolding all first sum assetsIn entriesIn assetsLegal entriesLegal playerBlank playerLegal playersLegal metersLegal ruleBroken
+noBook-legal = record {
+  assetSlots = refl;
+  entrySlots = refl;
+  playerSlots = refl;
+  assetCount = omega arith;
+  entryCount = omega arith;
+  time = omega arith;
+  assetsBlank = λ i h. blanks 64 i noAsset;
+  entriesBlank = λ i h. blanks 64 i noEntry;
+  rules = refl;
+}
+
+pub noBook-typed : Typed noBook
+noBook-typed = record {
+  assets = λ i. subst (λ (x : Asset). Fit assetWidths (assetValues x)) (sym (blanks 64 i noAsset)) (zeros-fit assetWidths);
+  entries = λ i. subst (λ (x : Entry). Fit entryWidths (entryValues x)) (sym (blanks 64 i noEntry)) (zeros-fit entryWidths);
+  players = λ i. subst (λ (x : Player). Fit playerWidths (playerValues x)) (sym (blanks 16 i noPlayer)) (zeros-fit playerWidths);
+}
+
+pub noBook-fresh : Fresh noBook
+noBook-fresh = record {
+  time = refl;
+  meters = λ i. ap (λ (x : Entry). x .meters) (blanks 64 i noEntry);
+  players = λ p. blanks 16 p noPlayer;
+}
+
+-- ## A book of the greatest size: every slot filled, every limit flagged and used up, every player with an open use
+
+abbrev greatAsset : ℕ → Asset
+greatAsset i = record { number = 65535 - i; inherit = 65535; key = 1 }
+
+abbrev greatEntry : ℕ → Entry
+greatEntry i = record {
+  limits = record {
+    object = 65535;
+    asset = 65535 - i;
+    kind = 1 + i % 3;
+    flags = 63;
+    count = 1000000;
+    timed = 1000000;
+    timer = 1000000;
+    start = 3999999990;
+    end = 4000000000;
+    interval = 100000000;
+    accumulated = 100000000;
+  };
+  meters = record { count = 1000000; timed = 1000000; first = 3999999990; seconds = 100000000; started = 1 };
+}
+
+abbrev greatPlayer : ℕ → Player
+greatPlayer p = record {
+  last = record {
+    number = 4294967295;
+    operation = 1;
+    asset = 65535;
+    kind = 5;
+    answer = record { code = 0; entry = 63; until = 4294967295 };
+  };
+  current = record { on = 1; entry = 48 + p; begin = 3999999990; until = 4000000001 };
+}
+
+unfoldable pub greatest : Book
+greatest = record {
+  time = 4000000000;
+  assetcount = 64;
+  entrycount = 64;
+  assets = listed greatAsset 64;
+  entries = listed greatEntry 64;
+  players = listed greatPlayer 16;
+}
+
+pub greatest-legal : Legal greatest
+unfolding greatest all first sum listed assetsIn entriesIn grantLength assetPosition inBook flagged momentary limit assetLegal assetsLegal
+    rangesLegal limitsLegal entriesLegal playerBlank requestLegal takenCode answerLegal insideDates insideInterval useLegal openLegal
+    playerLegal playersLegal meterLegal startLegal opens openUses openSeconds metersCover entryMetersLegal metersLegal ruleBroken
+greatest-legal = record {
+  assetSlots = refl;
+  entrySlots = refl;
+  playerSlots = refl;
+  assetCount = omega arith;
+  entryCount = omega arith;
+  time = omega arith;
+  assetsBlank = λ i h. List·getD-eq-default (greatest .assets) noAsset h;
+  entriesBlank = λ i h. List·getD-eq-default (greatest .entries) noEntry h;
+  rules = refl;
+}
+
+-- what a list of n holds, at every position, if it holds of each that is listed and of the blank one
+at-each : {A : Type 0} (P : A → Type 0) (f : ℕ → A) (n : ℕ) (d : A) → ((i : ℕ) → i < n → P (f i)) → P d → (i : ℕ) → P (getD (listed f n) i d)
+at-each P f n d each blank i =
+    below-or-not i n
+    (λ h. subst P (sym (ap (λ l. getD l i d) (sym (append-nil (listed f n))) ∙ listed-at f n i d [] h)) (each i h))
+    (λ h. subst P (sym (List·getD-eq-default (listed f n) d (rw (length-listed) h))) blank)
+
+pub greatest-typed : Typed greatest
+unfolding greatest
+greatest-typed = record {
+  assets = at-each (λ (x : Asset). Fit assetWidths (assetValues x)) greatAsset 64 noAsset (λ i h. omega arith) (zeros-fit assetWidths);
+  entries = at-each (λ (x : Entry). Fit entryWidths (entryValues x)) greatEntry 64 noEntry (λ i h. omega arith) (zeros-fit entryWidths);
+  players = at-each (λ (x : Player). Fit playerWidths (playerValues x)) greatPlayer 16 noPlayer (λ i h. omega arith) (zeros-fit playerWidths);
+}
+
+-- the reader run on its 3,979 bytes
+pub greatest-read : readCode (image greatest) ≡ 0
+unfolding greatest all first sum listed assetsIn entriesIn grantLength assetPosition inBook flagged momentary limit assetLegal assetsLegal
+    rangesLegal limitsLegal entriesLegal playerBlank requestLegal takenCode answerLegal insideDates insideInterval useLegal openLegal
+    playerLegal playersLegal meterLegal startLegal opens openUses openSeconds metersCover entryMetersLegal metersLegal ruleBroken
+    joined imageLength headerBytes assetBytes entryBytes playerBytes image lengthOf markIn versionIn assetCountIn entryCountIn timeIn
+    assetIn entryIn playerIn assetTable entryTable playerTable entriesFrom playersFrom bookIn headerBroken readCode
+greatest-read = refl
+
+-- and demand 2 of it
+pub greatest-back : readBook noBook (image greatest) ≡ greatest
+greatest-back = demand2 .readsBack noBook greatest greatest-legal greatest-typed .1
+
+pub greatest-length : lengthOf greatest ≡ 3979
+unfolding greatest assetsIn entriesIn imageLength lengthOf
+greatest-length = refl
+
+-- ## A small book: an asset with a parent, an entry with every limit, a print without limits, one player with an open use
+
+unfoldable pub small : Book
+small = record {
+  time = 168496141;
+  assetcount = 2;
+  entrycount = 2;
+  assets = record { number = 258; inherit = 2; key = 1 } ∷ record { number = 2; inherit = 0; key = 0 } ∷ replicate 62 noAsset;
+  entries =
+      record {
+        limits = record {
+          object = 1286;
+          asset = 258;
+          kind = 2;
+          flags = 63;
+          count = 10;
+          timed = 11;
+          timer = 12;
+          start = 168496129;
+          end = 168496383;
+          interval = 200;
+          accumulated = 100000;
+        };
+        meters = record { count = 3; timed = 4; first = 168496130; seconds = 100; started = 1 };
+      }
+      ∷ record {
+        limits = record {
+          object = 7;
+          asset = 2;
+          kind = 4;
+          flags = 0;
+          count = 0;
+          timed = 0;
+          timer = 0;
+          start = 0;
+          end = 0;
+          interval = 0;
+          accumulated = 0;
+        };
+        meters = noMeters;
+      }
+      ∷ replicate 62 noEntry;
+  players =
+      record {
+        last = record {
+          number = 286397204;
+          operation = 1;
+          asset = 5398;
+          kind = 3;
+          answer = record { code = 0; entry = 1; until = 421141276 };
+        };
+        current = record { on = 1; entry = 0; begin = 168496136; until = 168496142 };
+      }
+      ∷ replicate 15 noPlayer;
+}
+
+-- its bytes, one line for each of the header, the assets, the entries and the players
+pub small-bytes : image small
+    ≡ 82 ∷ 66 ∷ 75 ∷ 0 ∷ 1 ∷ 2 ∷ 2 ∷ 10 ∷ 11 ∷ 12 ∷ 13 ∷ []
+    ++ 1 ∷ 2 ∷ 0 ∷ 2 ∷ 1 ∷ []
+    ++ 0 ∷ 2 ∷ 0 ∷ 0 ∷ 0 ∷ []
+    ++ 5 ∷ 6 ∷ 1 ∷ 2 ∷ 2 ∷ 63 ∷ 0 ∷ 0 ∷ 0 ∷ 10 ∷ 0 ∷ 0 ∷ 0 ∷ 11 ∷ 0 ∷ 0 ∷ 0 ∷ 12 ∷ 10 ∷ 11 ∷ 12 ∷ 1 ∷ 10 ∷ 11 ∷ 12 ∷ 255 ∷ 0 ∷ 0 ∷ 0 ∷ 200 ∷ 0 ∷ 1 ∷ 134 ∷ 160
+    ∷ 0 ∷ 0 ∷ 0 ∷ 3 ∷ 0 ∷ 0 ∷ 0 ∷ 4 ∷ 10 ∷ 11 ∷ 12 ∷ 2 ∷ 0 ∷ 0 ∷ 0 ∷ 100 ∷ 1 ∷ []
+    ++ 0 ∷ 7 ∷ 0 ∷ 2 ∷ 4 ∷ replicate 46 0
+    ++ 17 ∷ 18 ∷ 19 ∷ 20 ∷ 1 ∷ 21 ∷ 22 ∷ 3 ∷ 0 ∷ 1 ∷ 25 ∷ 26 ∷ 27 ∷ 28 ∷ 1 ∷ 0 ∷ 10 ∷ 11 ∷ 12 ∷ 8 ∷ 10 ∷ 11 ∷ 12 ∷ 14 ∷ []
+    ++ replicate 360 0
+unfolding small joined headerBytes assetBytes entryBytes playerBytes assetsIn entriesIn image
+small-bytes = refl
+
+-- the reader's answer where one byte of the image is another
+abbrev pub with : ℕ → ℕ → ℕ
+with k v = readCode (set (image small) k v)
+
+-- one line for each of 20 to 25, two for 26, one for 27; the last are accepted, most of them just on a bound
+pub damaged : (readCode (take 10 (image small)) ∷ readCode (take 506 (image small)) ∷ readCode (image small ++ (0 ∷ [])) ∷ with 6 1 ∷ [])
+    ∷ (with 0 83 ∷ with 1 75 ∷ with 2 66 ∷ readCode (replicate 11 0) ∷ [])
+    ∷ (with 3 1 ∷ with 4 0 ∷ with 4 2 ∷ [])
+    ∷ (with 5 65 ∷ with 6 65 ∷ with 7 239 ∷ [])
+    ∷ (with 15 2 ∷ with 16 1 ∷ with 17 0 ∷ [])
+    ∷ (with 25 0 ∷ with 25 4 ∷ with 25 6 ∷ with 26 64 ∷ with 30 0 ∷ with 34 0 ∷ with 46 0 ∷ with 50 0 ∷ with 73 0 ∷ with 75 9 ∷ with 76 0 ∷ with 77 1 ∷ with 81 1 ∷ [])
+    ∷ (with 127 2 ∷ with 127 4 ∷ with 130 0 ∷ with 130 6 ∷ with 131 9 ∷ with 131 16 ∷ with 131 10 ∷ with 132 2 ∷ with 137 0 ∷ with 137 2 ∷ with 138 1 ∷ with 138 2 ∷ with 151 1 ∷ [])
+    ∷ (with 142 14 ∷ with 146 13 ∷ with 146 74 ∷ with 42 9 ∷ with 46 12 ∷ with 66 9 ∷ with 50 11 ∷ with 71 0 ∷ [])
+    ∷ (with 58 0 ∷ with 58 11 ∷ with 62 0 ∷ with 62 12 ∷ with 70 5 ∷ with 67 1 ∷ with 122 1 ∷ [])
+    ∷ (readCode (image small) ∷ with 142 13 ∷ with 146 73 ∷ with 42 8 ∷ with 46 13 ∷ with 66 8 ∷ with 50 12 ∷ with 58 10 ∷ with 62 11 ∷ with 70 6 ∷ with 132 0 ∷ [])
+    ∷ []
+    ≡ replicate 4 20
+    ∷ replicate 4 21
+    ∷ replicate 3 22
+    ∷ replicate 3 23
+    ∷ replicate 3 24
+    ∷ replicate 13 25
+    ∷ replicate 13 26
+    ∷ replicate 8 26
+    ∷ replicate 7 27
+    ∷ replicate 11 0
+    ∷ []
+unfolding small all first sum listed assetsIn entriesIn grantLength assetPosition inBook flagged momentary limit assetLegal assetsLegal
+    rangesLegal limitsLegal entriesLegal playerBlank requestLegal takenCode answerLegal insideDates insideInterval useLegal openLegal
+    playerLegal playersLegal meterLegal startLegal opens openUses openSeconds metersCover entryMetersLegal metersLegal ruleBroken
+    joined imageLength headerBytes assetBytes entryBytes playerBytes image lengthOf markIn versionIn assetCountIn entryCountIn timeIn
+    assetIn entryIn playerIn assetTable entryTable playerTable entriesFrom playersFrom bookIn headerBroken readCode
+damaged = refl
