@@ -13,7 +13,7 @@ use Rattle.laws.specs.Buffer.{lay, lay-nil, lay-lay}
 use Rattle.book.specs.declared.Answer.{Answer}
 use Rattle.model.specs.Run.{decimalIn, decimal, line}
 
-below : (a b : ℕ) → (a < b) ⊎ (b ≤ a)
+pub below : (a b : ℕ) → (a < b) ⊎ (b ≤ a)
 below a zero = inr zero-le
 below zero (suc b) = inl (suc-le-suc zero-le)
 below (suc a) (suc b) = ⊎-elim (λ p. inl (suc-le-suc p)) (λ q. inr (suc-le-suc q)) (below a b)

@@ -60,7 +60,7 @@ fn put_number(out: &mut [u8], at: usize, n: u32) -> usize
 
 // Wrong and ruled out: a digit, a space or the line's end left out, zeros in front, a byte touched past the line, and a line begun where it may not fit.
 pub fn put_line(out: &mut [u8], at: usize, a: Answer) -> usize
-    ensures { λ r. ⌜ (r ≡ lineEnd a at (length (now (out .entry)))) × (now (out .exit) ≡ lineBuffer a at (now (out .entry))) ⌝ }
+    ensures { λ r. ⌜ (r ≡ lineEnd a at (length (now (out .entry)))) × (now (out .exit) ≡ lineBuffer a at (now (out .entry))) × (r ≤ at + 19) ⌝ }
 {
     if out.len() < 19 {
         return at;

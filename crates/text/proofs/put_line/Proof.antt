@@ -6,7 +6,7 @@ use lib.ListN.{length, set, length-set}
 use borrow.Author.Tests.{le-leb, lt-leb}
 use Rattle.model.specs.Run.{decimal}
 use Rattle.text.specs.Lines.{lineEnd, lineBuffer}
-use Rattle.text.specs.Digits.{byte-places, number-places, length-lay, line-laid}
+use Rattle.text.specs.Digits.{byte-places, number-places, length-lay, line-most, line-laid}
 use borrow.Author.Needs.{needs}
 use Rattle.text.proofs.put_line.Statement.{statement}
 use Rattle.text.proofs.put_line.Tie as tie
@@ -51,7 +51,7 @@ unfolding lineEnd lineBuffer
 returns c =
     let a = c .before .before .args in
     let h : length (a .out .now) < a .at + 19 = omega arith in
-    rw (lt-leb (a .at + 19) (length (a .out .now)) h) (refl, refl)
+    rw (lt-leb (a .at + 19) (length (a .out .now)) h) (refl, refl, omega arith)
 
 sub-if2 : tie.Need-sub-if2
 sub-if2 c = search needs
@@ -61,7 +61,7 @@ unfolding lineEnd lineBuffer
 returns-2 c =
     let a = c .before .before .before .args in
     let h : length (a .out .now) < a .at + 19 = omega arith in
-    rw (lt-leb (a .at + 19) (length (a .out .now)) h) (refl, refl)
+    rw (lt-leb (a .at + 19) (length (a .out .now)) h) (refl, refl, omega arith)
 
 cast-put-number : tie.Need-cast-put-number
 cast-put-number c = search needs
@@ -123,8 +123,9 @@ returns-3 c =
     let h : a .at + 19 ≤ length (a .out .now) = omega arith in
     let k : a .a .code < 256 = search needs in
     let k′ : a .a .entry < 256 = search needs in
-    rw (le-leb (a .at + 19) (length (a .out .now)) h)
-    (line-laid (a .a) (a .out .now) (o₁ .last .0) (o₂ .last .0) (o₃ .last .0) (a .at) (o₁ .result) (o₂ .result) (o₃ .result) h k k′ (o₁ .ensures .0) (o₁ .ensures .1) (o₂ .ensures .0) (o₂ .ensures .1) (o₃ .ensures .0) (o₃ .ensures .1))
+    let w =
+    line-laid (a .a) (a .out .now) (o₁ .last .0) (o₂ .last .0) (o₃ .last .0) (a .at) (o₁ .result) (o₂ .result) (o₃ .result) h k k′ (o₁ .ensures .0) (o₁ .ensures .1) (o₂ .ensures .0) (o₂ .ensures .1) (o₃ .ensures .0) (o₃ .ensures .1) in
+    rw (le-leb (a .at + 19) (length (a .out .now)) h) (w .0, w .1, omega (arith, line-most (a .a) k k′, w .0))
 
 pub put-line-spec : {M : Type 1} → statement M
 put-line-spec =
