@@ -93,6 +93,7 @@ fn move_front(s: &mut [u8], from: usize, n: usize)
 }
 
 // Answers what each read brings, until the input ends. Less than a record is kept for the next read; what is kept at the end is a record cut short.
+// Only whole records are answered before the end, so the pieces print what the whole input would (the laws of crate `blocks`).
 // A proved loop has to end, and nothing says that the input does: it counts down from a number that no run uses up.
 fn answer_reads(b: Book, input: &mut [u8], out: &mut [u8])
     requires { ⌜ 13 ≤ length (now input) ⌝ }

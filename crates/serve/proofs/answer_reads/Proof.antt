@@ -18,13 +18,13 @@ loop-holds : tie.Need-loop-holds Inv-loop μ-loop
 loop-holds c = (omega arith, search needs, search needs)
 
 read-more-requires : tie.Need-read-more-requires Inv-loop μ-loop
-read-more-requires c κs = search needs
+read-more-requires c κs = omega arith
 
 slice-aggregate-fail : tie.Need-slice-aggregate-fail Inv-loop μ-loop
 slice-aggregate-fail c = search needs
 
 fail-requires : tie.Need-fail-requires Inv-loop μ-loop
-fail-requires c κs = search needs
+fail-requires c κs = tt
 
 same-length : tie.Need-same-length Inv-loop μ-loop
 same-length c = search needs
@@ -33,10 +33,10 @@ same-length-2 : tie.Need-same-length-2 Inv-loop μ-loop
 same-length-2 c = search needs
 
 returns : tie.Need-returns Inv-loop μ-loop
-returns c = search needs
+returns c = tt
 
 answer-requires : tie.Need-answer-requires Inv-loop μ-loop
-answer-requires c κs = search needs
+answer-requires c κs = omega arith
 
 same-length-3 : tie.Need-same-length-3 Inv-loop μ-loop
 same-length-3 c = search needs
@@ -45,16 +45,16 @@ same-length-4 : tie.Need-same-length-4 Inv-loop μ-loop
 same-length-4 c = search needs
 
 returns-2 : tie.Need-returns-2 Inv-loop μ-loop
-returns-2 c = search needs
+returns-2 c = tt
 
 filled-requires : tie.Need-filled-requires Inv-loop μ-loop
-filled-requires c κs = search needs
+filled-requires c κs = omega arith
 
 sub-whole : tie.Need-sub-whole Inv-loop μ-loop
 sub-whole c = omega arith
 
 answer-requires-2 : tie.Need-answer-requires-2 Inv-loop μ-loop
-answer-requires-2 c κs = search needs
+answer-requires-2 c κs = omega arith
 
 same-length-5 : tie.Need-same-length-5 Inv-loop μ-loop
 same-length-5 c = search needs
@@ -63,10 +63,10 @@ same-length-6 : tie.Need-same-length-6 Inv-loop μ-loop
 same-length-6 c = search needs
 
 returns-3 : tie.Need-returns-3 Inv-loop μ-loop
-returns-3 c = search needs
+returns-3 c = tt
 
 move-front-requires : tie.Need-move-front-requires Inv-loop μ-loop
-move-front-requires c κs = search needs
+move-front-requires c κs = omega arith
 
 sub-left : tie.Need-sub-left Inv-loop μ-loop
 sub-left c = omega arith
@@ -84,7 +84,7 @@ same-length-8 : tie.Need-same-length-8 Inv-loop μ-loop
 same-length-8 c = search needs
 
 returns-4 : tie.Need-returns-4 Inv-loop μ-loop
-returns-4 c = search needs
+returns-4 c = tt
 
 pub answer-reads-spec : {M : Type 1} → statement M
 answer-reads-spec =
