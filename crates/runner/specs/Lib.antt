@@ -1,2 +1,4 @@
 pub mod Block
 pub mod Upto
+pub mod Quiet
+pub mod Ways

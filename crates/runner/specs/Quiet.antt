@@ -1,0 +1,181 @@
+-- A lower bound of the next until: no open use ends before it. While the time is below it, settling changes nothing.
+use Prim.Native.Nat.{ℕ, zero, suc, _+_, _<_, _≤_, min}
+use mathlib.Core.Path.{_≡_, refl, sym, ap, subst, _∙_}
+use mathlib.Core.Logic.{⊎-elim}
+use mathlib.Core.Bool.{Bool, true, false, not, _&&_, _||_, cond, false≢true}
+use mathlib.Core.List.{List, map}
+use lib.ListN.{length, getD, set, length-map, List·getD-map, List·getD-eq-default}
+use lib.Seq.{getD-set-same, getD-set-other}
+use lib.Dec.{leb, ltb}
+use native.Mathlib.Numerals.{add-one}
+use native.Mathlib.Nat.{min-le-left, min-le-right}
+use native.Mathlib.Omega.{arith}
+use borrow.Author.Tests.{lt-leb, lt-ltb, le-leb}
+use Rattle.book.specs.declared.Open.{Open}
+use Rattle.book.specs.declared.Player.{Player}
+use Rattle.book.specs.declared.Book.{Book}
+use Rattle.book.specs.Blank.{noPlayer}
+use Rattle.model.specs.Book.{playerAt}
+use Rattle.model.specs.Events.{isOn, expired, shut, openAt, anyOf}
+use Rattle.uses.specs.Due.{dueAt, anyDue}
+use Rattle.text.specs.Digits.{below}
+use Rattle.events.specs.Settle.{settledBook, settledTo, settle-all, settled-length, player-next}
+use Rattle.events.specs.Step.{settled-none}
+
+-- later than any until
+abbrev pub never : ℕ
+never = 4294967295
+
+-- no use of these players ends before n
+abbrev Late : ℕ → Player → Type 0
+Late n p = isOn (p .current) ≡ true → n ≤ p .current .until
+
+abbrev pub Quiet : ℕ → List Player → Type 0
+Quiet n ps = (i : ℕ) → Late n (playerAt ps i)
+
+-- when a use ends, if there is one
+abbrev pub endOf : Open → ℕ
+endOf o = cond (isOn o) (o .until) never
+
+-- when a use ends that settling at t leaves open
+unfoldable pub runsUntil : ℕ → Open → ℕ
+runsUntil t o = cond (isOn o && ltb t (o .until)) (o .until) never
+
+-- the least of these over the first n players
+unfoldable pub leastEnd : ℕ → List Player → ℕ → ℕ
+leastEnd t ps zero = never
+leastEnd t ps (suc n) = min (leastEnd t ps n) (runsUntil t (openAt ps n))
+
+pub quiet-start : (ps : List Player) → Quiet 0 ps
+quiet-start ps i on = omega arith
+
+any-none : (f : ℕ → Bool) → ((i : ℕ) → f i ≡ false) → (n : ℕ) → anyOf f n ≡ false
+unfolding anyOf
+any-none f h zero = refl
+any-none f h (suc n) = rw (any-none f h n) (h n)
+
+not-due : (t : ℕ) (o : Open) (w : Bool) → isOn o ≡ w → (w ≡ true → t < o .until) → (w && leb (o .until) t) ≡ false
+not-due t o true e h = lt-leb (o .until) t (h refl)
+not-due t o false e h = refl
+
+pub quiet-settled : (t n : ℕ) (b : Book) → Quiet n (b .players) → t < n → length (b .players) ≡ 16 → b ≡ settledBook t b
+unfolding anyDue dueAt expired
+quiet-settled t n b q h l =
+    settled-none t b l
+    (any-none (dueAt t (b .players))
+    (λ i. not-due t (openAt (b .players) i) (isOn (openAt (b .players) i)) refl (λ on. omega (arith, q i on)))
+    16)
+
+pub end-next : (t : ℕ) (ps : List Player) (n : ℕ) → leastEnd t ps (n + 1) ≡ min (leastEnd t ps n) (runsUntil t (openAt ps n))
+unfolding leastEnd
+end-next t ps n = rw add-one
+
+least-under : (t : ℕ) (ps : List Player) (n i : ℕ) → i < n → leastEnd t ps n ≤ runsUntil t (openAt ps i)
+unfolding leastEnd
+least-under t ps zero i h = absurd (omega arith)
+least-under t ps (suc n) i h =
+    let a = min-le-left (leastEnd t ps n) (runsUntil t (openAt ps n)) in
+    let z = min-le-right (leastEnd t ps n) (runsUntil t (openAt ps n)) in
+    ⊎-elim (λ lt. omega (arith, least-under t ps n i lt)) (λ ge. let e : i ≡ n = omega arith in rw e z) (below i n)
+
+-- a use that settling leaves open
+left-open : (t n : ℕ) (o : Open) (w : Bool) → isOn o && leb (o .until) t ≡ w → n ≤ runsUntil t o → isOn (cond w (record { on = 0; entry = 0; begin = 0; until = 0 }) o) ≡ true → n ≤ cond w (record { on = 0; entry = 0; begin = 0; until = 0 }) o .until
+unfolding runsUntil
+left-open t n o true e h on = absurd (false≢true on)
+left-open t n o false e h on =
+    ⊎-elim (λ lt. let z : (isOn o && ltb t (o .until)) ≡ true = rw (on) (lt-ltb t (o .until) lt) in rw z at h)
+    (λ ge. let z : true ≡ false = sym (rw (on) (le-leb (o .until) t ge)) ∙ e in absurd (false≢true (sym z)))
+    (below t (o .until))
+
+blank-off : (t : ℕ) → shut t noPlayer ≡ noPlayer
+unfolding shut expired
+blank-off t = refl
+
+-- the bound after settling
+pub quiet-least : (t : ℕ) (ps : List Player) → length ps ≡ 16 → Quiet (leastEnd t ps 16) (map (shut t) ps)
+unfolding shut expired
+quiet-least t ps l i =
+    let e : playerAt (map (shut t) ps) i ≡ shut t (playerAt ps i) = ap (λ (x : Player). getD (map (shut t) ps) i x) (sym (blank-off t)) ∙ List·getD-map (shut t) ps i noPlayer in
+    ⊎-elim (λ lt. subst (Late (leastEnd t ps 16)) (sym e) (left-open t (leastEnd t ps 16) (openAt ps i) (isOn (openAt ps i) && leb (openAt ps i .until) t) refl (least-under t ps 16 i lt)))
+    (λ ge. let z : playerAt ps i ≡ noPlayer = List·getD-eq-default ps noPlayer (omega arith) in subst (Late (leastEnd t ps 16)) (sym (e ∙ ap (shut t) z)) (λ on. absurd (false≢true on)))
+    (below i 16)
+
+either : (w : Bool) (u n : ℕ) → w ≡ true → min n (cond w u never) ≤ u
+either true u n e = min-le-right n u
+either false u n e = absurd (false≢true e)
+
+-- the bound after a player's use became another one
+pub quiet-store : (n : ℕ) (ps : List Player) (j : ℕ) (p : Player) → Quiet n ps → j < length ps → Quiet (min n (endOf (p .current))) (set ps j p)
+quiet-store n ps j p q h i =
+    let m = min n (endOf (p .current)) in
+    let other : (i ≡ j → ⊥) → Late m (playerAt (set ps j p) i) =
+    λ ne. subst (Late m) (sym (getD-set-other ps j i p noPlayer ne)) (λ on. omega (arith, q i on, min-le-left n (endOf (p .current)))) in
+    ⊎-elim (λ lt. other (λ e. omega arith))
+    (λ ge. ⊎-elim (λ gt. other (λ e. omega arith))
+    (λ le. let e : i ≡ j = omega arith in
+    subst (Late m) (sym (ap (playerAt (set ps j p)) e ∙ getD-set-same ps j p noPlayer h)) (λ on. either (isOn (p .current)) (p .current .until) n on))
+    (below j i))
+    (below i j)
+
+-- and where the use stays as it was
+pub quiet-keep : (n : ℕ) (ps : List Player) (j : ℕ) (p : Player) → Quiet n ps → j < length ps → p .current ≡ openAt ps j → Quiet n (set ps j p)
+quiet-keep n ps j p q h same i =
+    let other : (i ≡ j → ⊥) → Late n (playerAt (set ps j p) i) =
+    λ ne. subst (Late n) (sym (getD-set-other ps j i p noPlayer ne)) (q i) in
+    ⊎-elim (λ lt. other (λ e. omega arith))
+    (λ ge. ⊎-elim (λ gt. other (λ e. omega arith))
+    (λ le. let e : i ≡ j = omega arith in
+    subst (Late n) (sym (ap (playerAt (set ps j p)) e ∙ getD-set-same ps j p noPlayer h)) (subst (λ (o : Open). isOn o ≡ true → n ≤ o .until) (sym same) (q j)))
+    (below j i))
+    (below i j)
+
+-- m is b settled at t, and no use of it ends before next
+pub record Settled (t : ℕ) (b m : Book) (next : ℕ) : Type 0 where
+  pub is-settled : m ≡ settledBook t b
+  pub quiet : Quiet next (m .players)
+  pub entries : length (m .entries) ≡ 64
+  pub players : length (m .players) ≡ 16
+
+module _ (t : ℕ) (b m : Book) (entries : length (b .entries) ≡ 64) (players : length (b .players) ≡ 16) where
+  settled-entries : m ≡ settledBook t b → length (m .entries) ≡ 64
+  unfolding settledBook
+  settled-entries e = ap (λ (x : Book). length (x .entries)) e ∙ settled-length t (b .players) (b .entries) ∙ entries
+
+  settled-players : m ≡ settledBook t b → length (m .players) ≡ 16
+  unfolding settledBook
+  settled-players e = ap (λ (x : Book). length (x .players)) e ∙ length-map (b .players) (shut t) ∙ players
+
+  -- by the loop over the players
+  pub settled-by : (next p : ℕ) → p ≤ 16 → 16 ≤ p → m ≡ settledTo t p b → next ≡ leastEnd t (b .players) p → Settled t b m next
+  unfolding settledBook
+  settled-by next p le ge e n =
+      let s : m ≡ settledBook t b = settle-all t b m p e (omega arith) in
+      let z : p ≡ 16 = omega arith in
+      let n′ : next ≡ leastEnd t (b .players) 16 = n ∙ ap (leastEnd t (b .players)) z in
+      record {
+        is-settled = s;
+        quiet = subst (λ (k : ℕ). Quiet k (m .players)) (sym n′) (subst (λ (x : Book). Quiet (leastEnd t (b .players) 16) (x .players)) (sym s) (quiet-least t (b .players) players));
+        entries = settled-entries s;
+        players = settled-players s;
+      }
+
+  -- by doing nothing
+  pub settled-still : (n next : ℕ) → Quiet n (b .players) → t < n → m ≡ b → next ≡ n → Settled t b m next
+  settled-still n next q h e k =
+      let s : m ≡ settledBook t b = e ∙ quiet-settled t n b q h players in
+      record {
+        is-settled = s;
+        quiet = subst (λ (x : ℕ). Quiet x (m .players)) (sym k) (subst (λ (x : Book). Quiet n (x .players)) (sym e) q);
+        entries = settled-entries s;
+        players = settled-players s;
+      }
+
+-- the bound, one player further
+pub end-turn : (t p : ℕ) (b n : Book) (next : ℕ) → n ≡ settledTo t p b → p < length (b .players) → next ≡ leastEnd t (b .players) p
+    → min next (runsUntil t (openAt (n .players) p)) ≡ leastEnd t (b .players) (p + 1)
+unfolding settledTo
+end-turn t p b n next e h k =
+    let o : openAt (n .players) p ≡ openAt (b .players) p = ap (λ (m : Book). openAt (m .players) p) e ∙ ap (λ (x : Player). x .current) (player-next t p (b .players) h) in
+    ap (λ (x : ℕ). min x (runsUntil t (openAt (n .players) p))) k
+    ∙ ap (λ (x : Open). min (leastEnd t (b .players) p) (runsUntil t x)) o
+    ∙ sym (end-next t (b .players) p)
