@@ -1,0 +1,20 @@
+-- What answering a block of records leaves: all of it where the buffer has room for 19 bytes a record, nothing otherwise.
+use Prim.Native.Nat.{ℕ, _*_}
+use mathlib.Core.Bool.{Bool, cond}
+use mathlib.Core.List.{List, _++_}
+use lib.ListN.{length, drop}
+use lib.Dec.{leb}
+use Rattle.book.specs.declared.Book.{Book}
+use Rattle.model.specs.Run.{recordCount, runText, runBook}
+
+unfoldable pub fits : List ℕ → ℕ → Bool
+fits s room = leb (19 * recordCount s) room
+
+unfoldable pub blockBook : Book → List ℕ → ℕ → Book
+blockBook b s room = cond (fits s room) (runBook b s) b
+
+unfoldable pub blockWritten : Book → List ℕ → ℕ → ℕ
+blockWritten b s room = cond (fits s room) (length (runText b s)) 0
+
+unfoldable pub blockBuffer : Book → List ℕ → List ℕ → List ℕ
+blockBuffer b s old = cond (fits s (length old)) (runText b s ++ drop (length (runText b s)) old) old

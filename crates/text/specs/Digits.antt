@@ -1,0 +1,199 @@
+-- Laws of decimal digits: how many a number has, one digit less, and digits laid into a buffer from the last to the first.
+use Prim.Native.Nat.{ℕ, zero, suc, _+_, _-_, _*_, _/_, _%_, _<_, _≤_, _^_, zero-le, suc-le-suc}
+use mathlib.Core.Path.{_≡_, refl, sym, ap, _∙_}
+use mathlib.Core.Logic.{_⊎_, inl, inr, ⊎-elim}
+use mathlib.Core.List.{List, [], _∷_, _++_, append-assoc}
+use native.Mathlib.Numerals.{add-one}
+use native.Mathlib.Nat.{pow-succ', one-le-pow}
+use native.Mathlib.Omega.{arith}
+use lib.ListN.{length, getD, set, take, drop, length-append, length-take, length-drop}
+use lib.Seq.{length-take-le, take-all, set-at, set-split, append-snoc, drop-cons, take-suc, take-length, drop-length}
+use borrow.Author.Tests.{lt-ltb, le-ltb}
+use Rattle.laws.specs.Buffer.{lay, lay-nil, lay-lay}
+use Rattle.book.specs.declared.Answer.{Answer}
+use Rattle.model.specs.Run.{decimalIn, decimal, line}
+
+pub below : (a b : ℕ) → (a < b) ⊎ (b ≤ a)
+below a zero = inr zero-le
+below zero (suc b) = inl (suc-le-suc zero-le)
+below (suc a) (suc b) = ⊎-elim (λ p. inl (suc-le-suc p)) (λ q. inr (suc-le-suc q)) (below a b)
+
+-- a number of one digit
+digit-one : (k n : ℕ) → n < 10 → decimalIn (suc k) n ≡ (48 + n) ∷ []
+unfolding decimalIn
+digit-one k n h = rw (lt-ltb n 10 h)
+
+-- the last digit, and those before it
+digit-more : (k n : ℕ) → 10 ≤ n → decimalIn (suc k) n ≡ decimalIn k (n / 10) ++ ((48 + n % 10) ∷ [])
+unfolding decimalIn
+digit-more k n h = rw (le-ltb n 10 h)
+
+tenth : (p n : ℕ) → n < 10 ^ suc (suc p) → n / 10 < 10 ^ suc p
+tenth p n h = omega (arith, pow-succ' 10 (suc p))
+
+-- a number below 10 to the p + 1 has at most p + 1 digits, whatever room there is in front
+pub digits-fit : (p k n : ℕ) → n < 10 ^ suc p → p ≤ k → decimalIn (suc p) n ≡ decimalIn (suc k) n
+digits-fit zero k n h le = digit-one zero n h ∙ sym (digit-one k n h)
+digits-fit (suc p) zero n h le = absurd (omega arith)
+digits-fit (suc p) (suc k) n h le =
+    ⊎-elim
+    (λ one. digit-one (suc p) n one ∙ sym (digit-one (suc k) n one))
+    (λ more.
+    digit-more (suc p) n more
+    ∙ ap (λ (s : List ℕ). s ++ ((48 + n % 10) ∷ [])) (digits-fit p k (n / 10) (tenth p n h) (omega arith))
+    ∙ sym (digit-more (suc k) n more))
+    (below n 10)
+
+-- and exactly p + 1 where it is at least 10 to the p
+pub digits-are : (p n : ℕ) → 10 ^ p ≤ n → n < 10 ^ suc p → length (decimalIn (suc p) n) ≡ suc p
+digits-are zero n le h = ap length (digit-one zero n h)
+digits-are (suc p) n le h =
+    let e : 10 ^ suc p ≡ 10 * 10 ^ p = pow-succ' 10 p in
+    let pos : 10 ≤ n = omega (arith, one-le-pow p 10 (omega arith)) in
+    rw (digit-more (suc p) n pos, length-append, digits-are p (n / 10) (omega arith) (tenth p n h)) (omega arith)
+
+snoc-same : (xs ys : List ℕ) (a b : ℕ) → xs ++ (a ∷ []) ≡ ys ++ (b ∷ []) → (xs ≡ ys) × (a ≡ b)
+snoc-same [] [] a b e = (refl, cc)
+snoc-same [] (y ∷ []) a b e = let z : _≡_ {A = List ℕ} [] (b ∷ []) = cc in let w : _≡_ {A = ℕ} 0 1 = cc in absurd (omega arith)
+snoc-same [] (y ∷ (z ∷ ys)) a b e = let w : _≡_ {A = ℕ} 0 1 = cc in absurd (omega arith)
+snoc-same (x ∷ []) [] a b e = let w : _≡_ {A = ℕ} 0 1 = cc in absurd (omega arith)
+snoc-same (x ∷ (z ∷ xs)) [] a b e = let w : _≡_ {A = ℕ} 0 1 = cc in absurd (omega arith)
+snoc-same (x ∷ xs) (y ∷ ys) a b e =
+    let t : xs ++ (a ∷ []) ≡ ys ++ (b ∷ []) = cc in
+    let h : x ≡ y = cc in
+    let r = snoc-same xs ys a b t in
+    let l : xs ≡ ys = r .0 in
+    (cc, r .1)
+
+-- where the last digit is all that is left
+last-digit : (j x : ℕ) (d : List ℕ) → j < length d → x < 10 → ([] ≡ take j d) × (48 + x ≡ getD d j 0) → (decimalIn j (x / 10) ≡ take j d) × (48 + x % 10 ≡ getD d j 0)
+unfolding decimalIn
+last-digit zero x d h one p = (p .0, ap (λ (v : ℕ). 48 + v) (omega arith) ∙ p .1)
+last-digit (suc k) x d h one p =
+    let le : suc k ≤ length d = omega arith in
+    let z : 0 ≡ suc k = ap length (p .0) ∙ length-take-le (suc k) d le in absurd (omega arith)
+
+-- one digit less: the turn of a loop that takes the last of j + 1 digits that are left of the list d
+pub digits-turn : (j x : ℕ) (d : List ℕ) → j < length d → decimalIn (suc j) x ≡ take (suc j) d → (decimalIn j (x / 10) ≡ take j d) × (48 + x % 10 ≡ getD d j 0)
+digits-turn j x d h e =
+    let s : take (suc j) d ≡ take j d ++ (getD d j 0 ∷ []) = take-suc d j 0 h in
+    ⊎-elim (λ one. last-digit j x d h one (snoc-same [] (take j d) (48 + x) (getD d j 0) (sym (digit-one j x one) ∙ e ∙ s)))
+    (λ more. snoc-same (decimalIn j (x / 10)) (take j d) (48 + x % 10) (getD d j 0) (sym (digit-more j x more) ∙ e ∙ s)) (below x 10)
+
+-- a byte in front of bytes that are laid already
+pub lay-before : (l : List ℕ) (at : ℕ) (s : List ℕ) (v : ℕ) → at + 1 + length s ≤ length l → set (lay l (at + 1) s) at v ≡ lay l at (v ∷ s)
+unfolding lay
+lay-before l at s v h =
+    let r : at < length l = omega arith in
+    let le : at ≤ length l = omega arith in
+    let e : at + 1 + length s ≡ at + length (v ∷ s) = omega arith in
+    rw (e, add-one, take-suc l at 0 r)
+    (simp append-assoc (set-at (take at l) (getD l at 0) (s ++ drop (at + length (v ∷ s)) l) v at (length-take-le at l le)))
+
+-- room for the digits that a number has is room enough
+in-length : (k n : ℕ) → n < 10 ^ suc k → decimalIn (length (decimalIn (suc k) n)) n ≡ decimalIn (suc k) n
+in-length zero n h = ap (λ (s : List ℕ). decimalIn (length s) n) (digit-one zero n h)
+in-length (suc k) n h =
+    ⊎-elim
+    (λ one. ap (λ (s : List ℕ). decimalIn (length s) n) (digit-one (suc k) n one) ∙ digit-one zero n one ∙ sym (digit-one (suc k) n one))
+    (λ more.
+    let m : length (decimalIn (suc (suc k)) n) ≡ suc (length (decimalIn (suc k) (n / 10))) =
+    ap length (digit-more (suc k) n more) ∙ length-append (decimalIn (suc k) (n / 10)) ((48 + n % 10) ∷ []) ∙ add-one (length (decimalIn (suc k) (n / 10))) in
+    ap (λ (l : ℕ). decimalIn l n) m
+    ∙ digit-more (length (decimalIn (suc k) (n / 10))) n more
+    ∙ ap (λ (s : List ℕ). s ++ ((48 + n % 10) ∷ [])) (in-length k (n / 10) (tenth k n h))
+    ∙ sym (digit-more (suc k) n more))
+    (below n 10)
+
+-- the first turn: all digits are left, and none is laid
+pub digits-start : (n : ℕ) (l : List ℕ) (at count : ℕ) → n < 4294967296 → count ≡ length (decimal n) → (decimalIn count n ≡ take count (decimal n)) × (l ≡ lay l (at + count) (drop count (decimal n)))
+unfolding decimal
+digits-start n l at count h e =
+    rw e (
+      in-length 9 n (omega arith) ∙ sym (take-length (decimalIn 10 n)),
+      sym (ap (λ (s : List ℕ). lay l (at + length (decimalIn 10 n)) s) (drop-length (decimalIn 10 n)) ∙ lay-nil l (at + length (decimalIn 10 n))),
+    )
+
+-- the turn of the loop: left + 1 digits were left
+pub digits-laid : (n : ℕ) (l out : List ℕ) (at left rest : ℕ) → left < length (decimal n) → at + length (decimal n) ≤ length l → decimalIn (left + 1) rest ≡ take (left + 1) (decimal n) → out ≡ lay l (at + (left + 1)) (drop (left + 1) (decimal n)) → (decimalIn left (rest / 10) ≡ take left (decimal n)) × (set out (at + left) (48 + rest % 10) ≡ lay l (at + left) (drop left (decimal n)))
+digits-laid n l out at left rest h room e o =
+    let d = decimal n in
+    let t = digits-turn left rest d h (rw add-one at e) in
+    let v : 48 + rest % 10 ≡ getD d left 0 = t .1 in
+    let c : drop left d ≡ getD d left 0 ∷ drop (left + 1) d = rw (add-one) (drop-cons d left 0 h) in
+    let a : at + (left + 1) ≡ at + left + 1 = omega arith in
+    let b : at + left + 1 + length (drop (left + 1) d) ≤ length l = simp length-drop (omega arith) in
+    (t .0, rw (o, a, v, c) (lay-before l (at + left) (drop (left + 1) d) (getD d left 0) b))
+
+-- how many digits
+pub places-one : (n : ℕ) → n < 10 → 1 ≡ length (decimal n)
+unfolding decimal
+places-one n h = sym (ap length (digit-one 9 n h))
+
+pub places-more : (p n : ℕ) → 10 ^ p ≤ n → n < 10 ^ suc p → p ≤ 9 → suc p ≡ length (decimal n)
+unfolding decimal
+places-more p n lo hi le = sym (digits-are p n lo hi) ∙ ap length (digits-fit p 9 n hi le)
+
+length-most : (k n : ℕ) → length (decimalIn k n) ≤ k
+unfolding decimalIn
+length-most zero n = zero-le
+length-most (suc k) n =
+    ⊎-elim (λ one. rw (digit-one k n one) (omega arith)) (λ more. rw (digit-more k n more, length-append) (omega (arith, length-most k (n / 10)))) (below n 10)
+
+-- a byte has at most 3 digits, and no number here more than 10
+pub byte-places : (n : ℕ) → n < 256 → length (decimal n) ≤ 3
+unfolding decimal
+byte-places n h = rw (← digits-fit 2 9 n (omega arith) (omega arith)) (length-most 3 n)
+
+pub number-places : (n : ℕ) → length (decimal n) ≤ 10
+unfolding decimal
+number-places n = length-most 10 n
+
+-- the line of an answer is at most 19 bytes long
+pub line-most : (a : Answer) → a .code < 256 → a .entry < 256 → length (line a) ≤ 19
+unfolding line
+line-most a c e =
+    simp length-append
+    (omega (arith, byte-places (a .code) c, byte-places (a .entry) e, number-places (a .until)))
+
+pub length-lay : (l : List ℕ) (at : ℕ) (s : List ℕ) → at + length s ≤ length l → length (lay l at s) ≡ length l
+unfolding lay
+length-lay l at s h = simp (length-append, length-take, length-drop) (omega arith)
+
+lay-one : (l : List ℕ) (n v : ℕ) → n < length l → set l n v ≡ lay l n (v ∷ [])
+unfolding lay
+lay-one l n v h = rw (add-one) (set-split l n v h ∙ sym (append-snoc (take n l) v (drop (suc n) l)))
+
+-- a byte behind bytes that are laid already
+lay-end : (l : List ℕ) (at : ℕ) (s : List ℕ) (n v : ℕ) → at + length s ≡ n → n < length l → set (lay l at s) n v ≡ lay l at (s ++ (v ∷ []))
+lay-end l at s n v e h =
+    let k : length (lay l at s) ≡ length l = length-lay l at s (omega arith) in
+    let h′ : n < length (lay l at s) = omega arith in
+    lay-one (lay l at s) n v h′ ∙ lay-lay l at s (v ∷ []) n e (omega arith)
+
+-- digits and a byte behind them, put behind what is laid already
+pub lay-word : (l : List ℕ) (at : ℕ) (s w : List ℕ) (n m v : ℕ) → n ≡ at + length s → m ≡ n + length w → m < length l → set (lay (lay l at s) n w) m v ≡ lay l at (s ++ w ++ (v ∷ []))
+lay-word l at s w n m v e e′ h =
+    ap (λ (x : List ℕ). set x m v) (lay-lay l at s w n (sym e) (omega arith))
+    ∙ lay-end l at (s ++ w) m v (rw (length-append) (omega arith)) h
+
+-- three numbers, each with the byte behind it, are the line of an answer
+pub line-laid : (a : Answer) (l o₁ o₂ o₃ : List ℕ) (at f s t : ℕ) → at + 19 ≤ length l → a .code < 256 → a .entry < 256 → f ≡ at + length (decimal (a .code)) → o₁ ≡ lay l at (decimal (a .code)) → s ≡ f + 1 + length (decimal (a .entry)) → o₂ ≡ lay (set o₁ f 32) (f + 1) (decimal (a .entry)) → t ≡ s + 1 + length (decimal (a .until)) → o₃ ≡ lay (set o₂ s 32) (s + 1) (decimal (a .until)) → (t + 1 ≡ at + length (line a)) × (set o₃ t 10 ≡ lay l at (line a))
+unfolding line
+line-laid a l o₁ o₂ o₃ at f s t room c e ef e₁ es e₂ et e₃ =
+    let x = byte-places (a .code) c in
+    let y = byte-places (a .entry) e in
+    let z = number-places (a .until) in
+    let sp : List ℕ = 32 ∷ [] in
+    let w : List ℕ = decimal (a .code) ++ sp in
+    let w′ : List ℕ = w ++ decimal (a .entry) ++ sp in
+    let n : length w ≡ length (decimal (a .code)) + 1 = length-append (decimal (a .code)) sp in
+    let n′ : length w′ ≡ length (decimal (a .code)) + 1 + length (decimal (a .entry)) + 1 = rw (length-append, length-append, n) refl in
+    let p : set o₁ f 32 ≡ lay l at w = ap (λ (q : List ℕ). set q f 32) e₁ ∙ lay-end l at (decimal (a .code)) f 32 (sym ef) (omega arith) in
+    let q : set o₂ s 32 ≡ lay l at w′ =
+    ap (λ (q : List ℕ). set q s 32) (e₂ ∙ ap (λ (q : List ℕ). lay q (f + 1) (decimal (a .entry))) p)
+    ∙ lay-word l at w (decimal (a .entry)) (f + 1) s 32 (omega arith) es (omega arith) in
+    let r : set o₃ t 10 ≡ lay l at (w′ ++ decimal (a .until) ++ (10 ∷ [])) =
+    ap (λ (q : List ℕ). set q t 10) (e₃ ∙ ap (λ (q : List ℕ). lay q (s + 1) (decimal (a .until))) q)
+    ∙ lay-word l at w′ (decimal (a .until)) (s + 1) t 10 (omega arith) et (omega arith) in
+    (rw (length-append, length-append, n′) (omega arith), r)

@@ -1,0 +1,17 @@
+-- What putting the line of an answer into a buffer leaves: nothing happens where fewer than 19 bytes are left, the longest line's length.
+use Prim.Native.Nat.{ℕ, _+_}
+use mathlib.Core.Bool.{cond}
+use mathlib.Core.List.{List}
+use lib.ListN.{length}
+use lib.Dec.{leb}
+use Rattle.laws.specs.Buffer.{lay}
+use Rattle.book.specs.declared.Answer.{Answer}
+use Rattle.model.specs.Run.{line}
+
+-- the place behind the line
+unfoldable pub lineEnd : Answer → ℕ → ℕ → ℕ
+lineEnd a at room = cond (leb (at + 19) room) (at + length (line a)) at
+
+-- the buffer with the line in it
+unfoldable pub lineBuffer : Answer → ℕ → List ℕ → List ℕ
+lineBuffer a at old = cond (leb (at + 19) (length old)) (lay old at (line a)) old
