@@ -94,13 +94,16 @@ next-image s records e = whole-buffer (runBook (heldBook s) records) s (run-leng
 module _ (s records old : List ℕ) (before : ℕ) where
   abbrev pub Left : ℕ → List ℕ → List ℕ → ℕ → Type 0
   Left code s′ out written =
-      (code ≡ answerCode s records (length old)) × (s′ ≡ imageAfter s records (length old)) × (out ≡ outAfter s records old) × (written ≡ writtenAfter s records (length old) before)
+      (code ≡ answerCode s records (length old))
+      × ((s′ ≡ imageAfter s records (length old))
+      × ((out ≡ outAfter s records old)
+      × (written ≡ writtenAfter s records (length old) before)))
 
   kept : (code : ℕ) → code ≡ answerCode s records (length old) → (code ≡ 0 → ⊥) → Left code s old before
   unfolding imageAfter outAfter writtenAfter
   kept code e n =
       let w : answered s records (length old) ≡ false = ap (λ (k : ℕ). eqb k 0) (sym e) ∙ ne-eqb code 0 n in
-      (e, rw w refl, rw w refl, rw w refl)
+      (e, (rw w refl, (rw w refl, rw w refl)))
 
   pub left-refused : (code : ℕ) → code ≡ readCode s → (code ≡ 0 → ⊥) → Left code s old before
   unfolding answerCode
@@ -124,7 +127,8 @@ module _ (s records old : List ℕ) (before : ℕ) where
       let f : leb (19 * recordCount records) (length old) ≡ true = le-leb (19 * recordCount records) (length old) h in
       let next : b ≡ runBook (heldBook s) records = rw (p .0, same, f) refl in (
         rw (e, f) refl,
-        rw (e, f) (q ∙ ap (λ (x : Book). writeBuffer x s) next ∙ next-image s records e),
-        rw (e, f) (p .2 ∙ rw (same, f) refl),
-        rw (e, f) (p .1 ∙ rw (same, f) refl),
+        (
+          rw (e, f) (q ∙ ap (λ (x : Book). writeBuffer x s) next ∙ next-image s records e),
+          (rw (e, f) (p .2 ∙ rw (same, f) refl), rw (e, f) (p .1 ∙ rw (same, f) refl)),
+        ),
       )

@@ -27,7 +27,10 @@ pub extern "C" fn rights_answer(
     out: &mut [u8],
     written: &mut u64,
 ) -> u8
-    ensures { λ r. ⌜ (r ≡ answerCode (now (image .entry)) (now (records .entry)) (length (now (out .entry)))) × (now (image .exit) ≡ imageAfter (now (image .entry)) (now (records .entry)) (length (now (out .entry)))) × (now (out .exit) ≡ outAfter (now (image .entry)) (now (records .entry)) (now (out .entry))) × (now (written .exit) ≡ writtenAfter (now (image .entry)) (now (records .entry)) (length (now (out .entry))) (now (written .entry))) ⌝ }
+    ensures { λ r. ⌜ r ≡ answerCode (now (image .entry)) (now (records .entry)) (length (now (out .entry))) ⌝ }
+    ensures { λ _. ⌜ now (image .exit) ≡ imageAfter (now (image .entry)) (now (records .entry)) (length (now (out .entry))) ⌝ }
+    ensures { λ _. ⌜ now (out .exit) ≡ outAfter (now (image .entry)) (now (records .entry)) (now (out .entry)) ⌝ }
+    ensures { λ _. ⌜ now (written .exit) ≡ writtenAfter (now (image .entry)) (now (records .entry)) (length (now (out .entry))) (now (written .entry)) ⌝ }
 {
     let blank = book::blank_book();
     let loaded = image_read::read(blank, image);
