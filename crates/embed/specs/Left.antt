@@ -1,0 +1,134 @@
+-- Why the next image fits where the last one lay: no event changes the length. And what each way out of a call leaves.
+use Prim.Native.Nat.{ℕ, suc, _*_, _≤_, _<_, min}
+use mathlib.Core.Path.{_≡_, refl, sym, ap, ap₂, _∙_}
+use mathlib.Core.Bool.{Bool, true, false, cond, not, _||_, true≢false}
+use mathlib.Core.List.{List, [], _∷_, _++_, append-nil}
+use native.Mathlib.Nat.{min-eq-left}
+use native.Mathlib.Omega.{arith}
+use lib.ListN.{length, drop}
+use lib.Seq.{drop-length}
+use lib.Dec.{ltb, leb, eqb}
+use borrow.Author.Tests.{ltb-false, eqb-true, ne-eqb, le-leb, lt-leb, not-false}
+use Rattle.laws.specs.Fields.{size}
+use Rattle.book.specs.declared.Book.{Book}
+use Rattle.book.specs.declared.Decoded.{Decoded}
+use Rattle.book.specs.Blank.{noBook}
+use Rattle.model.specs.Book.{assetsIn, entriesIn, latestTime, ruleBroken}
+use Rattle.model.specs.Image.{headerWidths, newest, image, imageLength, lengthOf, writeBuffer, markIn, versionIn, assetCountIn, entryCountIn, timeIn, bookIn, headerBroken, readCode, readBook}
+use Rattle.model.specs.Events.{decoded, arrive, stepRecord}
+use Rattle.model.specs.Demand3.{recordFinal}
+use Rattle.model.specs.Run.{recordCount, recordsIn, runBook}
+use Rattle.model.specs.Proof.Grounds.{arrive-static}
+use Rattle.runner.specs.Block.{fits, blockBook, blockWritten, blockBuffer}
+use Rattle.embed.specs.Calls.{answerCode, answered, heldBook, imageAfter, outAfter, writtenAfter}
+
+-- ## The length
+
+passed : (t : Bool) (c x : ℕ) → cond t (suc c) x ≡ 0 → (t ≡ false) × (x ≡ 0)
+passed true c x e = absurd (omega arith)
+passed false c x e = (refl, e)
+
+neither : (a c : Bool) → (a || c) ≡ false → (a ≡ false) × (c ≡ false)
+neither true c e = absurd (true≢false e)
+neither false c e = (refl, e)
+
+-- what the header of an accepted image tells of its length
+record Counted (s : List ℕ) : Type 0 where
+  assets : assetCountIn s ≤ 64
+  entries : entryCountIn s ≤ 64
+  whole : length s ≡ imageLength (assetCountIn s) (entryCountIn s)
+
+counted : (s : List ℕ) → headerBroken s ≡ 0 → Counted s
+unfolding headerBroken
+counted s e =
+    let short = passed (ltb (length s) (size headerWidths)) 19 _ e in
+    let mark = passed (not (markIn s)) 20 _ (short .1) in
+    let version = passed (not (eqb (versionIn s) newest)) 21 _ (mark .1) in
+    let large = passed (ltb 64 (assetCountIn s) || ltb 64 (entryCountIn s) || ltb latestTime (timeIn s)) 22 _ (version .1) in
+    let wrong = passed (not (eqb (length s) (imageLength (assetCountIn s) (entryCountIn s)))) 19 _ (large .1) in
+    let counts = neither (ltb 64 (assetCountIn s)) (ltb 64 (entryCountIn s)) (neither _ (ltb latestTime (timeIn s)) (large .0) .0) in
+    record {
+      assets = ltb-false 64 (assetCountIn s) (counts .0);
+      entries = ltb-false 64 (entryCountIn s) (counts .1);
+      whole = eqb-true (length s) (imageLength (assetCountIn s) (entryCountIn s)) (not-false _ (wrong .0));
+    }
+
+header-stands : (k r : ℕ) (w : Bool) → eqb k 0 ≡ w → cond w r k ≡ 0 → k ≡ 0
+header-stands k r true e z = eqb-true k 0 e
+header-stands k r false e z = z
+
+held-length : (s : List ℕ) → readCode s ≡ 0 → lengthOf (heldBook s) ≡ length s
+unfolding heldBook readBook readCode bookIn lengthOf assetsIn entriesIn
+held-length s e =
+    let n = counted s (header-stands (headerBroken s) (ruleBroken (bookIn s)) (eqb (headerBroken s) 0) refl e) in
+    ap (λ (k : ℕ). lengthOf (cond (eqb k 0) (bookIn s) noBook)) e
+    ∙ ap₂ imageLength (min-eq-left (n .assets)) (min-eq-left (n .entries))
+    ∙ sym (n .whole)
+
+event-length : (b : Book) (d : Decoded) → lengthOf (arrive b d .book) ≡ lengthOf b
+unfolding lengthOf assetsIn entriesIn
+event-length b d = ap₂ (λ (n m : ℕ). imageLength (min n 64) (min m 64)) (arrive-static b d .assetcount) (arrive-static b d .entrycount)
+
+records-length : (b : Book) (rs : List (List ℕ)) → lengthOf (recordFinal b rs) ≡ lengthOf b
+unfolding recordFinal stepRecord
+records-length b [] = refl
+records-length b (r ∷ rs) = records-length (stepRecord b r .book) rs ∙ event-length b (decoded r)
+
+run-length : (b : Book) (records : List ℕ) → lengthOf (runBook b records) ≡ lengthOf b
+unfolding runBook
+run-length b records = records-length b (recordsIn records)
+
+-- a buffer of exactly the image's length holds the image and nothing else
+whole-buffer : (b : Book) (old : List ℕ) → lengthOf b ≡ length old → writeBuffer b old ≡ image b
+unfolding writeBuffer
+whole-buffer b old e =
+    rw (le-leb (lengthOf b) (length old) (omega arith))
+    (ap (λ (n : ℕ). image b ++ drop n old) e ∙ ap (λ (t : List ℕ). image b ++ t) (drop-length old) ∙ append-nil (image b))
+
+pub next-image : (s records : List ℕ) → readCode s ≡ 0 → writeBuffer (runBook (heldBook s) records) s ≡ image (runBook (heldBook s) records)
+next-image s records e = whole-buffer (runBook (heldBook s) records) s (run-length (heldBook s) records ∙ held-length s e)
+
+-- ## What is left
+
+-- s′, out and written are the caller's image, text and length after a call that returns code
+module _ (s records old : List ℕ) (before : ℕ) where
+  abbrev pub Left : ℕ → List ℕ → List ℕ → ℕ → Type 0
+  Left code s′ out written =
+      (code ≡ answerCode s records (length old))
+      × ((s′ ≡ imageAfter s records (length old))
+      × ((out ≡ outAfter s records old)
+      × (written ≡ writtenAfter s records (length old) before)))
+
+  kept : (code : ℕ) → code ≡ answerCode s records (length old) → (code ≡ 0 → ⊥) → Left code s old before
+  unfolding imageAfter outAfter writtenAfter
+  kept code e n =
+      let w : answered s records (length old) ≡ false = ap (λ (k : ℕ). eqb k 0) (sym e) ∙ ne-eqb code 0 n in
+      (e, (rw w refl, (rw w refl, rw w refl)))
+
+  pub left-refused : (code : ℕ) → code ≡ readCode s → (code ≡ 0 → ⊥) → Left code s old before
+  unfolding answerCode
+  left-refused code e n = kept code (e ∙ rw (ne-eqb (readCode s) 0 (λ z. n (e ∙ z))) refl) n
+
+  pub left-short : readCode s ≡ 0 → length old < 19 * recordCount records → Left 30 s old before
+  unfolding answerCode fits
+  left-short e h = kept 30 (rw (e, lt-leb (19 * recordCount records) (length old) h) refl) (λ z. omega arith)
+
+  -- where the records are answered, from the book in the image
+  pub left-answered :
+      (book b : Book) (s′ out : List ℕ) (written : ℕ) →
+      readCode s ≡ 0 →
+      19 * recordCount records ≤ length old →
+      book ≡ heldBook s →
+      (b ≡ blockBook book records (length old)) × (written ≡ blockWritten book records (length old)) × (out ≡ blockBuffer book records old) →
+      s′ ≡ writeBuffer b s →
+      Left 0 s′ out written
+  unfolding answerCode imageAfter outAfter writtenAfter fits blockBook blockWritten blockBuffer
+  left-answered book b s′ out written e h same p q =
+      let f : leb (19 * recordCount records) (length old) ≡ true = le-leb (19 * recordCount records) (length old) h in
+      let next : b ≡ runBook (heldBook s) records = rw (p .0, same, f) refl in (
+        rw (e, f) refl,
+        (
+          rw (e, f) (q ∙ ap (λ (x : Book). writeBuffer x s) next ∙ next-image s records e),
+          (rw (e, f) (p .2 ∙ rw (same, f) refl), rw (e, f) (p .1 ∙ rw (same, f) refl)),
+        ),
+      )
