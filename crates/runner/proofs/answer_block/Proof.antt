@@ -26,12 +26,13 @@ use Rattle.model.specs.Book.{limitsAt, metersAt, playerAt, latestTime}
 use Rattle.book.specs.Blank.{noEntry}
 use Rattle.rules.specs.declared.Wire.{Wire}
 use Rattle.uses.specs.Uses.{placed, stored}
-use Rattle.events.specs.Step.{take-timely}
+use Rattle.model.specs.Proof.Kept.{gate-passed}
 use Rattle.model.specs.Events.{stepRecord, decoded, gate, lastAt, openAt, isOn, released, shut, chooseOf, anyOf, refusal, unchanged, noted, operationNumber}
 use Rattle.model.specs.Run.{recordCount, recordAt}
 use Rattle.choose.specs.declared.Best.{Best}
 use Rattle.choose.specs.Best.{bestAfter, choiceAfter, considered, best-turn}
-use Rattle.events.specs.Settle.{settledBook, settledTo, settle-none, settle-turn, settle-all, settled-length, settleOne, with, length-mapped}
+use Rattle.events.specs.Settle.{settledBook, settledTo, settle-none, settle-turn, settle-all, settled-length, settleOne, with}
+use Rattle.laws.specs.Loops.{length-mapped}
 use Rattle.runner.specs.Block.{fits, blockBook, blockWritten, blockBuffer}
 use Rattle.runner.specs.Upto.{Upto, upto-none, upto-length, upto-next, upto-all, record-part}
 use Rattle.runner.specs.Quiet.{Quiet, leastEnd, quiet-start, quiet-settled, Settled, settled-by, settled-still, end-turn, quiet-store, quiet-keep}
@@ -456,7 +457,7 @@ loop-again-4 c =
     let o = openAt ps j in
     let z = after-settle (c .before .before .before .before .before .before .before .before .before .before .before .before .before .before .before .before .before .before .before .before .before .before .before .before .before .before .before .before) in
     let g : gate (l .book .time) (lastAt (l .book .players) (v .player)) v ≡ Take = is-gate (c .before .before .before .before .before .before .before .before .before .before .before .before .before .before .before .before .before .before .before .before .before .before .before .before .before .before .before .before .before .before .before) ∙ c .before .before .before .before .before .before .before .before .before .before .before .before .before .before .before .before .before .before .before .before .before .before .before .before .before .before .before .before .before .enum-told2 .given .1 in
-    let ht : t ≤ latestTime = take-timely _ _ v g in
+    let ht : t ≤ latestTime = gate-passed (l .book) v g .early in
     let ho : o ≡ openAt ps (v .player) = ap (openAt ps) (is-player (c .before .before .before .before .before .before .before .before .before .before .before .before .before .before .before .before .before .before .before .before .before .before .before .before .before .before .before .before .before .before .before)) in
     let small : j < length ps = omega (arith, z .players) in
     let w = c .before .before .before .before .before .before .before .before .before .before .before .before .before .before .before .before .before .before .before .before .before .before .before .before .before .wire-of .result in
@@ -520,7 +521,7 @@ loop-again-5 c =
     let o = openAt ps j in
     let z = after-settle (c .before .before .before .before .before .before .before .before .before .before .before .before .before .before .before .before .before .before .before .before .before .before) in
     let g : gate (l .book .time) (lastAt (l .book .players) (v .player)) v ≡ Take = is-gate (c .before .before .before .before .before .before .before .before .before .before .before .before .before .before .before .before .before .before .before .before .before .before .before .before .before) ∙ c .before .before .before .before .before .before .before .before .before .before .before .before .before .before .before .before .before .before .before .before .before .before .before .enum-told2 .given .1 in
-    let ht : t ≤ latestTime = take-timely _ _ v g in
+    let ht : t ≤ latestTime = gate-passed (l .book) v g .early in
     let ho : o ≡ openAt ps (v .player) = ap (openAt ps) (is-player (c .before .before .before .before .before .before .before .before .before .before .before .before .before .before .before .before .before .before .before .before .before .before .before .before .before)) in
     let small : j < length ps = omega (arith, z .players) in
     let w = c .before .before .before .before .before .before .before .before .before .before .before .before .before .before .before .before .before .before .before .wire-of .result in
@@ -605,7 +606,7 @@ loop-again-6 c =
     let o = openAt ps j in
     let z = after-settle (c .before .before .before .before .before .before .before .before .before .before .before .before .before .before .before .before .before .before .before .before .before) in
     let g : gate (l .book .time) (lastAt (l .book .players) (v .player)) v ≡ Take = is-gate (c .before .before .before .before .before .before .before .before .before .before .before .before .before .before .before .before .before .before .before .before .before .before .before .before) ∙ c .before .before .before .before .before .before .before .before .before .before .before .before .before .before .before .before .before .before .before .before .before .before .enum-told2 .given .1 in
-    let ht : t ≤ latestTime = take-timely _ _ v g in
+    let ht : t ≤ latestTime = gate-passed (l .book) v g .early in
     let ho : o ≡ openAt ps (v .player) = ap (openAt ps) (is-player (c .before .before .before .before .before .before .before .before .before .before .before .before .before .before .before .before .before .before .before .before .before .before .before .before)) in
     let small : j < length ps = omega (arith, z .players) in
     let w = c .before .before .before .before .before .before .before .before .before .before .before .before .before .before .before .before .before .before .wire-of .result in
@@ -673,7 +674,7 @@ loop-again-7 c =
     let o = openAt ps j in
     let z = after-settle (c .before .before .before .before .before .before .before .before .before .before .before .before .before .before .before .before .before .before .before .before) in
     let g : gate (l .book .time) (lastAt (l .book .players) (v .player)) v ≡ Take = is-gate (c .before .before .before .before .before .before .before .before .before .before .before .before .before .before .before .before .before .before .before .before .before .before .before) ∙ c .before .before .before .before .before .before .before .before .before .before .before .before .before .before .before .before .before .before .before .before .before .enum-told2 .given .1 in
-    let ht : t ≤ latestTime = take-timely _ _ v g in
+    let ht : t ≤ latestTime = gate-passed (l .book) v g .early in
     let ho : o ≡ openAt ps (v .player) = ap (openAt ps) (is-player (c .before .before .before .before .before .before .before .before .before .before .before .before .before .before .before .before .before .before .before .before .before .before .before)) in
     let small : j < length ps = omega (arith, z .players) in
     let w = c .before .before .before .before .before .before .before .before .before .before .before .before .before .before .before .before .before .wire-of .result in
