@@ -1,19 +1,15 @@
 -- What the best entry says of the model's choice: it is the one chosen and is grantable, or nobody is chosen.
 use Prim.Native.Nat.{ℕ, zero, suc, _<_, _≤_}
 use mathlib.Core.Path.{_≡_, refl}
-use mathlib.Core.Bool.{Bool, true, false, _&&_, cond}
+use mathlib.Core.Bool.{Bool, true, false, cond}
 use mathlib.Core.List.{List}
 use native.Mathlib.Omega.{arith}
 use Rattle.book.specs.declared.Entry.{Entry}
 use Rattle.model.specs.Book.{limitsAt, metersAt}
 use Rattle.model.specs.Events.{Catalog, Choice, nobody, chosen, prefer, chooseOf, anyOf, choose, suits, grantable, goesBefore, parentOf}
+use Rattle.model.specs.Proof.Facts.{and-right}
 use Rattle.choose.specs.declared.Best.{Best}
 use Rattle.choose.specs.Best.{position, suitsAt, allowedAt, choiceAfter, bestAfter}
-
-and-right : (a b : Bool) → (a && b) ≡ true → b ≡ true
-and-right true b h = h
-and-right false true h = refl
-and-right false false h = h
 
 -- a choice among the first n is one of them, and allowed
 abbrev Good : (ℕ → Bool) → ℕ → Choice → Type 0

@@ -5,7 +5,8 @@ use mathlib.Core.List.{List, _++_}
 use native.Mathlib.Omega.{arith}
 use lib.ListN.{length, getD, drop, length-append}
 use Rattle.laws.specs.Count.{joined}
-use Rattle.laws.specs.Buffer.{lay, lay-front, lay-lay, length-joined}
+use Rattle.laws.specs.Buffer.{lay, lay-front, lay-lay}
+use Rattle.laws.specs.TableLaws.{length-joined}
 use Rattle.book.specs.declared.Book.{Book}
 use Rattle.book.specs.Blank.{noEntry}
 use Rattle.model.specs.Book.{assetAt, playerAt, assetsIn, entriesIn}

@@ -1,6 +1,6 @@
 -- Laying bytes into a buffer, and pieces of one length laid one behind the other.
-use Prim.Native.Nat.{ℕ, zero, suc, _+_, _*_, _<_, _≤_}
-use mathlib.Core.Path.{_≡_, refl, sym, ap, _∙_}
+use Prim.Native.Nat.{ℕ, suc, _+_, _*_, _<_, _≤_}
+use mathlib.Core.Path.{_≡_, sym, ap, _∙_}
 use mathlib.Core.List.{List, [], _++_, append-assoc}
 use native.Mathlib.Numerals.{add-one}
 use native.Mathlib.Nat.{add-assoc, mul-suc}
@@ -8,6 +8,7 @@ use native.Mathlib.Omega.{arith}
 use lib.ListN.{length, getD, set, take, drop, length-append}
 use lib.Seq.{take-at, drop-at, drop-drop, paste, paste-zero, paste-suc, length-take-le, take-all}
 use Rattle.laws.specs.Count.{joined}
+use Rattle.laws.specs.TableLaws.{length-joined}
 
 -- l with s laid over it from an index on
 unfoldable pub lay : List ℕ → ℕ → List ℕ → List ℕ
@@ -51,16 +52,11 @@ lay-all l at s j h = rw (take-all j s)
 
 -- pieces of m bytes each
 module _ (f : ℕ → List ℕ) (m : ℕ) (even : (i : ℕ) → length (f i) ≡ m) where
-  pub length-joined : (n : ℕ) → length (joined f n) ≡ m * n
-  unfolding joined
-  length-joined zero = omega arith
-  length-joined (suc n) = rw (length-append, length-joined n, even, mul-suc) refl
-
   -- one piece more: the turn of a loop that lays the next piece behind those before it
   pub joined-turn : (old : List ℕ) (at i : ℕ) → at + m * (i + 1) ≤ length old → lay (lay old at (joined f i)) (at + m * i) (f i) ≡ lay old at (joined f (i + 1))
   unfolding joined
   joined-turn old at i room =
-      let e : at + length (joined f i) ≡ at + m * i = ap (λ (k : ℕ). at + k) (length-joined i) in
+      let e : at + length (joined f i) ≡ at + m * i = ap (λ (k : ℕ). at + k) (length-joined f m even i) in
       let k : m * (i + 1) ≡ m * i + m = rw (add-one) (mul-suc m i) in
       let r : at + m * i + length (f i) ≤ length old = rw (even) (omega arith) in
       rw (add-one) (lay-lay old at (joined f i) (f i) (at + m * i) e r)

@@ -10,6 +10,7 @@ use Rattle.book.specs.declared.Limits.{Limits}
 use Rattle.book.specs.declared.Meters.{Meters}
 use Rattle.model.specs.Book.{latestTime, grantLength, flagged, momentary}
 use Rattle.model.specs.Events.{asked, where-flagged, cap, intervalFrom, leastUntil, grantUntil, grantable, countLeft, timedLeft, inDates, intervalLeft, secondsLeft}
+use Rattle.model.specs.Proof.Facts.{and-left, and-right}
 
 -- what begun adds, for a begin at t until u, fits
 pub record Room (t u : ℕ) (l : Limits) (m : Meters) : Type 0 where
@@ -29,15 +30,6 @@ pub record Narrow (l : Limits) (m : Meters) : Type 0 where
   pub count : m .count < 4294967296
   pub timed : m .timed < 4294967296
   pub seconds : m .seconds < 4294967296
-
-and-left : (a b : Bool) → (a && b) ≡ true → a ≡ true
-and-left true b h = refl
-and-left false b h = h
-
-and-right : (a b : Bool) → (a && b) ≡ true → b ≡ true
-and-right true b h = h
-and-right false true h = refl
-and-right false false h = h
 
 cap-under : (w : Bool) (v x : ℕ) → cap w v x ≤ x
 cap-under true v x = min-le-right v x

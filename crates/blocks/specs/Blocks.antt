@@ -1,0 +1,85 @@
+-- Answering in blocks: some bytes of whole records, and then what follows them, print the same and leave the same book as all at once.
+-- So it makes no difference to the run program's text how its input comes in pieces.
+use Prim.Native.Nat.{ℕ, zero, suc, _+_, _*_, _-_, _<_}
+use mathlib.Core.Path.{_≡_, refl, sym, ap, ap₂, _∙_}
+use mathlib.Core.List.{List, [], _∷_, _++_, append-assoc, append-nil}
+use native.Mathlib.Nat.{add-zero}
+use native.Mathlib.Omega.{arith}
+use lib.ListN.{length, take, drop, length-append, length-drop}
+use lib.Seq.{take-append-le, drop-append-le, drop-append-add}
+use Rattle.laws.specs.Count.{listed}
+use Rattle.laws.specs.TableLaws.{listed-same}
+use Rattle.book.specs.declared.Answer.{Answer}
+use Rattle.book.specs.declared.Book.{Book}
+use Rattle.model.specs.Events.{stepRecord}
+use Rattle.model.specs.Demand3.{recordAnswers, recordFinal}
+use Rattle.model.specs.Run.{line, lines, recordCount, recordAt, recordsIn, runText, runBook}
+
+-- ## Lists of records
+
+final-joined : (b : Book) (rs qs : List (List ℕ)) → recordFinal b (rs ++ qs) ≡ recordFinal (recordFinal b rs) qs
+unfolding recordFinal
+final-joined b [] qs = refl
+final-joined b (r ∷ rs) qs = final-joined (stepRecord b r .book) rs qs
+
+answers-joined : (b : Book) (rs qs : List (List ℕ)) → recordAnswers b (rs ++ qs) ≡ recordAnswers b rs ++ recordAnswers (recordFinal b rs) qs
+unfolding recordFinal recordAnswers
+answers-joined b [] qs = refl
+answers-joined b (r ∷ rs) qs = ap (λ (as′ : List Answer). stepRecord b r .answer ∷ as′) (answers-joined (stepRecord b r .book) rs qs)
+
+lines-joined : (as′ bs : List Answer) → lines (as′ ++ bs) ≡ lines as′ ++ lines bs
+unfolding lines
+lines-joined [] bs = refl
+lines-joined (a ∷ as′) bs = ap (λ (t : List ℕ). line a ++ t) (lines-joined as′ bs) ∙ sym (append-assoc (line a) (lines as′) (lines bs))
+
+listed-joined : (f : ℕ → List ℕ) (k n : ℕ) → listed f (k + n) ≡ listed f k ++ listed (λ (i : ℕ). f (k + i)) n
+unfolding listed
+listed-joined f k zero = rw add-zero (sym (append-nil (listed f k)))
+listed-joined f k (suc n) =
+    let e : k + suc n ≡ suc (k + n) = omega arith in
+    rw e
+    (ap (λ (l : List (List ℕ)). l ++ (f (k + n) ∷ [])) (listed-joined f k n)
+    ∙ append-assoc (listed f k) (listed (λ (i : ℕ). f (k + i)) n) (f (k + n) ∷ []))
+
+-- ## Bytes of whole records, and any bytes behind them
+
+module _ (s t : List ℕ) (k : ℕ) (whole : length s ≡ 13 * k) where
+  record-before : (i : ℕ) → i < k → recordAt (s ++ t) i ≡ recordAt s i
+  unfolding recordAt
+  record-before i h =
+      let l : length (drop (13 * i) s) ≡ length s - 13 * i = length-drop (13 * i) s in
+      ap (take 13) (drop-append-le (13 * i) s t (omega arith)) ∙ take-append-le 13 (drop (13 * i) s) t (omega arith)
+
+  record-behind : (i : ℕ) → recordAt (s ++ t) (k + i) ≡ recordAt t i
+  unfolding recordAt
+  record-behind i =
+      let e : 13 * (k + i) ≡ length s + 13 * i = omega arith in
+      rw e (ap (take 13) (drop-append-add s t (13 * i)))
+
+  count-joined : recordCount (s ++ t) ≡ k + recordCount t
+  unfolding recordCount
+  count-joined = rw length-append (omega arith)
+
+  count-whole : recordCount s ≡ k
+  unfolding recordCount
+  count-whole = omega arith
+
+  records-joined : recordsIn (s ++ t) ≡ recordsIn s ++ recordsIn t
+  unfolding recordsIn
+  records-joined =
+      ap (listed (recordAt (s ++ t))) count-joined
+      ∙ listed-joined (recordAt (s ++ t)) k (recordCount t)
+      ∙ ap₂ (λ (x y : List (List ℕ)). x ++ y)
+      (listed-same (recordAt (s ++ t)) (recordAt s) k record-before ∙ ap (listed (recordAt s)) (sym count-whole))
+      (listed-same (λ (i : ℕ). recordAt (s ++ t) (k + i)) (recordAt t) (recordCount t) (λ i h. record-behind i))
+
+  pub block-book : (b : Book) → runBook b (s ++ t) ≡ runBook (runBook b s) t
+  unfolding runBook
+  block-book b = ap (recordFinal b) records-joined ∙ final-joined b (recordsIn s) (recordsIn t)
+
+  pub block-text : (b : Book) → runText b (s ++ t) ≡ runText b s ++ runText (runBook b s) t
+  unfolding runBook runText
+  block-text b =
+      ap (λ (rs : List (List ℕ)). lines (recordAnswers b rs)) records-joined
+      ∙ ap lines (answers-joined b (recordsIn s) (recordsIn t))
+      ∙ lines-joined (recordAnswers b (recordsIn s)) (recordAnswers (recordFinal b (recordsIn s)) (recordsIn t))

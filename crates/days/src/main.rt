@@ -1,0 +1,108 @@
+// Reads the stored days of days.bin one after the other and prints, for each, a line `day N` and what the run program prints for it.
+// A day is the length of its image in 32 bits, big-endian, the image, the length of its event bytes in 32 bits, and these.
+use book::Book;
+use image_read::Loaded;
+
+struct Head {
+    more: bool,
+    length: usize,
+}
+
+fn join(a: u8, b: u8, c: u8, d: u8) -> usize {
+    a as usize * 16777216 + b as usize * 65536 + c as usize * 256 + d as usize
+}
+
+// The length in the next four bytes of the file, if there are four more.
+fn read_head(fd: i32) -> Head {
+    let mut h = [0u8; 4];
+    let n = io::read_full(fd, &mut h);
+    Head {
+        more: n == 4,
+        length: join(h[0], h[1], h[2], h[3]),
+    }
+}
+
+// The next n bytes of the file, to the start of buf. False where it has no room for them or they are not there.
+fn fill(fd: i32, n: usize, buf: &mut [u8]) -> bool {
+    if n <= buf.len() {
+        return io::read_full(fd, &mut buf[..n]) == n;
+    }
+    false
+}
+
+// Reads the image that is the first n bytes of buf.
+fn load(n: usize, buf: &[u8]) -> Loaded {
+    let blank = book::blank_book();
+    if n <= buf.len() {
+        return image_read::read(blank, &buf[..n]);
+    }
+    image_read::read(blank, buf)
+}
+
+fn print_number(n: u64) {
+    io::print_decimal(1, n);
+    io::write_all(1, b"\n");
+}
+
+// Writes the first n bytes of text.
+fn send(text: &[u8], n: usize) {
+    if n <= text.len() {
+        io::write_all(1, &text[..n]);
+    }
+}
+
+// Prints the answers to the events that are the first n bytes of buf.
+fn print_answers(b: Book, n: usize, buf: &[u8]) {
+    let mut out = [0u8; 95798];
+    if n <= buf.len() {
+        let r = runner::answer_block(b, &buf[..n], &mut out);
+        send(&out, r.written);
+    }
+}
+
+// Prints one day, if there is one more.
+fn one_day(fd: i32, number: u64) -> bool {
+    let first = read_head(fd);
+    if !first.more {
+        return false;
+    }
+    io::write_all(1, b"day ");
+    print_number(number);
+    let mut image = io::large_buffer();
+    let mut events = io::large_buffer();
+    let has_image = fill(fd, first.length, &mut image);
+    let second = read_head(fd);
+    let has_events = fill(fd, second.length, &mut events);
+    if !(has_image & second.more & has_events) {
+        io::write_all(1, b"cut short or too long\n");
+        return false;
+    }
+    let l = load(first.length, &image);
+    if l.code != 0 {
+        print_number(l.code as u64);
+        return true;
+    }
+    let b = l.book;
+    print_answers(b, second.length, &events);
+    true
+}
+
+// A proved loop has to end, and nothing says that a file does: more days than these are not read.
+fn all_days(fd: i32) {
+    let mut number: u64 = 1;
+    while number < 1000000 {
+        if !one_day(fd, number) {
+            return;
+        }
+        number = number + 1;
+    }
+}
+
+fn main() {
+    let fd = os::open_read(b"days.bin");
+    if fd < 0 {
+        io::write_all(1, b"no days.bin\n");
+        return;
+    }
+    all_days(fd);
+}

@@ -1,0 +1,4 @@
+// The run program on two events and five bytes of a third.
+fn main() {
+    serve::serve();
+}
