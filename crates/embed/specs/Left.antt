@@ -53,7 +53,7 @@ counted s e =
       whole = eqb-true (length s) (imageLength (assetCountIn s) (entryCountIn s)) (not-false _ (wrong .0));
     }
 
-header-stands : (k r : ℕ) (w : Bool) → eqb k 0 ≡ w → cond w r k ≡ 0 → k ≡ 0
+pub header-stands : (k r : ℕ) (w : Bool) → eqb k 0 ≡ w → cond w r k ≡ 0 → k ≡ 0
 header-stands k r true e z = eqb-true k 0 e
 header-stands k r false e z = z
 
