@@ -197,3 +197,51 @@ line-laid a l o₁ o₂ o₃ at f s t room c e ef e₁ es e₂ et e₃ =
     ap (λ (q : List ℕ). set q t 10) (e₃ ∙ ap (λ (q : List ℕ). lay q (s + 1) (decimal (a .until))) q)
     ∙ lay-word l at w′ (decimal (a .until)) (s + 1) t 10 (omega arith) et (omega arith) in
     (rw (length-append, length-append, n′) (omega arith), r)
+
+-- a number of ten digits, from the first to the last
+pub ten-digits : (n : ℕ) → 1000000000 ≤ n → n < 4294967296 → decimal n ≡ (48 + n / 10 / 10 / 10 / 10 / 10 / 10 / 10 / 10 / 10 % 10) ∷ (48 + n / 10 / 10 / 10 / 10 / 10 / 10 / 10 / 10 % 10) ∷ (48 + n / 10 / 10 / 10 / 10 / 10 / 10 / 10 % 10) ∷ (48 + n / 10 / 10 / 10 / 10 / 10 / 10 % 10) ∷ (48 + n / 10 / 10 / 10 / 10 / 10 % 10) ∷ (48 + n / 10 / 10 / 10 / 10 % 10) ∷ (48 + n / 10 / 10 / 10 % 10) ∷ (48 + n / 10 / 10 % 10) ∷ (48 + n / 10 % 10) ∷ (48 + n % 10) ∷ []
+unfolding decimal
+ten-digits n lo hi =
+    let l1 : 100000000 ≤ n / 10 = omega arith in
+    let u1 : n / 10 < 429496730 = omega arith in
+    let l2 : 10000000 ≤ n / 10 / 10 = omega arith in
+    let u2 : n / 10 / 10 < 42949673 = omega arith in
+    let l3 : 1000000 ≤ n / 10 / 10 / 10 = omega arith in
+    let u3 : n / 10 / 10 / 10 < 4294968 = omega arith in
+    let l4 : 100000 ≤ n / 10 / 10 / 10 / 10 = omega arith in
+    let u4 : n / 10 / 10 / 10 / 10 < 429497 = omega arith in
+    let l5 : 10000 ≤ n / 10 / 10 / 10 / 10 / 10 = omega arith in
+    let u5 : n / 10 / 10 / 10 / 10 / 10 < 42950 = omega arith in
+    let l6 : 1000 ≤ n / 10 / 10 / 10 / 10 / 10 / 10 = omega arith in
+    let u6 : n / 10 / 10 / 10 / 10 / 10 / 10 < 4295 = omega arith in
+    let l7 : 100 ≤ n / 10 / 10 / 10 / 10 / 10 / 10 / 10 = omega arith in
+    let u7 : n / 10 / 10 / 10 / 10 / 10 / 10 / 10 < 430 = omega arith in
+    let l8 : 10 ≤ n / 10 / 10 / 10 / 10 / 10 / 10 / 10 / 10 = omega arith in
+    let u8 : n / 10 / 10 / 10 / 10 / 10 / 10 / 10 / 10 < 43 = omega arith in
+    let l9 : 1 ≤ n / 10 / 10 / 10 / 10 / 10 / 10 / 10 / 10 / 10 = omega arith in
+    let u9 : n / 10 / 10 / 10 / 10 / 10 / 10 / 10 / 10 / 10 < 5 = omega arith in
+    let top : n / 10 / 10 / 10 / 10 / 10 / 10 / 10 / 10 / 10 ≡ n / 10 / 10 / 10 / 10 / 10 / 10 / 10 / 10 / 10 % 10 = omega arith in
+    rw (digit-more 9 n (omega arith), digit-more 8 (n / 10) (omega arith), digit-more 7 (n / 10 / 10) (omega arith), digit-more 6 (n / 10 / 10 / 10) (omega arith), digit-more 5 (n / 10 / 10 / 10 / 10) (omega arith), digit-more 4 (n / 10 / 10 / 10 / 10 / 10) (omega arith), digit-more 3 (n / 10 / 10 / 10 / 10 / 10 / 10) (omega arith), digit-more 2 (n / 10 / 10 / 10 / 10 / 10 / 10 / 10) (omega arith), digit-more 1 (n / 10 / 10 / 10 / 10 / 10 / 10 / 10 / 10) (omega arith), digit-one 0 (n / 10 / 10 / 10 / 10 / 10 / 10 / 10 / 10 / 10) (omega arith))
+    (ap (λ (x : ℕ). (48 + x) ∷ (48 + n / 10 / 10 / 10 / 10 / 10 / 10 / 10 / 10 % 10) ∷ (48 + n / 10 / 10 / 10 / 10 / 10 / 10 / 10 % 10) ∷ (48 + n / 10 / 10 / 10 / 10 / 10 / 10 % 10) ∷ (48 + n / 10 / 10 / 10 / 10 / 10 % 10) ∷ (48 + n / 10 / 10 / 10 / 10 % 10) ∷ (48 + n / 10 / 10 / 10 % 10) ∷ (48 + n / 10 / 10 % 10) ∷ (48 + n / 10 % 10) ∷ (48 + n % 10) ∷ []) top)
+
+-- ten bytes, one behind the other
+pub ten-laid : (l : List ℕ) (at d0 d1 d2 d3 d4 d5 d6 d7 d8 d9 : ℕ) → at + 10 ≤ length l → set (set (set (set (set (set (set (set (set (set l at d0) (at + 1) d1) (at + 2) d2) (at + 3) d3) (at + 4) d4) (at + 5) d5) (at + 6) d6) (at + 7) d7) (at + 8) d8) (at + 9) d9 ≡ lay l at (d0 ∷ d1 ∷ d2 ∷ d3 ∷ d4 ∷ d5 ∷ d6 ∷ d7 ∷ d8 ∷ d9 ∷ [])
+ten-laid l at d0 d1 d2 d3 d4 d5 d6 d7 d8 d9 h =
+    let e0 : set l at d0 ≡ lay l at (d0 ∷ []) = lay-one l at d0 (omega arith) in
+    let e1 : set (set l at d0) (at + 1) d1 ≡ lay l at (d0 ∷ d1 ∷ []) = ap (λ (x : List ℕ). set x (at + 1) d1) e0 ∙ lay-end l at (d0 ∷ []) (at + 1) d1 refl (omega arith) in
+    let e2 : set (set (set l at d0) (at + 1) d1) (at + 2) d2 ≡ lay l at (d0 ∷ d1 ∷ d2 ∷ []) = ap (λ (x : List ℕ). set x (at + 2) d2) e1 ∙ lay-end l at (d0 ∷ d1 ∷ []) (at + 2) d2 refl (omega arith) in
+    let e3 : set (set (set (set l at d0) (at + 1) d1) (at + 2) d2) (at + 3) d3 ≡ lay l at (d0 ∷ d1 ∷ d2 ∷ d3 ∷ []) = ap (λ (x : List ℕ). set x (at + 3) d3) e2 ∙ lay-end l at (d0 ∷ d1 ∷ d2 ∷ []) (at + 3) d3 refl (omega arith) in
+    let e4 : set (set (set (set (set l at d0) (at + 1) d1) (at + 2) d2) (at + 3) d3) (at + 4) d4 ≡ lay l at (d0 ∷ d1 ∷ d2 ∷ d3 ∷ d4 ∷ []) = ap (λ (x : List ℕ). set x (at + 4) d4) e3 ∙ lay-end l at (d0 ∷ d1 ∷ d2 ∷ d3 ∷ []) (at + 4) d4 refl (omega arith) in
+    let e5 : set (set (set (set (set (set l at d0) (at + 1) d1) (at + 2) d2) (at + 3) d3) (at + 4) d4) (at + 5) d5 ≡ lay l at (d0 ∷ d1 ∷ d2 ∷ d3 ∷ d4 ∷ d5 ∷ []) = ap (λ (x : List ℕ). set x (at + 5) d5) e4 ∙ lay-end l at (d0 ∷ d1 ∷ d2 ∷ d3 ∷ d4 ∷ []) (at + 5) d5 refl (omega arith) in
+    let e6 : set (set (set (set (set (set (set l at d0) (at + 1) d1) (at + 2) d2) (at + 3) d3) (at + 4) d4) (at + 5) d5) (at + 6) d6 ≡ lay l at (d0 ∷ d1 ∷ d2 ∷ d3 ∷ d4 ∷ d5 ∷ d6 ∷ []) = ap (λ (x : List ℕ). set x (at + 6) d6) e5 ∙ lay-end l at (d0 ∷ d1 ∷ d2 ∷ d3 ∷ d4 ∷ d5 ∷ []) (at + 6) d6 refl (omega arith) in
+    let e7 : set (set (set (set (set (set (set (set l at d0) (at + 1) d1) (at + 2) d2) (at + 3) d3) (at + 4) d4) (at + 5) d5) (at + 6) d6) (at + 7) d7 ≡ lay l at (d0 ∷ d1 ∷ d2 ∷ d3 ∷ d4 ∷ d5 ∷ d6 ∷ d7 ∷ []) = ap (λ (x : List ℕ). set x (at + 7) d7) e6 ∙ lay-end l at (d0 ∷ d1 ∷ d2 ∷ d3 ∷ d4 ∷ d5 ∷ d6 ∷ []) (at + 7) d7 refl (omega arith) in
+    let e8 : set (set (set (set (set (set (set (set (set l at d0) (at + 1) d1) (at + 2) d2) (at + 3) d3) (at + 4) d4) (at + 5) d5) (at + 6) d6) (at + 7) d7) (at + 8) d8 ≡ lay l at (d0 ∷ d1 ∷ d2 ∷ d3 ∷ d4 ∷ d5 ∷ d6 ∷ d7 ∷ d8 ∷ []) = ap (λ (x : List ℕ). set x (at + 8) d8) e7 ∙ lay-end l at (d0 ∷ d1 ∷ d2 ∷ d3 ∷ d4 ∷ d5 ∷ d6 ∷ d7 ∷ []) (at + 8) d8 refl (omega arith) in
+    let e9 : set (set (set (set (set (set (set (set (set (set l at d0) (at + 1) d1) (at + 2) d2) (at + 3) d3) (at + 4) d4) (at + 5) d5) (at + 6) d6) (at + 7) d7) (at + 8) d8) (at + 9) d9 ≡ lay l at (d0 ∷ d1 ∷ d2 ∷ d3 ∷ d4 ∷ d5 ∷ d6 ∷ d7 ∷ d8 ∷ d9 ∷ []) = ap (λ (x : List ℕ). set x (at + 9) d9) e8 ∙ lay-end l at (d0 ∷ d1 ∷ d2 ∷ d3 ∷ d4 ∷ d5 ∷ d6 ∷ d7 ∷ d8 ∷ []) (at + 9) d9 refl (omega arith) in
+    e9
+
+-- a number of one digit
+pub one-laid : (l : List ℕ) (at n : ℕ) → n < 10 → at < length l → (at + 1 ≡ at + length (decimal n)) × (set l at (48 + n % 10) ≡ lay l at (decimal n))
+unfolding decimal
+one-laid l at n h room =
+    let e : decimalIn 10 n ≡ (48 + n % 10) ∷ [] = digit-one 9 n h ∙ ap (λ (x : ℕ). (48 + x) ∷ []) (omega arith) in
+    (sym (ap (λ (x : List ℕ). at + length x) e), lay-one l at (48 + n % 10) room ∙ ap (lay l at) (sym e))

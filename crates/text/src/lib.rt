@@ -1,7 +1,7 @@
 // The line of one answer, as the run program prints it, put into a lent buffer.
 // Digits are written in place from the last to the first, once their number is known.
 ghost use mathlib.Core.Path.{_≡_};
-ghost use Prim.Native.Nat.{_+_, _≤_};
+ghost use Prim.Native.Nat.{_+_, _%_, _≤_};
 ghost use lib.ListN.{length};
 ghost use Rattle.laws.specs.Buffer.{lay};
 ghost use Rattle.model.specs.Run.{decimal};
@@ -42,17 +42,57 @@ fn places(n: u32) -> usize
     10
 }
 
+fn digit(n: u32) -> u8
+    ensures { λ r. ⌜ r ≡ 48 + n % 10 ⌝ }
+{
+    (48 + n % 10) as u8
+}
+
+// Puts the digits of a number that has ten of them, as most times have, with no loop.
+fn put_ten(out: &mut [u8], at: usize, n: u32)
+    requires { ⌜ (at + 10 ≤ length (now out)) × (1000000000 ≤ n) ⌝ }
+    ensures { λ r. ⌜ now (out .exit) ≡ lay (now (out .entry)) at (decimal n) ⌝ }
+{
+    let a = n / 10;
+    let b = a / 10;
+    let c = b / 10;
+    let d = c / 10;
+    let e = d / 10;
+    let f = e / 10;
+    let g = f / 10;
+    let h = g / 10;
+    let i = h / 10;
+    out[at] = digit(i);
+    out[at + 1] = digit(h);
+    out[at + 2] = digit(g);
+    out[at + 3] = digit(f);
+    out[at + 4] = digit(e);
+    out[at + 5] = digit(d);
+    out[at + 6] = digit(c);
+    out[at + 7] = digit(b);
+    out[at + 8] = digit(a);
+    out[at + 9] = digit(n);
+}
+
 // Puts the digits of n into out from at, and answers the place behind them.
 fn put_number(out: &mut [u8], at: usize, n: u32) -> usize
     requires { ⌜ at + length (decimal n) ≤ length (now out) ⌝ }
     ensures { λ r. ⌜ (r ≡ at + length (decimal n)) × (now (out .exit) ≡ lay (now (out .entry)) at (decimal n)) ⌝ }
 {
+    if n < 10 {
+        out[at] = digit(n);
+        return at + 1;
+    }
+    if 1000000000 <= n {
+        put_ten(out, at, n);
+        return at + 10;
+    }
     let count = places(n);
     let mut left = count;
     let mut rest = n;
     while 0 < left {
         left = left - 1;
-        out[at + left] = (48 + rest % 10) as u8;
+        out[at + left] = digit(rest);
         rest = rest / 10;
     }
     at + count
