@@ -1,15 +1,24 @@
--- The afternoon's book is legal and fresh, so demand 3 holds of it: the theorem's premises can be met.
-use mathlib.Core.Path.{_≡_, refl, ap}
+-- The afternoon's book is legal, fresh and typed, so demand 3 and saving hold of it: the theorems' premises can be met.
+use mathlib.Core.Path.{_≡_, refl, sym, ap, subst}
 use Prim.Native.Nat.{ℕ, zero, suc, _≤_}
 use lib.ListN.{replicate, getD}
 use native.Mathlib.Omega.{arith}
 use Rattle.laws.specs.Count.{all, first, sum}
+use Rattle.laws.specs.Fields.{Fit}
+use Rattle.laws.specs.FieldLaws.{zeros-fit}
+use Rattle.book.specs.declared.Asset.{Asset}
 use Rattle.book.specs.declared.Entry.{Entry}
+use Rattle.book.specs.declared.Player.{Player}
+use Rattle.book.specs.declared.Event.{Event}
 use Rattle.book.specs.Blank.{noAsset, noMeters, noEntry, noPlayer}
 use Rattle.model.specs.Book.{assetAt, metersAt, assetsIn, entriesIn, assetPosition, inBook, flagged, momentary, limit, assetLegal, assetsLegal, rangesLegal, limitsLegal, entriesLegal, playerBlank, playerLegal, playersLegal, meterLegal, startLegal, opens, openUses, openSeconds, metersCover, entryMetersLegal, metersLegal, ruleBroken, Legal, Fresh}
+use Rattle.model.specs.Image.{assetWidths, assetValues, entryWidths, entryValues, playerWidths, playerValues, Typed}
+use Rattle.model.specs.Events.{step}
 use Rattle.model.specs.Demand3.{Demand3}
+use Rattle.model.specs.Saved.{Fits, Survives}
 use Rattle.model.specs.Proof.Afternoon.{start}
 use Rattle.model.specs.Proof.Demand3.{demand3}
+use Rattle.model.specs.Proof.Kept.{saved}
 
 blank-at : {A : Type 0} (n : ℕ) (a : A) (i : ℕ) → getD (replicate n a) i a ≡ a
 blank-at zero a i = refl
@@ -57,3 +66,27 @@ start-fresh = record { time = refl; meters = unused; players = λ p. blank-at 16
 
 pub afternoon : Demand3 start
 afternoon = demand3 start start-legal start-fresh
+
+assets-fit : (i : ℕ) → Fit assetWidths (assetValues (assetAt (start .assets) i))
+assets-fit zero = omega arith
+assets-fit (suc zero) = omega arith
+assets-fit (suc (suc zero)) = omega arith
+assets-fit (suc (suc (suc zero))) = omega arith
+assets-fit (suc (suc (suc (suc i)))) = subst (λ (x : Asset). Fit assetWidths (assetValues x)) (sym (blank-at 60 noAsset i)) (zeros-fit assetWidths)
+
+entries-fit : (i : ℕ) → Fit entryWidths (entryValues (getD (start .entries) i noEntry))
+entries-fit zero = omega arith
+entries-fit (suc zero) = omega arith
+entries-fit (suc (suc zero)) = omega arith
+entries-fit (suc (suc (suc i))) = subst (λ (x : Entry). Fit entryWidths (entryValues x)) (sym (blank-at 61 noEntry i)) (zeros-fit entryWidths)
+
+pub start-typed : Typed start
+start-typed = record {
+  assets = assets-fit;
+  entries = entries-fit;
+  players = λ p. subst (λ (x : Player). Fit playerWidths (playerValues x)) (sym (blank-at 16 noPlayer p)) (zeros-fit playerWidths);
+}
+
+-- saved after any first event, the afternoon's book comes back
+pub start-survives : (e : Event) → Fits e → Survives (step start e .book)
+start-survives e f = saved .stepSurvives start e start-legal start-typed f
