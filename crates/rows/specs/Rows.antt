@@ -1,20 +1,19 @@
 -- The row that is kept beside the book for each entry, and the laws: a turn over a row is a turn over its entry, and rows follow the entries' stores.
 use Prim.Native.Nat.{ℕ, zero, suc, _+_, _<_, _≤_, min}
-use mathlib.Core.Path.{_≡_, refl, sym, ap, ap₂, _∙_}
+use mathlib.Core.Path.{_≡_, refl, ap, _∙_}
 use mathlib.Core.Bool.{Bool, true, false, not, _&&_, _||_, cond}
 use mathlib.Core.List.{List, [], _∷_, map}
 use native.Mathlib.Omega.{arith}
-use lib.ListN.{length, getD, set, length-map, List·getD-map}
+use lib.ListN.{length, getD, set, length-map}
 use lib.Dec.{leb, ltb, eqb}
-use borrow.Author.Tests.{ltb-true, ltb-false, leb-true, leb-false, lt-ltb, le-ltb, le-leb, lt-leb}
+use borrow.Author.Tests.{ltb-true, ltb-false, leb-true, leb-false, lt-ltb, le-ltb, le-leb}
 use Rattle.laws.specs.Count.{one}
 use Rattle.book.specs.declared.Limits.{Limits}
 use Rattle.book.specs.declared.Meters.{Meters}
 use Rattle.book.specs.declared.Entry.{Entry}
-use Rattle.book.specs.Blank.{noEntry}
 use Rattle.model.specs.Book.{limitsAt, metersAt, latestTime, flagged}
-use Rattle.model.specs.Events as E
 use Rattle.model.specs.Events.{where-flagged, isStarted, noEnd, own, asked, suitable, grantable, countLeft, timedLeft, inDates, intervalLeft, secondsLeft, rankOf, ranksBefore}
+use Rattle.model.specs.Proof.Facts.{on-test}
 use Rattle.rules.specs.declared.Rank.{Rank}
 use Rattle.rules.specs.Rules.{asRank}
 use Rattle.choose.specs.declared.Best.{Best}
@@ -65,8 +64,12 @@ rowRank asset row = record {
   inherited = one (not (eqb (row .asset) asset));
 }
 
+-- the row's entry is the asset's own, or its parent's
+abbrev pub rowBelongs : ℕ → ℕ → Row → Bool
+rowBelongs asset parent row = eqb (row .asset) asset || (not (eqb parent 0) && eqb (row .asset) parent)
+
 abbrev pub rowSuits : ℕ → ℕ → ℕ → Row → Bool
-rowSuits asset parent kind row = eqb (row .kind) kind && (eqb (row .asset) asset || (not (eqb parent 0) && eqb (row .asset) parent))
+rowSuits asset parent kind row = eqb (row .kind) kind && rowBelongs asset parent row
 
 abbrev pub rowGrants : ℕ → Row → Bool
 rowGrants t row = leb (row .start) t && ltb t (row .window)
@@ -82,15 +85,78 @@ rowConsidered asset parent kind t i row best =
 
 -- ## A turn over a row is a turn over its entry
 
--- the window and the start say what grantable says
-pub window-grants : (t : ℕ) (l : Limits) (m : Meters) → t ≤ latestTime → leb (startOf l) t && ltb t (windowOf l m) ≡ grantable t l m
-window-grants t l m h = ?
+-- a number is below the lesser of two where it is below both
+below-min : (t a b : ℕ) → ltb t (min a b) ≡ ltb t a && ltb t b
+below-min t a b =
+    on-test (ltb t a)
+    (λ p. on-test (ltb t b)
+    (λ q. rw (p, q) (lt-ltb t (min a b) (omega (arith, ltb-true t a p, ltb-true t b q))))
+    (λ q. rw (p, q) (le-ltb t (min a b) (omega (arith, ltb-false t b q)))))
+    (λ p. rw p (le-ltb t (min a b) (omega (arith, ltb-false t a p))))
+
+below-zero : (s : Bool) (t w : ℕ) → ltb t (cond s 0 w) ≡ not s && ltb t w
+below-zero true t w = le-ltb t 0 (omega arith)
+below-zero false t w = refl
+
+below-next : (t n : ℕ) → ltb t (n + 1) ≡ leb t n
+below-next t n =
+    on-test (leb t n)
+    (λ p. rw p (lt-ltb t (n + 1) (omega (arith, leb-true t n p))))
+    (λ p. rw p (le-ltb t (n + 1) (omega (arith, leb-false t n p))))
+
+not-at-most : (a b : ℕ) → not (leb a b) ≡ ltb b a
+not-at-most a b =
+    on-test (leb a b)
+    (λ p. rw (p, le-ltb b a (leb-true a b p)))
+    (λ p. rw (p, lt-ltb b a (leb-false a b p)))
+
+unspent : (f : Bool) (a b : ℕ) → not (f && leb a b) ≡ asked f (ltb b a)
+unspent true a b = not-at-most a b
+unspent false a b = refl
+
+from-start : (f : Bool) (t s : ℕ) → leb (where-flagged f s) t ≡ asked f (leb s t)
+from-start true t s = refl
+from-start false t s = le-leb 0 t (omega arith)
+
+before-end : (f : Bool) (t e : ℕ) → t ≤ latestTime → ltb t (cond f (e + 1) noEnd) ≡ asked f (leb t e)
+before-end true t e h = below-next t e
+before-end false t e h = lt-ltb t noEnd (omega arith)
+
+before-due : (f s : Bool) (t d : ℕ) → t ≤ latestTime → ltb t (cond (f && s) d noEnd) ≡ asked f (not s || ltb t d)
+before-due true true t d h = refl
+before-due true false t d h = lt-ltb t noEnd (omega arith)
+before-due false s t d h = lt-ltb t noEnd (omega arith)
+
+-- the tests in the order of `grantable`
+ordered :
+    (c d a s e v : Bool) →
+    s && (not (c || d || a) && (e && v)) ≡ not c && not d && (s && e) && v && not a
+ordered true d a true e v = refl
+ordered true d a false e v = refl
+ordered false true a true e v = refl
+ordered false true a false e v = refl
+ordered false false a false e v = refl
+ordered false false true true false v = refl
+ordered false false true true true false = refl
+ordered false false true true true true = refl
+ordered false false false true false v = refl
+ordered false false false true true false = refl
+ordered false false false true true true = refl
+
+-- from the start on and before the window ends, an entry is grantable
+pub window-grants : (t : ℕ) (l : Limits) (m : Meters) → t ≤ latestTime → (leb (startOf l) t && ltb t (windowOf l m)) ≡ grantable t l m
+unfolding startOf windowOf spent grantable countLeft timedLeft inDates intervalLeft secondsLeft
+window-grants t l m h =
+    rw (below-zero, below-min, from-start, before-end (flagged 8 l) t (l .end) h, before-due (flagged 16 l) (isStarted m) t (m .first + l .interval) h)
+    (ordered (flagged 1 l && leb (l .count) (m .count)) (flagged 2 l && leb (l .timed) (m .timed)) (flagged 32 l && leb (l .accumulated) (m .seconds)) (asked (flagged 4 l) (leb (l .start) t)) (asked (flagged 8 l) (leb t (l .end))) (asked (flagged 16 l) (not (isStarted m) || ltb t (m .first + l .interval)))
+    ∙ rw (unspent (flagged 1 l) (l .count) (m .count), unspent (flagged 2 l) (l .timed) (m .timed), unspent (flagged 32 l) (l .accumulated) (m .seconds)) refl)
 
 pub row-considered :
     (asset parent kind t i : ℕ) (l : Limits) (m : Meters) (best : Best) →
     t ≤ latestTime →
     rowConsidered asset parent kind t i (rowOf l m) best ≡ considered asset parent kind t i l m best
-row-considered asset parent kind t i l m best h = ?
+unfolding rowConsidered rowOf considered rankNumbers rankOf suitable own
+row-considered asset parent kind t i l m best h = rw (window-grants t l m h) refl
 
 -- ## Rows are a map over the entries
 

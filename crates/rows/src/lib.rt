@@ -13,7 +13,6 @@ use rules::Rank;
 use rules::flags_of;
 use rules::least;
 use rules::one;
-use rules::pick64;
 use rules::rank_of;
 use rules::ranks_before;
 use rules::when;
@@ -51,15 +50,14 @@ fn window_of(l: Limits, m: Meters) -> u64
         | (f.timed & (l.timed <= m.timed))
         | (f.accumulated & (l.accumulated <= m.seconds));
     let w = least(bound(f.end, end), bound(f.interval & (m.started == 1), due));
-    pick64(spent, 0, w)
+    if spent { 0 } else { w }
 }
 
 pub fn row_of(l: Limits, m: Meters) -> Row
     ensures { λ r. ⌜ r ≡ rowOf l m ⌝ }
 {
-    let f = flags_of(l);
     let r = rank_of(l, m, l.asset);
-    let start = when(f.start, l.start);
+    let start = when(l.flags / 4 % 2 == 1, l.start);
     let window = window_of(l, m);
     Row {
         asset: l.asset,
