@@ -1,17 +1,15 @@
 -- The tables of places and parents, and that a look into them finds what `reachIn` says of the assets.
-use Prim.Native.Nat.{ℕ, zero, suc, _+_, _-_, _<_, _≤_, min}
+use Prim.Native.Nat.{ℕ, zero, suc, _-_, _<_, _≤_, min}
 use mathlib.Core.Path.{_≡_, refl, sym, ap, _∙_}
 use mathlib.Core.Bool.{Bool, true, false, cond}
-use mathlib.Core.List.{List, [], _∷_, _++_, append-nil}
-use native.Mathlib.Numerals.{add-one}
+use mathlib.Core.List.{List}
 use native.Mathlib.Nat.{min-le-right}
 use native.Mathlib.Omega.{arith}
-use lib.ListN.{length, getD, set, take, length-set}
-use lib.Seq.{take-suc-set, take-all, getD-set-same, getD-set-other}
+use lib.ListN.{length, getD, set, replicate, length-set, length-replicate, getD-replicate}
+use lib.Seq.{getD-set-same, getD-set-other}
 use lib.Dec.{ltb, eqb}
 use borrow.Author.Tests.{ltb-true, ltb-false, eqb-true, eqb-false, lt-ltb, le-ltb}
-use Rattle.laws.specs.Count.{first, listed}
-use Rattle.laws.specs.TableLaws.{length-listed, listed-at}
+use Rattle.laws.specs.Count.{first}
 use Rattle.book.specs.declared.Asset.{Asset}
 use Rattle.model.specs.Book.{assetAt, assetPosition}
 use Rattle.model.specs.Events.{holds, usable}
@@ -28,7 +26,7 @@ down f (suc i) l = down f i (f i l)
 
 -- n slots, each v
 unfoldable pub slots : ℕ → ℕ → List ℕ
-slots v n = listed (λ _. v) n
+slots v n = replicate n v
 
 -- the asset at position i entered under its number: i if that number can be used
 unfoldable pub putPlace : List Asset → ℕ → ℕ → List ℕ → List ℕ
@@ -53,20 +51,11 @@ reachAt places parents asset =
       parent = cond (ltb (getD places asset 0) 64) (getD parents (getD places asset 0) 0) 0;
     }
 
--- ## The turns of the loops
+-- ## What the code does
 
-pub slots-none : (v : ℕ) (l : List ℕ) → take 0 l ≡ slots v 0
-unfolding slots listed
-slots-none v l = refl
-
-pub slots-turn : (v i : ℕ) (l : List ℕ) → i < length l → take i l ≡ slots v i → take (i + 1) (set l i v) ≡ slots v (i + 1)
-unfolding slots listed
-slots-turn v i l h e = rw add-one (take-suc-set l i v h ∙ ap (λ (s : List ℕ). s ++ (v ∷ [])) e)
-
-pub slots-all : (v n i : ℕ) (l : List ℕ) → length l ≡ n → n ≤ i → i ≤ n → take i l ≡ slots v i → l ≡ slots v n
-slots-all v n i l h a b e =
-    let s : i ≡ n = omega arith in
-    sym (take-all i l (omega arith)) ∙ e ∙ ap (slots v) s
+pub slots-new : (v n : ℕ) → replicate n v ≡ slots v n
+unfolding slots
+slots-new v n = refl
 
 pub down-turn : (f : ℕ → List ℕ → List ℕ) (i : ℕ) (l : List ℕ) → 0 < i → down f i l ≡ down f (i - 1) (f (i - 1) l)
 unfolding down
@@ -82,11 +71,11 @@ down-none f (suc i) l h = absurd (omega arith)
 
 slots-length : (v n : ℕ) → length (slots v n) ≡ n
 unfolding slots
-slots-length v n = length-listed (λ _. v) n
+slots-length v n = length-replicate n v
 
 slots-at : (v n i : ℕ) → i < n → getD (slots v n) i 0 ≡ v
 unfolding slots
-slots-at v n i h = sym (ap (λ (l : List ℕ). getD l i 0) (append-nil (listed (λ _. v) n))) ∙ listed-at (λ _. v) n i 0 [] h
+slots-at v n i h = getD-replicate n i v 0 h
 
 first-holds : (f : ℕ → Bool) (n : ℕ) → first f n < n → f (first f n) ≡ true
 unfolding first

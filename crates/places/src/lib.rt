@@ -28,16 +28,8 @@ pub fn fill_places(
 )
     ensures { λ _. ⌜ (now (places .exit) ≡ placesOf assets count) × (now (parents .exit) ≡ parentsOf assets count) ⌝ }
 {
-    let mut x: usize = 0;
-    while x < 65536 {
-        places[x] = 64;
-        x = x + 1;
-    }
-    let mut k: usize = 0;
-    while k < 64 {
-        parents[k] = 0;
-        k = k + 1;
-    }
+    *places = [64; 65536];
+    *parents = [0; 64];
     let mut i = at_most_64(count);
     while 0 < i {
         i = i - 1;
