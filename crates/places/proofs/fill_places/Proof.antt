@@ -1,9 +1,13 @@
 -- `fill_places`: the tables are cleared, then the assets entered from the last to the first.
-use Prim.Native.Nat.{_≤_}
-use mathlib.Core.Path.{_≡_, sym, ap₂, _∙_}
+use Prim.Native.Nat.{ℕ, _-_, _≤_}
+use mathlib.Core.Path.{_≡_, sym, ap, ap₂, _∙_}
+use mathlib.Core.Bool.{cond}
 use native.Mathlib.Nat.{min-le-right}
 use native.Mathlib.Omega.{arith}
+use lib.ListN.{set}
 use borrow.Author.Needs.{needs}
+use Rattle.model.specs.Book.{assetAt}
+use Rattle.assets.specs.declared.Reach.{Reach}
 use Rattle.places.specs.Places.{down, putPlace, putParent, placesOf, parentsOf, slots-new, down-turn, down-none}
 use Rattle.places.proofs.fill_places.Statement.{statement}
 use Rattle.places.proofs.fill_places.Tie as tie
@@ -63,11 +67,18 @@ unfolding putPlace putParent
 loop-again c =
     let a = c .before .before .before .before .before .before .before .before .before .args in
     let l = c .before .before .before .before .before .loop in
-    let r = c .before .before .reach-of in
-    let more = c .before .before .before .before .loop-test .taken in (
+    let r = c .before .before .reach-of .ensures in
+    let more = c .before .before .before .before .loop-test .taken in
+    let number = assetAt (a .t3) (l .i - 1) .number in
+    let onPlaces = putPlace (a .t3) (a .count) in
+    let onParents = putParent (a .t3) (a .count) in (
       omega arith,
-      rw (c .before .place-of .ensures, r .ensures) (sym (down-turn (putPlace (a .t3) (a .count)) (l .i) (l .places) more) ∙ l .inv .1),
-      rw (r .ensures) (sym (down-turn (putParent (a .t3) (a .count)) (l .i) (l .parents) more) ∙ l .inv .2),
+      ap (λ (v : ℕ). down onPlaces (l .i - 1) (set (l .places) number v)) (c .before .place-of .ensures ∙ ap (λ (x : Reach). cond (x .usable) (l .i - 1) 64) r)
+          ∙ sym (down-turn onPlaces (l .i) (l .places) more)
+          ∙ l .inv .1,
+      ap (λ (x : Reach). down onParents (l .i - 1) (set (l .parents) (l .i - 1) (x .parent))) r
+          ∙ sym (down-turn onParents (l .i) (l .parents) more)
+          ∙ l .inv .2,
     )
 
 returns : tie.Need-returns Inv-loop μ-loop
