@@ -1,14 +1,15 @@
 -- The ways that a record can go, each as one law: what the loop over the records has stored is what the step leaves.
-use Prim.Native.Nat.{ℕ, zero, suc, _+_, _<_, _≤_, min}
+use Prim.Native.Nat.{ℕ, zero, suc, _+_, _%_, _<_, _≤_, min}
 use mathlib.Core.Path.{_≡_, refl, sym, ap, _∙_}
 use mathlib.Core.Bool.{Bool, true, false, not, _&&_, _||_, cond, false≢true}
-use mathlib.Core.List.{List}
+use mathlib.Core.List.{List, map}
 use lib.ListN.{length, set}
 use lib.Seq.{set-out, set-getD}
 use lib.Dec.{ltb, eqb}
 use native.Mathlib.Omega.{arith}
-use borrow.Author.Tests.{ltb-true, ltb-false, lt-ltb, le-ltb}
-use Rattle.laws.specs.Fields.{size}
+use borrow.Author.Tests.{ltb-true, ltb-false, eq-eqb, ne-eqb}
+use Rattle.book.specs.declared.Answer.{Answer}
+use Rattle.book.specs.declared.Asset.{Asset}
 use Rattle.book.specs.declared.Limits.{Limits}
 use Rattle.book.specs.declared.Meters.{Meters}
 use Rattle.book.specs.declared.Entry.{Entry}
@@ -17,24 +18,24 @@ use Rattle.book.specs.declared.Open.{Open}
 use Rattle.book.specs.declared.Player.{Player}
 use Rattle.book.specs.declared.Book.{Book}
 use Rattle.book.specs.declared.Event.{Event}
-use Rattle.book.specs.declared.Outcome.{Outcome}
 use Rattle.book.specs.declared.Request.{Request}
 use Rattle.book.specs.declared.Request.the-variants.{Begin, Continue, Stop}
-use Rattle.book.specs.declared.Decoded.{Decoded}
-use Rattle.book.specs.declared.Decoded.the-variants.{Invalid, Valid}
 use Rattle.book.specs.declared.Gate.{Gate}
-use Rattle.book.specs.declared.Gate.the-variants.{Refuse, Resend, Take}
 use Rattle.book.specs.Blank.{noPlayer}
-use Rattle.model.specs.Book.{limitsAt, metersAt, playerAt, latestTime, entriesIn, requestLegal}
-use Rattle.model.specs.Events.{Catalog, Done, unchanged, refusal, noted, decoded, recordWidths, recordField, eventIn, gate, stepBy, step, arrive, stepRecord, takenStep, catalogOf, done, doBegin, doContinue, doStop, lastAt, openAt, isOn, usable, parentOf, suits, anyOf, expired, shut, released, amend, ended, operationNumber, requestAsset, requestKind}
-use Rattle.model.specs.Proof.Facts.{on-test, clash, and-left, and-right}
-use Rattle.rules.specs.declared.Wire.{Wire}
-use Rattle.rules.specs.Rules.{wireOf}
+use Rattle.model.specs.Book.{limitsAt, metersAt, playerAt, latestTime, entriesIn}
+use Rattle.model.specs.Events.{Catalog, Done, unchanged, refusal, eventIn, stepBy, step, arrive, stepRecord, catalogOf, done, doBegin, doContinue, doStop, lastAt, openAt, isOn, usable, parentOf, suits, anyOf, expired, shut, released, amend, ended, operationNumber, requestAsset, requestKind}
+use Rattle.model.specs.Proof.Facts.{on-test, on-same}
+use Rattle.records.specs.declared.Asked.{Asked}
+use Rattle.records.specs.Asked.{askedIn, gateCode}
+use Rattle.records.specs.Arrived.{Came, code-refuses, code-resends, noted-numbers}
 use Rattle.assets.specs.declared.Reach.{Reach}
 use Rattle.assets.specs.Reach.{reachIn, tableOf, reach-in-book}
 use Rattle.choose.specs.declared.Best.{Best}
 use Rattle.choose.specs.Best.{bestAfter}
 use Rattle.choose.specs.Choice.{best-suits}
+use Rattle.rows.specs.declared.Row.{Row}
+use Rattle.rows.specs.Rows.{rowOf, rowOfEntry, rows-set}
+use Rattle.places.specs.Places.{placesOf, parentsOf, reachAt, reach-usable, reach-parent}
 use Rattle.uses.specs.declared.Part.{Part}
 use Rattle.uses.specs.Uses.{placed, stored, beginOn, continueOn, stopOn, continue-placed, stop-placed}
 use Rattle.events.specs.Settle.{settledBook, released-out}
@@ -42,40 +43,20 @@ use Rattle.events.specs.Step.{storedBook, takenFrom, taken-is, begin-11, begin-
 
 -- ## Before the book is touched
 
-pub way-invalid : (b : Book) (s : List ℕ) (code : ℕ) → decoded s ≡ Invalid code → stepRecord b s ≡ record { answer = refusal code; book = b }
-unfolding stepRecord arrive
-way-invalid b s code h = ap (arrive b) h
+-- the answer of a record that is not taken
+abbrev pub earlyAnswer : ℕ → Answer → Answer
+earlyAnswer code stored = cond (eqb code 255) stored (refusal code)
 
-pub way-gated :
-    (b : Book) (s : List ℕ) (e : Event) (g : Gate) →
-    decoded s ≡ Valid e →
-    gate (b .time) (lastAt (b .players) (e .player)) e ≡ g →
-    stepRecord b s ≡ stepBy g b e
-unfolding stepRecord arrive step
-way-gated b s e g h k = ap (arrive b) h ∙ ap (λ (x : Gate). stepBy x b e) k
-
-pub way-refused : (b : Book) (e : Event) (code : ℕ) → stepBy (Refuse code) b e ≡ record { answer = refusal code; book = b }
-unfolding stepBy
-way-refused b e code = refl
-
-pub way-resent : (b : Book) (e : Event) → stepBy Resend b e ≡ record { answer = lastAt (b .players) (e .player) .answer; book = b }
-unfolding stepBy
-way-resent b e = refl
-
-valid-only : (w₁ w₂ w₃ : Bool) (x e : Event) → cond w₁ (Invalid 6) (cond w₂ (Invalid 2) (cond w₃ (Invalid 1) (Valid x))) ≡ Valid e → (w₂ ≡ false) × (x ≡ e)
-valid-only true w₂ w₃ x e h = let z : true ≡ false = cc in absurd (false≢true (sym z))
-valid-only false true w₃ x e h = let z : true ≡ false = cc in absurd (false≢true (sym z))
-valid-only false false true x e h = let z : true ≡ false = cc in absurd (false≢true (sym z))
-valid-only false false false x e h = (refl, cc)
-
--- an event that was decoded is of one of the sixteen players
-pub valid-player : (s : List ℕ) (e : Event) → decoded s ≡ Valid e → e .player ≤ 15
-unfolding decoded eventIn
-valid-player s e h =
-    let v =
-    valid-only (not (eqb (length s) (size recordWidths))) (ltb 15 (recordField 0 s)) (not (requestLegal (recordField 2 s) (recordField 3 s) (recordField 4 s))) (eventIn s) e h in
-    let p : recordField 0 s ≡ e .player = ap (λ (x : Event). x .player) (v .1) in
-    omega (arith, ltb-false 15 (recordField 0 s) (v .0))
+pub way-early :
+    (b : Book) (s : List ℕ) (a : Asked) (code : ℕ) →
+    a ≡ askedIn s →
+    code ≡ gateCode (b .time) (lastAt (b .players) (a .player % 16)) a →
+    (code ≡ 0 → ⊥) →
+    stepRecord b s ≡ record { answer = earlyAnswer code (lastAt (b .players) (a .player % 16) .answer); book = b }
+way-early b s a code ha hc n =
+    on-same code 255
+    (λ e. code-resends b s a code ha hc e ∙ rw (eq-eqb code 255 e) refl)
+    (λ m. code-refuses b s a code ha hc n m ∙ rw (ne-eqb code 255 m) refl)
 
 -- ## A taken event
 
@@ -94,22 +75,28 @@ abbrev pub doneOn : Book → Event → Done
 doneOn n e = done (e .request) (catalogOf n) (n .entries) (openAt (n .players) (e .player)) (e .time)
 
 pub way-taken :
-    (b : Book) (s : List ℕ) (e : Event) (n : Book) (d : Done) (j : ℕ) (last : Last) →
-    decoded s ≡ Valid e →
-    gate (b .time) (lastAt (b .players) (e .player)) e ≡ Take →
-    n ≡ settledBook (e .time) b →
-    d ≡ doneOn n e →
-    j ≡ e .player →
-    last ≡ noted e (d .answer) →
-    stepRecord b s ≡ record { answer = d .answer; book = closing n (d .entries) j (e .time) last (d .current) }
-unfolding stepBy storedBook
-way-taken b s e n d j last h g hn hd hj hl =
-    way-gated b s e Take h g
+    (b : Book) (s : List ℕ) (a : Asked) (n : Book) (d : Done) (j : ℕ) →
+    Came b s a →
+    n ≡ settledBook (a .time) b →
+    d ≡ doneOn n (eventIn s) →
+    j ≡ a .player →
+    stepRecord b s
+    ≡ record {
+      answer = d .answer;
+      book = closing n (d .entries) j (a .time) (record { number = a .number; operation = a .operation; asset = a .asset; kind = a .kind; answer = d .answer }) (d .current);
+    }
+unfolding stepRecord arrive step stepBy storedBook
+way-taken b s a n d j c hn hd hj =
+    let e = eventIn s in
+    let t : a .time ≡ e .time = c .time in
+    ap (arrive b) (c .valid)
+    ∙ ap (λ (x : Gate). stepBy x b e) (c .takes)
     ∙ sym (taken-is b e)
-    ∙ ap (λ (x : Book). takenFrom x e (doneOn x e)) (sym hn)
+    ∙ ap (λ (x : Book). takenFrom x e (doneOn x e)) (sym (hn ∙ ap (λ (x : ℕ). settledBook x b) t))
     ∙ ap (takenFrom n e) (sym hd)
-    ∙ ap (λ (x : Last). record { answer = d .answer; book = closing n (d .entries) (e .player) (e .time) x (d .current) }) (sym hl)
-    ∙ ap (λ (x : ℕ). record { answer = d .answer; book = closing n (d .entries) x (e .time) last (d .current) }) (sym hj)
+    ∙ ap (λ (x : Last). record { answer = d .answer; book = closing n (d .entries) (e .player) (e .time) x (d .current) }) (sym (noted-numbers b s a (d .answer) c))
+    ∙ ap (λ (x : ℕ). record { answer = d .answer; book = closing n (d .entries) x (e .time) (record { number = a .number; operation = a .operation; asset = a .asset; kind = a .kind; answer = d .answer }) (d .current) }) (sym (hj ∙ c .player))
+    ∙ ap (λ (x : ℕ). record { answer = d .answer; book = closing n (d .entries) j x (record { number = a .number; operation = a .operation; asset = a .asset; kind = a .kind; answer = d .answer }) (d .current) }) (sym t)
 
 module _ (c : Catalog) (es : List Entry) (o : Open) (t : ℕ) where
   pub begin-is : (q : Request) → operationNumber q ≡ 1 → done q c es o t ≡ doBegin c es o t (requestAsset q) (requestKind q)
@@ -125,8 +112,12 @@ module _ (c : Catalog) (es : List Entry) (o : Open) (t : ℕ) where
   further-is Stop h = refl
 
 -- a continue where the operation is 2, else a stop
-abbrev pub furtherOn : ℕ → ℕ → Limits → Meters → Open → Part
+abbrev furtherOn : ℕ → ℕ → Limits → Meters → Open → Part
 furtherOn operation t l m o = cond (eqb operation 2) (continueOn t l m o) (stopOn t l m o)
+
+-- the operation of that number, on the entry at a position
+abbrev pub actOn : ℕ → ℕ → ℕ → Limits → Meters → Open → Part
+actOn operation i t l m o = cond (eqb operation 1) (beginOn i t l m o) (furtherOn operation t l m o)
 
 further-cases :
     (w : Bool) (t : ℕ) (es : List Entry) (o : Open) →
@@ -136,148 +127,180 @@ further-cases :
 further-cases true t es o h = continue-placed t es o h
 further-cases false t es o h = stop-placed t es o
 
-pub further-placed :
-    (n : Book) (e : Event) (o : Open) (part : Part) →
-    o ≡ openAt (n .players) (e .player) →
-    (operationNumber (e .request) ≡ 1 → ⊥) →
-    e .time ≤ latestTime →
-    part ≡ furtherOn (operationNumber (e .request)) (e .time) (limitsAt (n .entries) (o .entry)) (metersAt (n .entries) (o .entry)) o →
-    placed (o .entry) part (n .entries) ≡ doneOn n e
-further-placed n e o part ho hq ht hp =
-    ap (λ (x : Part). placed (o .entry) x (n .entries)) hp
-    ∙ further-cases (eqb (operationNumber (e .request)) 2) (e .time) (n .entries) o ht
-    ∙ sym (further-is (catalogOf n) (n .entries) o (e .time) (e .request) hq)
-    ∙ ap (λ (x : Open). done (e .request) (catalogOf n) (n .entries) x (e .time)) ho
+off-cases : (w : Bool) (t : ℕ) (es : List Entry) (o : Open) → isOn o ≡ false → unchanged 14 es o ≡ cond w (doContinue es o t) (doStop es o t)
+unfolding doContinue doStop
+off-cases true t es o off = rw off
+off-cases false t es o off = rw off
+
+-- what a taken event is about to do: refused by a code that is not 0, or done at entry k
+pub record Planned (n : Book) (e : Event) (o : Open) (operation k code : ℕ) : Type 0 where
+  pub refuses : (code ≡ 0 → ⊥) → unchanged code (n .entries) o ≡ doneOn n e
+  pub acts :
+      code ≡ 0 → (part : Part) →
+      part ≡ actOn operation (k % 256) (e .time) (limitsAt (n .entries) k) (metersAt (n .entries) k) o →
+      placed k part (n .entries) ≡ doneOn n e
+
+module _ (n : Book) (e : Event) (o : Open) (operation k code : ℕ)
+    (ho : o ≡ openAt (n .players) (e .player))
+    (hq : operation ≡ operationNumber (e .request))
+    (other : operation ≡ 1 → ⊥) where
+  done-as : cond (eqb operation 2) (doContinue (n .entries) o (e .time)) (doStop (n .entries) o (e .time)) ≡ doneOn n e
+  done-as =
+      ap (λ (x : ℕ). cond (eqb x 2) (doContinue (n .entries) o (e .time)) (doStop (n .entries) o (e .time))) hq
+      ∙ sym (further-is (catalogOf n) (n .entries) o (e .time) (e .request) (λ x. other (hq ∙ x)))
+      ∙ ap (λ (x : Open). done (e .request) (catalogOf n) (n .entries) x (e .time)) ho
+
+  pub planned-further : e .time ≤ latestTime → k ≡ o .entry → code ≡ cond (isOn o) 0 14 → Planned n e o operation k code
+  planned-further ht hk hc = record {
+    refuses = λ some.
+        on-test (isOn o) (λ on. absurd (some (hc ∙ rw on refl)))
+        (λ off. ap (λ (x : ℕ). unchanged x (n .entries) o) (hc ∙ rw off refl) ∙ off-cases (eqb operation 2) (e .time) (n .entries) o off ∙ done-as);
+    acts = λ none part hp.
+        ap (λ (x : ℕ). placed x part (n .entries)) hk
+        ∙ ap (λ (x : Part). placed (o .entry) x (n .entries)) (hp ∙ rw (ne-eqb operation 1 other, hk) refl)
+        ∙ further-cases (eqb operation 2) (e .time) (n .entries) o ht
+        ∙ done-as;
+  }
 
 -- an operation at a position that no book has stores nothing
 pub placed-out : (k : ℕ) (part : Part) (es : List Entry) → length es ≤ k → placed k part es ≡ record { answer = part .answer; entries = es; current = part .current }
 unfolding placed stored
 placed-out k part es h = ap (λ (x : List Entry). record { answer = part .answer; entries = x; current = part .current }) (set-out es k _ h)
 
+code-clash : (x : ℕ) → 0 ≡ suc x → ⊥
+code-clash x h = omega (arith, h)
+
 -- ## A begin
 
--- the code of a begin that is refused
-abbrev pub beginCode : Bool → Bool → Bool → ℕ
-beginCode on usable suits = cond on 11 (cond usable (cond suits 13 12) 10)
+-- the code that refuses a begin, 0 where it is granted
+abbrev pub beginCode : Bool → Bool → Bool → Bool → ℕ
+beginCode on usable suits some = cond on 11 (cond usable (cond suits (cond some 0 13) 12) 10)
 
 -- how many entries are looked at
 abbrev pub looked : Bool → Bool → ℕ → ℕ
 looked on usable n = cond on 0 (cond usable n 0)
-
-module _ (c : Catalog) (es : List Entry) (o : Open) (t asset kind : ℕ) (best : Best)
-    (h : best ≡ bestAfter es asset (parentOf c asset) kind t (looked (isOn o) (usable c asset) (c .entryCount))) where
-  whole : isOn o ≡ false → usable c asset ≡ true → best ≡ bestAfter es asset (parentOf c asset) kind t (c .entryCount)
-  whole off u = h ∙ rw (off, u) refl
-
-  suits-is : isOn o ≡ false → usable c asset ≡ true → best .suits ≡ anyOf (suits c es asset kind) (c .entryCount)
-  suits-is off u = ap (λ (x : Best). x .suits) (whole off u) ∙ best-suits c es t asset kind
-
-  pub begin-refused :
-      (best .suits && ltb (best .at) 64) ≡ false →
-      c .entryCount ≤ 64 →
-      unchanged (beginCode (isOn o) (usable c asset) (best .suits)) es o ≡ doBegin c es o t asset kind
-  begin-refused none few =
-      on-test (isOn o) (λ on. rw on (sym (begin-11 c es o t asset kind on)))
-      (λ off. on-test (usable c asset)
-      (λ u. on-test (best .suits)
-      (λ s.
-      let z : ltb (best .at) 64 ≡ false = rw s at none in
-      rw (off, u, s) (sym (begin-13 c es o t asset kind off u (sym (suits-is off u) ∙ s) (best .at) (ap (λ (x : Best). x .at) (whole off u)) few (omega (arith, ltb-false (best .at) 64 z)))))
-      (λ s. rw (off, u, s) (sym (begin-12 c es o t asset kind off u (sym (suits-is off u) ∙ s)))))
-      (λ u. rw (off, u) (sym (begin-10 c es o t asset kind off u))))
-
-  none-looked : looked (isOn o) (usable c asset) (c .entryCount) ≡ 0 → best .suits ≡ false
-  unfolding bestAfter anyOf
-  none-looked z = ap (λ (x : Best). x .suits) (h ∙ ap (bestAfter es asset (parentOf c asset) kind t) z)
-
-  pub begin-taken :
-      (best .suits && ltb (best .at) 64) ≡ true →
-      t ≤ latestTime →
-      (part : Part) →
-      part ≡ beginOn (best .at) t (limitsAt es (best .at)) (metersAt es (best .at)) o →
-      placed (best .at) part es ≡ doBegin c es o t asset kind
-  begin-taken some ht part hp =
-      let s : best .suits ≡ true = and-left (best .suits) (ltb (best .at) 64) some in
-      let l : ltb (best .at) 64 ≡ true = and-right (best .suits) (ltb (best .at) 64) some in
-      on-test (isOn o) (λ on. clash s (none-looked (rw on refl)))
-      (λ off. on-test (usable c asset)
-      (λ u. begin-grants c es o t asset kind off u (sym (suits-is off u) ∙ s) (best .at) (ap (λ (x : Best). x .at) (whole off u)) part (ltb-true (best .at) 64 l) ht hp)
-      (λ u. clash s (none-looked (rw (off, u) refl))))
-
--- ## Settling
-
--- one use, by the code's tests
-pub released-in : (t : ℕ) (o : Open) (es : List Entry) → (expired t o && ltb (o .entry) 64) ≡ true
-    → set es (o .entry) (record { limits = limitsAt es (o .entry); meters = ended (o .begin) (o .until) (o .until) (limitsAt es (o .entry)) (metersAt es (o .entry)) }) ≡ released t o es
-unfolding released amend
-released-in t o es h = rw (and-left (expired t o) (ltb (o .entry) 64) h)
-
-pub released-not : (t : ℕ) (o : Open) (es : List Entry) → length es ≡ 64 → (expired t o && ltb (o .entry) 64) ≡ false → es ≡ released t o es
-unfolding released
-released-not t o es l h =
-    on-test (expired t o)
-    (λ d. let z : ltb (o .entry) 64 ≡ false = rw d at h in sym (released-out t o es (omega (arith, ltb-false (o .entry) 64 z))))
-    (λ d. rw d)
-
-pub shut-not : (t i : ℕ) (ps : List Player) → expired t (openAt ps i) ≡ false → ps ≡ set ps i (shut t (playerAt ps i))
-unfolding shut
-shut-not t i ps h = rw h (sym (set-getD ps i noPlayer))
-
--- ## A begin, as the loop has it
 
 pub looked-most : (on usable : Bool) (n : ℕ) → looked on usable n ≤ n
 looked-most true usable n = omega arith
 looked-most false true n = omega arith
 looked-most false false n = omega arith
 
-reach-usable : (b : Book) (asset : ℕ) (r : Reach) → r ≡ reachIn (tableOf (b .assets) (b .assetcount)) asset → r .usable ≡ usable (catalogOf b) asset
-unfolding reachIn
-reach-usable b asset r e = ap (λ (x : Reach). x .usable) (e ∙ reach-in-book b asset)
-
-reach-parent : (b : Book) (asset : ℕ) (r : Reach) → r ≡ reachIn (tableOf (b .assets) (b .assetcount)) asset → r .parent ≡ parentOf (catalogOf b) asset
-unfolding reachIn
-reach-parent b asset r e = ap (λ (x : Reach). x .parent) (e ∙ reach-in-book b asset)
-
 few-entries : (b : Book) → catalogOf b .entryCount ≤ 64
 unfolding catalogOf entriesIn
 few-entries b = omega arith
 
-module _ (n : Book) (e : Event) (o : Open) (w : Wire) (r : Reach) (best : Best) (m : ℕ)
+module _ (n : Book) (e : Event) (o : Open) (operation asset kind k code m : ℕ) (r : Reach) (best : Best)
     (ho : o ≡ openAt (n .players) (e .player))
-    (hw : w ≡ wireOf (e .request))
-    (op : w .operation ≡ 1)
-    (hr : r ≡ reachIn (tableOf (n .assets) (n .assetcount)) (w .asset))
+    (hq : operation ≡ operationNumber (e .request))
+    (one : operation ≡ 1)
+    (ha : asset ≡ requestAsset (e .request))
+    (hk : kind ≡ requestKind (e .request))
+    (hu : r .usable ≡ usable (catalogOf n) asset)
+    (hp : usable (catalogOf n) asset ≡ true → r .parent ≡ parentOf (catalogOf n) asset)
     (hm : m ≡ looked (isOn o) (r .usable) (min (n .entrycount) 64))
-    (hb : best ≡ bestAfter (n .entries) (w .asset) (r .parent) (w .kind) (e .time) m) where
-  looked-at : m ≡ looked (isOn o) (usable (catalogOf n) (w .asset)) (catalogOf n .entryCount)
-  unfolding catalogOf entriesIn
-  looked-at = hm ∙ ap (λ (u : Bool). looked (isOn o) u (min (n .entrycount) 64)) (reach-usable n (w .asset) r hr)
+    (hb : best ≡ bestAfter (n .entries) asset (r .parent) kind (e .time) m) where
+  abbrev c : Catalog
+  c = catalogOf n
 
-  best-looked : best ≡ bestAfter (n .entries) (w .asset) (parentOf (catalogOf n) (w .asset)) (w .kind) (e .time) (looked (isOn o) (usable (catalogOf n) (w .asset)) (catalogOf n .entryCount))
-  best-looked =
-      hb
-      ∙ ap (λ (p : ℕ). bestAfter (n .entries) (w .asset) p (w .kind) (e .time) m) (reach-parent n (w .asset) r hr)
-      ∙ ap (bestAfter (n .entries) (w .asset) (parentOf (catalogOf n) (w .asset)) (w .kind) (e .time)) looked-at
+  abbrev es : List Entry
+  es = n .entries
 
-  begin-on : doBegin (catalogOf n) (n .entries) o (e .time) (w .asset) (w .kind) ≡ doneOn n e
+  begin-on : doBegin c es o (e .time) asset kind ≡ doneOn n e
   begin-on =
-      ap (λ (x : Wire). doBegin (catalogOf n) (n .entries) o (e .time) (x .asset) (x .kind)) hw
-      ∙ sym (begin-is (catalogOf n) (n .entries) o (e .time) (e .request) (sym (ap (λ (x : Wire). x .operation) hw) ∙ op))
-      ∙ ap (λ (x : Open). done (e .request) (catalogOf n) (n .entries) x (e .time)) ho
+      ap (λ (x : ℕ). doBegin c es o (e .time) x kind) ha
+      ∙ ap (doBegin c es o (e .time) (requestAsset (e .request))) hk
+      ∙ sym (begin-is c es o (e .time) (e .request) (sym hq ∙ one))
+      ∙ ap (λ (x : Open). done (e .request) c es x (e .time)) ho
 
-  pub begun-refused :
-      (best .suits && ltb (best .at) 64) ≡ false →
-      unchanged (beginCode (isOn o) (r .usable) (best .suits)) (n .entries) o ≡ doneOn n e
-  begun-refused none =
-      ap (λ (u : Bool). unchanged (beginCode (isOn o) u (best .suits)) (n .entries) o) (reach-usable n (w .asset) r hr)
-      ∙ begin-refused (catalogOf n) (n .entries) o (e .time) (w .asset) (w .kind) best best-looked none (few-entries n)
-      ∙ begin-on
+  module _ (off : isOn o ≡ false) (u : usable c asset ≡ true) where
+    all-looked : m ≡ c .entryCount
+    unfolding catalogOf entriesIn
+    all-looked = hm ∙ rw (off, hu ∙ u) refl
 
-  pub begun-placed :
-      (best .suits && ltb (best .at) 64) ≡ true →
-      e .time ≤ latestTime →
-      (part : Part) →
-      part ≡ beginOn (best .at) (e .time) (limitsAt (n .entries) (best .at)) (metersAt (n .entries) (best .at)) o →
-      placed (best .at) part (n .entries) ≡ doneOn n e
-  begun-placed some ht part hp =
-      begin-taken (catalogOf n) (n .entries) o (e .time) (w .asset) (w .kind) best best-looked some ht part hp ∙ begin-on
+    whole : best ≡ bestAfter es asset (parentOf c asset) kind (e .time) (c .entryCount)
+    whole = hb ∙ ap (bestAfter es asset (r .parent) kind (e .time)) all-looked ∙ ap (λ (p : ℕ). bestAfter es asset p kind (e .time) (c .entryCount)) (hp u)
+
+    suits-is : best .suits ≡ anyOf (suits c es asset kind) (c .entryCount)
+    suits-is = ap (λ (x : Best). x .suits) whole ∙ best-suits c es (e .time) asset kind
+
+    at-is : best .at ≡ bestAfter es asset (parentOf c asset) kind (e .time) (c .entryCount) .at
+    at-is = ap (λ (x : Best). x .at) whole
+
+  refused-as : (x : ℕ) → code ≡ x → doBegin c es o (e .time) asset kind ≡ unchanged x es o → unchanged code es o ≡ doneOn n e
+  refused-as x h d = ap (λ (y : ℕ). unchanged y es o) h ∙ sym d ∙ begin-on
+
+  pub planned-begin : e .time ≤ latestTime → k ≡ best .at → code ≡ beginCode (isOn o) (r .usable) (best .suits) (ltb k 64) → Planned n e o operation k code
+  planned-begin ht hat hc = record {
+    refuses = λ some.
+        on-test (isOn o)
+        (λ on. refused-as 11 (hc ∙ rw on refl) (begin-11 c es o (e .time) asset kind on))
+        (λ off. on-test (usable c asset)
+        (λ u. on-test (best .suits)
+        (λ s. on-test (ltb k 64)
+        (λ l. absurd (some (hc ∙ rw (off, hu ∙ u, s, l) refl)))
+        (λ l. refused-as 13 (hc ∙ rw (off, hu ∙ u, s, l) refl) (begin-13 c es o (e .time) asset kind off u (sym (suits-is off u) ∙ s) k (hat ∙ at-is off u) (few-entries n) (omega (arith, ltb-false k 64 l)))))
+        (λ s. refused-as 12 (hc ∙ rw (off, hu ∙ u, s) refl) (begin-12 c es o (e .time) asset kind off u (sym (suits-is off u) ∙ s))))
+        (λ u. refused-as 10 (hc ∙ rw (off, hu ∙ u) refl) (begin-10 c es o (e .time) asset kind off u)));
+    acts = λ none part part-is.
+        on-test (isOn o)
+        (λ on. absurd (code-clash 10 (sym none ∙ hc ∙ rw on refl)))
+        (λ off. on-test (usable c asset)
+        (λ u. on-test (best .suits)
+        (λ s. on-test (ltb k 64)
+        (λ l.
+        let small = ltb-true k 64 l in
+        let whole-k : k % 256 ≡ k = omega arith in
+        begin-grants c es o (e .time) asset kind off u (sym (suits-is off u) ∙ s) k (hat ∙ at-is off u) part small ht (part-is ∙ rw (one, whole-k) refl) ∙ begin-on)
+        (λ l. absurd (code-clash 12 (sym none ∙ hc ∙ rw (off, hu ∙ u, s, l) refl))))
+        (λ s. absurd (code-clash 11 (sym none ∙ hc ∙ rw (off, hu ∙ u, s) refl))))
+        (λ u. absurd (code-clash 9 (sym none ∙ hc ∙ rw (off, hu ∙ u) refl))));
+  }
+
+-- ## Settling
+
+module _ (t : ℕ) (o : Open) (es : List Entry) where
+  pub released-due :
+      expired t o ≡ true →
+      set es (o .entry) (record { limits = limitsAt es (o .entry); meters = ended (o .begin) (o .until) (o .until) (limitsAt es (o .entry)) (metersAt es (o .entry)) }) ≡ released t o es
+  unfolding released amend
+  released-due d = rw d
+
+  pub released-far : length es ≤ o .entry → es ≡ released t o es
+  released-far h = sym (released-out t o es h)
+
+  pub released-still : expired t o ≡ false → es ≡ released t o es
+  unfolding released
+  released-still d = rw d
+
+pub shut-not : (t i : ℕ) (ps : List Player) → expired t (openAt ps i) ≡ false → ps ≡ set ps i (shut t (playerAt ps i))
+unfolding shut
+shut-not t i ps h = rw h (sym (set-getD ps i noPlayer))
+
+-- ## The tables beside the book
+
+-- an entry and its row stored at the same place
+pub rows-next :
+    (es : List Entry) (rows : List Row) (k : ℕ) (y : Entry) (row : Row) →
+    rows ≡ map rowOfEntry es →
+    row ≡ rowOf (y .limits) (y .meters) →
+    set rows k row ≡ map rowOfEntry (set es k y)
+rows-next es rows k y row h e = ap (λ (x : List Row). set x k row) h ∙ ap (set (map rowOfEntry es) k) e ∙ sym (rows-set es k y)
+
+module _ (n : Book) (ats : List Asset) (count asset : ℕ) (r : Reach)
+    (ha : n .assets ≡ ats)
+    (hc : n .assetcount ≡ count)
+    (small : asset ≤ 65535)
+    (hr : r ≡ reachAt (placesOf ats count) (parentsOf ats count) asset) where
+  in-book : reachIn (tableOf ats count) asset ≡ reachIn (tableOf (n .assets) (n .assetcount)) asset
+  in-book = ap (λ (x : List Asset). reachIn (tableOf x count) asset) (sym ha) ∙ ap (λ (x : ℕ). reachIn (tableOf (n .assets) x) asset) (sym hc)
+
+  pub usable-is : r .usable ≡ usable (catalogOf n) asset
+  unfolding reachIn
+  usable-is = ap (λ (x : Reach). x .usable) hr ∙ reach-usable ats count asset small ∙ ap (λ (x : Reach). x .usable) (in-book ∙ reach-in-book n asset)
+
+  pub parent-is : usable (catalogOf n) asset ≡ true → r .parent ≡ parentOf (catalogOf n) asset
+  unfolding reachIn
+  parent-is u =
+      ap (λ (x : Reach). x .parent) hr
+      ∙ reach-parent ats count asset small (ap (λ (x : Reach). x .usable) (in-book ∙ reach-in-book n asset) ∙ u)
+      ∙ ap (λ (x : Reach). x .parent) (in-book ∙ reach-in-book n asset)

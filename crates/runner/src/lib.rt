@@ -1,33 +1,36 @@
 // A block of event records answered one after the other, each by one line of text.
 // The loop over the records owns the book: no function on the way of one event takes or returns it, and what an event changes is stored in place.
-// Beside the book stands a lower bound of the next until, so that settling costs one comparison where nothing is due.
+// Beside the book stand a lower bound of the next until, so that settling costs one comparison where nothing is due, a row for each entry with what
+// the choice asks of it, and the assets by number.
 ghost use mathlib.Core.Path.{_≡_};
 ghost use mathlib.Core.Bool.{cond};
 ghost use Prim.Native.Nat.{_+_, _*_, _≤_, min};
 ghost use lib.ListN.{length};
-ghost use lib.Dec.{eqb};
+ghost use lib.Dec.{eqb, ltb};
 ghost use Rattle.model.specs.Events.{refusal, isOn};
 ghost use Rattle.runner.specs.Block.{blockBook, blockWritten, blockBuffer};
 ghost use Rattle.runner.specs.Quiet.{endOf, runsUntil};
-ghost use Rattle.runner.specs.Ways.{beginCode, looked, furtherOn};
-use assets::reach_of;
+ghost use Rattle.runner.specs.Ways.{earlyAnswer, beginCode, looked, actOn};
 use book::Answer;
 use book::Book;
-use book::Decoded;
 use book::Entry;
-use book::Gate;
+use book::Last;
 use book::Limits;
 use book::Meters;
 use book::Open;
 use book::Player;
 use book::blank_entry;
 use choose::Best;
-use choose::consider;
+use places::fill_places;
+use places::reach_at;
+use records::gate_code;
+use records::read_record;
+use rows::consider_row;
+use rows::row_of;
+use rows::rows_of;
 use rules::Rank;
 use rules::at_most_64;
-use rules::gate_of;
-use rules::noted_last;
-use rules::wire_of;
+use rules::pick32;
 use text::put_line;
 use uses::Part;
 use uses::begin_on;
@@ -55,12 +58,6 @@ fn sooner(a: u32, b: u32) -> u32
     if a < b { a } else { b }
 }
 
-fn pick32(w: bool, a: u32, b: u32) -> u32
-    ensures { λ r. ⌜ r ≡ cond w a b ⌝ }
-{
-    if w { a } else { b }
-}
-
 // When a use ends, if there is one.
 fn end_of(o: Open) -> u32
     ensures { λ r. ⌜ r ≡ endOf o ⌝ }
@@ -85,19 +82,14 @@ fn refused(code: u8) -> Answer
     }
 }
 
-// The code of a begin that is refused.
-fn begin_code(on: bool, usable: bool, suits: bool) -> u8
-    ensures { λ r. ⌜ r ≡ beginCode on usable suits ⌝ }
+// The answer of a record that is not taken: the stored one to a resend.
+fn early_answer(code: u8, stored: Answer) -> Answer
+    ensures { λ r. ⌜ r ≡ earlyAnswer code stored ⌝ }
 {
-    if on {
-        11
-    } else {
-        if usable {
-            if suits { 13 } else { 12 }
-        } else {
-            10
-        }
+    if code == 255 {
+        return stored;
     }
+    refused(code)
 }
 
 // How many entries a begin looks at.
@@ -111,10 +103,39 @@ fn looked_at(on: bool, usable: bool, entries: usize) -> usize
     }
 }
 
-// A continue where the operation is 2, else a stop.
-fn further_on(operation: u8, l: Limits, m: Meters, o: Open, t: u32) -> Part
-    ensures { λ r. ⌜ r ≡ furtherOn operation t l m o ⌝ }
+// The code that refuses a begin, 0 where it is granted at that position.
+fn begin_code(on: bool, usable: bool, suits: bool, at: usize) -> u8
+    ensures { λ r. ⌜ r ≡ beginCode on usable suits (ltb at 64) ⌝ }
 {
+    if on {
+        return 11;
+    }
+    if !usable {
+        return 10;
+    }
+    if !suits {
+        return 12;
+    }
+    if at < 64 {
+        return 0;
+    }
+    13
+}
+
+// The code that refuses a continue or a stop before its entry is looked at, else 0.
+fn further_code(on: bool) -> u8
+    ensures { λ r. ⌜ r ≡ cond on 0 14 ⌝ }
+{
+    if on { 0 } else { 14 }
+}
+
+// The operation of that number on the limits and meters of the entry at a position.
+fn act(operation: u8, l: Limits, m: Meters, o: Open, at: u8, t: u32) -> Part
+    ensures { λ r. ⌜ r ≡ actOn operation at t l m o ⌝ }
+{
+    if operation == 1 {
+        return begin_on(l, m, o, at, t);
+    }
     if operation == 2 {
         return continue_on(l, m, o, t);
     }
@@ -135,6 +156,12 @@ pub fn answer_block(b: Book, records: &[u8], out: &mut [u8]) -> Block
         };
     }
     let mut book = b;
+    let mut places = [0u8; 65536];
+    let mut parents = [0u16; 64];
+    let assets = book.assets;
+    fill_places(&mut places, &mut parents, assets, book.assetcount);
+    let entries = book.entries;
+    let mut rows = rows_of(entries);
     let mut next: u32 = 0;
     let mut at: usize = 0;
     let mut i: usize = 0;
@@ -142,154 +169,120 @@ pub fn answer_block(b: Book, records: &[u8], out: &mut [u8]) -> Block
         let from = 13 * i;
         let to = lesser(from + 13, size);
         i = i + 1;
-        match decode::decode(&records[from..to]) {
-            Decoded::Invalid(code) => {
-                at = put_line(out, at, refused(code));
-            }
-            Decoded::Valid(e) => {
-                let j = (e.player % 16) as usize;
-                let asking = book.players[j];
-                let last = asking.last;
-                match gate_of(book.time, last, e) {
-                    Gate::Refuse(code) => {
-                        at = put_line(out, at, refused(code));
-                    }
-                    Gate::Resend => {
-                        let answer = last.answer;
-                        at = put_line(out, at, answer);
-                    }
-                    Gate::Take => {
-                        let t = e.time;
-                        if next <= t {
-                            next = 4294967295;
-                            let mut p: usize = 0;
-                            while p < 16 {
-                                let player = book.players[p];
-                                let o = player.current;
-                                let k = o.entry as usize;
-                                let ends = due(o, t);
-                                if ends & (k < 64) {
-                                    let x = book.entries[k];
-                                    let l = x.limits;
-                                    let m = x.meters;
-                                    let y = Entry {
-                                        limits: l,
-                                        meters: ended_meters(l, m, o.begin, o.until, o.until),
-                                    };
-                                    book.entries[k] = y;
-                                }
-                                if ends {
-                                    let q = shut_player(player, t);
-                                    book.players[p] = q;
-                                }
-                                next = sooner(next, runs_until(o, t));
-                                p = p + 1;
-                            }
-                        }
-                        let player = book.players[j];
-                        let o = player.current;
-                        let r = e.request;
-                        let w = wire_of(r);
-                        if w.operation == 1 {
-                            let table = book.assets;
-                            let reach = reach_of(table, book.assetcount, w.asset);
-                            let n = looked_at(o.on == 1, reach.usable, at_most_64(book.entrycount));
-                            let mut best = Best {
-                                suits: false,
-                                at: 64,
-                                rank: Rank {
-                                    flags: 2,
-                                    end: 0,
-                                    fresh: 0,
-                                    inherited: 0,
-                                },
+        let a = read_record(&records[from..to]);
+        let j = (a.player % 16) as usize;
+        let asking = book.players[j];
+        let last = asking.last;
+        let early = gate_code(book.time, last, a);
+        if early != 0 {
+            let stored = last.answer;
+            at = put_line(out, at, early_answer(early, stored));
+        } else {
+            let t = a.time;
+            if next <= t {
+                next = 4294967295;
+                let mut p: usize = 0;
+                while p < 16 {
+                    let player = book.players[p];
+                    let o = player.current;
+                    if due(o, t) {
+                        let k = o.entry as usize;
+                        if k < 64 {
+                            let x = book.entries[k];
+                            let l = x.limits;
+                            let m = x.meters;
+                            let ended = ended_meters(l, m, o.begin, o.until, o.until);
+                            let y = Entry {
+                                limits: l,
+                                meters: ended,
                             };
-                            let mut k: usize = 0;
-                            while k < n {
-                                let x = book.entries[k];
-                                let l = x.limits;
-                                let m = x.meters;
-                                best = consider(best, l, m, w.asset, reach.parent, w.kind, t, k);
-                                k = k + 1;
-                            }
-                            let chosen = best.at;
-                            if best.suits & (chosen < 64) {
-                                let x = book.entries[chosen];
-                                let l = x.limits;
-                                let m = x.meters;
-                                let part = begin_on(l, m, o, chosen as u8, t);
-                                let meters = part.meters;
-                                let y = Entry {
-                                    limits: l,
-                                    meters: meters,
-                                };
-                                book.entries[chosen] = y;
-                                let answer = part.answer;
-                                let current = part.current;
-                                let q = Player {
-                                    last: noted_last(e, answer),
-                                    current: current,
-                                };
-                                book.players[j] = q;
-                                book.time = t;
-                                next = sooner(next, end_of(current));
-                                at = put_line(out, at, answer);
-                            } else {
-                                let answer = refused(begin_code(
-                                    o.on == 1,
-                                    reach.usable,
-                                    best.suits,
-                                ));
-                                let q = Player {
-                                    last: noted_last(e, answer),
-                                    current: o,
-                                };
-                                book.players[j] = q;
-                                book.time = t;
-                                at = put_line(out, at, answer);
-                            }
-                        } else {
-                            let k = o.entry as usize;
-                            if k < 64 {
-                                let x = book.entries[k];
-                                let l = x.limits;
-                                let m = x.meters;
-                                let part = further_on(w.operation, l, m, o, t);
-                                let meters = part.meters;
-                                let y = Entry {
-                                    limits: l,
-                                    meters: meters,
-                                };
-                                book.entries[k] = y;
-                                let answer = part.answer;
-                                let current = part.current;
-                                let q = Player {
-                                    last: noted_last(e, answer),
-                                    current: current,
-                                };
-                                book.players[j] = q;
-                                book.time = t;
-                                next = sooner(next, end_of(current));
-                                at = put_line(out, at, answer);
-                            } else {
-                                let x = blank_entry();
-                                let l = x.limits;
-                                let m = x.meters;
-                                let part = further_on(w.operation, l, m, o, t);
-                                let answer = part.answer;
-                                let current = part.current;
-                                let q = Player {
-                                    last: noted_last(e, answer),
-                                    current: current,
-                                };
-                                book.players[j] = q;
-                                book.time = t;
-                                next = sooner(next, end_of(current));
-                                at = put_line(out, at, answer);
-                            }
+                            book.entries[k] = y;
+                            let row = row_of(l, ended);
+                            rows[k] = row;
                         }
+                        let shutting = book.players[p];
+                        let q = shut_player(shutting, t);
+                        book.players[p] = q;
                     }
+                    next = sooner(next, runs_until(o, t));
+                    p = p + 1;
                 }
+            }
+            let player = book.players[j];
+            let o = player.current;
+            let mut k = o.entry as usize;
+            let mut code = further_code(o.on == 1);
+            if a.operation == 1 {
+                let reach = reach_at(&places, &parents, a.asset);
+                let n = looked_at(o.on == 1, reach.usable, at_most_64(book.entrycount));
+                let mut best = Best {
+                    suits: false,
+                    at: 64,
+                    rank: Rank {
+                        flags: 2,
+                        end: 0,
+                        fresh: 0,
+                        inherited: 0,
+                    },
+                };
+                let mut e: usize = 0;
+                while e < n {
+                    let row = rows[e];
+                    best = consider_row(best, row, a.asset, reach.parent, a.kind, t, e);
+                    e = e + 1;
+                }
+                k = best.at;
+                code = begin_code(o.on == 1, reach.usable, best.suits, k);
+            }
+            book.time = t;
+            if code == 0 {
+                let mut x = blank_entry();
+                if k < 64 {
+                    let held = book.entries[k];
+                    x = held;
+                }
+                let l = x.limits;
+                let m = x.meters;
+                let part = act(a.operation, l, m, o, (k % 256) as u8, t);
+                if k < 64 {
+                    let meters = part.meters;
+                    let y = Entry {
+                        limits: l,
+                        meters: meters,
+                    };
+                    book.entries[k] = y;
+                    let row = row_of(l, meters);
+                    rows[k] = row;
+                }
+                let answer = part.answer;
+                let current = part.current;
+                let q = Player {
+                    last: Last {
+                        number: a.number,
+                        operation: a.operation,
+                        asset: a.asset,
+                        kind: a.kind,
+                        answer: answer,
+                    },
+                    current: current,
+                };
+                book.players[j] = q;
+                next = sooner(next, end_of(current));
+                at = put_line(out, at, answer);
+            } else {
+                let answer = refused(code);
+                let q = Player {
+                    last: Last {
+                        number: a.number,
+                        operation: a.operation,
+                        asset: a.asset,
+                        kind: a.kind,
+                        answer: answer,
+                    },
+                    current: o,
+                };
+                book.players[j] = q;
+                at = put_line(out, at, answer);
             }
         }
     }

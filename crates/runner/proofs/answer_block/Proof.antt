@@ -1,62 +1,66 @@
--- `runner::answer_block` meets its contract. The invariant: the first i records are answered, and no open use ends before next.
+-- `runner::answer_block` meets its contract. The invariant: the first i records are answered, no open use ends before next, and the rows are those of the entries.
 use Prim.Native.Nat.{ℕ, _+_, _*_, _-_, _/_, _%_, _<_, _≤_, min}
-use mathlib.Core.Path.{_≡_, refl, sym, ap, subst, _∙_}
+use mathlib.Core.Path.{_≡_, refl, sym, ap, ap₂, subst, _∙_}
 use mathlib.Core.Logic.{⊎-elim}
 use mathlib.Core.Bool.{Bool, true, false, _&&_, cond}
-use mathlib.Core.List.{List}
+use mathlib.Core.List.{List, map}
 use native.Mathlib.Omega.{arith}
 use native.Mathlib.Nat.{min-le-right}
 use borrow.Author.Needs.{needs}
-use borrow.Author.Tests.{le-leb, lt-leb, eq-eqb, ne-eqb, ltb-true}
-use Rattle.model.specs.Proof.Facts.{and-right}
+use borrow.Author.Tests.{le-leb, lt-leb}
+use lib.ListN.{length, getD, set, take, length-set, List·getD-eq-default}
+use lib.Seq.{set-out}
+use lib.Dec.{ltb, eqb}
+use Rattle.laws.specs.Loops.{length-mapped}
 use Rattle.book.specs.declared.Answer.{Answer}
 use Rattle.book.specs.declared.Last.{Last}
-use Rattle.book.specs.declared.Decoded.the-variants.{Invalid, Valid}
-use Rattle.book.specs.declared.Gate.the-variants.{Refuse, Resend, Take}
-use lib.ListN.{length, getD, set, take, length-set, List·getD-eq-default}
-use lib.Dec.{ltb, eqb}
 use Rattle.book.specs.declared.Book.{Book}
 use Rattle.book.specs.declared.Open.{Open}
 use Rattle.book.specs.declared.Entry.{Entry}
 use Rattle.book.specs.declared.Player.{Player}
 use Rattle.book.specs.declared.Meters.{Meters}
-use Rattle.book.specs.declared.Decoded.{Decoded}
-use Rattle.book.specs.declared.Gate.{Gate}
-use Rattle.model.specs.Book.{limitsAt, metersAt, playerAt, latestTime}
 use Rattle.book.specs.Blank.{noEntry}
-use Rattle.rules.specs.declared.Wire.{Wire}
-use Rattle.uses.specs.Uses.{placed, stored}
-use Rattle.model.specs.Proof.Kept.{gate-passed}
-use Rattle.model.specs.Events.{stepRecord, decoded, gate, lastAt, openAt, isOn, released, shut, chooseOf, anyOf, refusal, unchanged, noted, operationNumber}
+use Rattle.model.specs.Book.{limitsAt, metersAt, playerAt, latestTime}
+use Rattle.model.specs.Events.{stepRecord, eventIn, openAt, isOn, released, shut, chooseOf, anyOf}
 use Rattle.model.specs.Run.{recordCount, recordAt}
+use Rattle.records.specs.Asked.{askedIn}
+use Rattle.records.specs.Arrived.{Came, code-takes}
 use Rattle.choose.specs.declared.Best.{Best}
 use Rattle.choose.specs.Best.{bestAfter, choiceAfter, considered, best-turn}
-use Rattle.events.specs.Settle.{settledBook, settledTo, settle-none, settle-turn, settle-all, settled-length, settleOne, with}
-use Rattle.laws.specs.Loops.{length-mapped}
+use Rattle.rows.specs.declared.Row.{Row}
+use Rattle.rows.specs.Rows.{rowOf, rowOfEntry, noRow, rowConsidered, row-at, row-considered}
+use Rattle.places.specs.Places.{placesOf, parentsOf, reachAt}
+use Rattle.uses.specs.declared.Part.{Part}
+use Rattle.uses.specs.Uses.{placed, stored}
+use Rattle.events.specs.Settle.{settledBook, settledTo, settle-none, settle-turn, settled-length, settleOne, with}
 use Rattle.runner.specs.Block.{fits, blockBook, blockWritten, blockBuffer}
 use Rattle.runner.specs.Upto.{Upto, upto-none, upto-length, upto-next, upto-all, record-part}
-use Rattle.runner.specs.Quiet.{Quiet, leastEnd, quiet-start, quiet-settled, Settled, settled-by, settled-still, end-turn, quiet-store, quiet-keep}
-use Rattle.runner.specs.Ways.{beginCode, looked, furtherOn, closing, doneOn, looked-most, begun-refused, begun-placed, way-invalid, way-gated, way-refused, way-resent, valid-player, way-taken, further-placed, placed-out, released-in, released-not, shut-not}
+use Rattle.runner.specs.Quiet.{Quiet, leastEnd, quiet-start, Settled, settled-by, settled-still, end-turn, quiet-store, quiet-keep}
+use Rattle.runner.specs.Ways.{beginCode, looked, looked-most, actOn, closing, Planned, planned-further, planned-begin, usable-is, parent-is, way-early, way-taken, released-due, released-far, released-still, shut-not, rows-next}
 use Rattle.runner.proofs.answer_block.Statement.{statement}
 use Rattle.runner.proofs.answer_block.Tie as tie
 
+-- the rows that stand beside a book
+abbrev rowsFor : Book → List Row
+rowsFor b = map rowOfEntry (b .entries)
+
 abbrev Inv-loop2 : tie.InvT-loop2
-Inv-loop2 records out size count book₀ next₀ at i from to e j t p₀ book next p = (p ≤ 16) × (book ≡ settledTo t p book₀) × (next ≡ leastEnd t (book₀ .players) p)
+Inv-loop2 records out size count book₀ places parents rows₀ next₀ at i from to a j early t p₀ book rows next p = (p ≤ 16) × (book ≡ settledTo t p book₀) × (next ≡ leastEnd t (book₀ .players) p) × (rows ≡ rowsFor book)
 
 abbrev μ-loop2 : tie.MeasureT-loop2
-μ-loop2 records out size count book₀ next₀ at i from to e j t p₀ book next p = 16 - p
+μ-loop2 records out size count book₀ places parents rows₀ next₀ at i from to a j early t p₀ book rows next p = 16 - p
 
 abbrev Inv-loop3 : tie.InvT-loop3
-Inv-loop3 records out size count book next at i from to e j t o w reach n best₀ k₀ best k = (k ≤ n) × (n ≤ 64) × (best ≡ bestAfter (book .entries) (w .asset) (reach .parent) (w .kind) t k)
+Inv-loop3 records out size count book places parents rows next at i from to a j early t o k code reach n best₀ e₀ best e = (e ≤ n) × (n ≤ 64) × (best ≡ bestAfter (book .entries) (a .asset) (reach .parent) (a .kind) t e)
 
 abbrev μ-loop3 : tie.MeasureT-loop3
-μ-loop3 records out size count book next at i from to e j t o w reach n best₀ k₀ best k = n - k
+μ-loop3 records out size count book places parents rows next at i from to a j early t o k code reach n best₀ e₀ best e = n - e
 
 abbrev Inv-loop : tie.InvT-loop
-Inv-loop records out₀ size count book₀ next₀ at₀ i₀ out book next at i = (i ≤ count) × (Upto book₀ records out₀ i book out at) × (Quiet next (book .players)) × (length (book .entries) ≡ 64) × (length (book .players) ≡ 16)
+Inv-loop records out₀ size count book₀ places parents rows₀ next₀ at₀ i₀ out book rows next at i = (i ≤ count) × (Upto book₀ records out₀ i book out at) × (Quiet next (book .players)) × (length (book .entries) ≡ 64) × (length (book .players) ≡ 16) × (rows ≡ rowsFor book) × (book .assets ≡ book₀ .assets) × (book .assetcount ≡ book₀ .assetcount)
 
 abbrev μ-loop : tie.MeasureT-loop
-μ-loop records out₀ size count book₀ next₀ at₀ i₀ out book next at i = count - i
+μ-loop records out₀ size count book₀ places parents rows₀ next₀ at₀ i₀ out book rows next at i = count - i
 
 entries-64 : (c : tie.Start Inv-loop2 μ-loop2 Inv-loop3 μ-loop3 Inv-loop μ-loop) → length (c .args .b .entries) ≡ 64
 entries-64 c = search length-mapped
@@ -65,35 +69,68 @@ players-16 : (c : tie.Start Inv-loop2 μ-loop2 Inv-loop3 μ-loop3 Inv-loop μ-lo
 players-16 c = search length-mapped
 
 -- in a turn there is room for one line more
-in-turn : (c : tie.In-loop Inv-loop2 μ-loop2 Inv-loop3 μ-loop3 Inv-loop μ-loop) → (c .before .loop .i + 1 ≤ (length (c .before .before .before .before .before .args .records .now) + 12) / 13) × (19 * (c .before .loop .i + 1) ≤ length (c .before .before .before .before .before .args .out .now))
+in-turn : (c : tie.In-loop Inv-loop2 μ-loop2 Inv-loop3 μ-loop3 Inv-loop μ-loop) → (c .before .loop .i + 1 ≤ (length (c .before .before .before .before .before .before .before .before .before .before .before .args .records .now) + 12) / 13) × (19 * (c .before .loop .i + 1) ≤ length (c .before .before .before .before .before .before .before .before .before .before .before .args .out .now))
 in-turn c = (omega arith, omega arith)
 
--- the record that is answered
-is-record : (c : tie.After-decode Inv-loop2 μ-loop2 Inv-loop3 μ-loop3 Inv-loop μ-loop) → c .decode .result ≡ decoded (recordAt (c .before .before .before .before .before .before .before .before .args .records .now) (c .before .before .before .before .loop .i))
-is-record c =
-    let l = c .before .before .before .before .loop in
-    c .decode .ensures ∙ ap decoded (record-part (c .before .before .before .before .before .before .before .before .args .records .now) (l .i) (c .before .before .lesser .result - 13 * l .i) (omega arith))
+-- the numbers of the record that is answered
+is-asked : (c : tie.After-gate-code Inv-loop2 μ-loop2 Inv-loop3 μ-loop3 Inv-loop μ-loop) → c .before .before .before .before .read-record .result ≡ askedIn (recordAt (c .before .before .before .before .before .before .before .before .before .before .before .before .before .before .before .before .before .before .args .records .now) (c .before .before .before .before .before .before .before .before .loop .i))
+is-asked c =
+    let l = c .before .before .before .before .before .before .before .before .loop in
+    c .before .before .before .before .read-record .ensures ∙ ap askedIn (record-part (c .before .before .before .before .before .before .before .before .before .before .before .before .before .before .before .before .before .before .args .records .now) (l .i) (c .before .before .before .before .before .before .lesser .result - 13 * l .i) (omega arith))
 
-is-event : (c : tie.After-gate-of Inv-loop2 μ-loop2 Inv-loop3 μ-loop3 Inv-loop μ-loop) → decoded (recordAt (c .before .before .before .before .before .before .before .before .before .before .before .before .before .before .before .args .records .now) (c .before .before .before .before .before .before .before .before .before .before .before .loop .i)) ≡ Valid (c .before .before .before .before .before .e .given .0 .0)
-is-event c = sym (is-record (c .before .before .before .before .before .before .before)) ∙ c .before .before .before .before .before .e .given .1
+is-came : (c : tie.Else2 Inv-loop2 μ-loop2 Inv-loop3 μ-loop3 Inv-loop μ-loop) → Came (c .before .before .before .before .before .before .before .before .before .loop .book) (recordAt (c .before .before .before .before .before .before .before .before .before .before .before .before .before .before .before .before .before .before .before .args .records .now) (c .before .before .before .before .before .before .before .before .before .loop .i)) (c .before .before .before .before .before .read-record .result)
+is-came c = code-takes (c .before .before .before .before .before .before .before .before .before .loop .book) (recordAt (c .before .before .before .before .before .before .before .before .before .before .before .before .before .before .before .before .before .before .before .args .records .now) (c .before .before .before .before .before .before .before .before .before .loop .i)) (c .before .before .before .before .before .read-record .result) (c .before .gate-code .result) (is-asked (c .before)) (c .before .gate-code .ensures) (c .if2 .left)
 
-is-player : (c : tie.After-gate-of Inv-loop2 μ-loop2 Inv-loop3 μ-loop3 Inv-loop μ-loop) → c .before .before .before .before .before .e .given .0 .0 .player % 16 ≡ c .before .before .before .before .before .e .given .0 .0 .player
-is-player c = let p = valid-player _ _ (is-event c) in omega arith
+is-player : (c : tie.Else2 Inv-loop2 μ-loop2 Inv-loop3 μ-loop3 Inv-loop μ-loop) → c .before .before .before .before .before .read-record .result .player % 16 ≡ c .before .before .before .before .before .read-record .result .player
+is-player c = let h = is-came c .few-players in omega arith
 
-is-gate : (c : tie.After-gate-of Inv-loop2 μ-loop2 Inv-loop3 μ-loop3 Inv-loop μ-loop) → gate (c .before .before .before .before .before .before .before .before .before .before .before .loop .book .time) (lastAt (c .before .before .before .before .before .before .before .before .before .before .before .loop .book .players) (c .before .before .before .before .before .e .given .0 .0 .player)) (c .before .before .before .before .before .e .given .0 .0) ≡ c .gate-of .result
-is-gate c =
-    let b = c .before .before .before .before .before .before .before .before .before .before .before .loop .book in
-    let e = c .before .before .before .before .before .e .given .0 .0 in
-    sym (c .gate-of .ensures ∙ ap (λ (k : ℕ). gate (b .time) (lastAt (b .players) k) e) (is-player c))
-
-after-settle : (c : tie.Joined2 Inv-loop2 μ-loop2 Inv-loop3 μ-loop3 Inv-loop μ-loop) → Settled (c .before .before .before .before .before .before .before .before .e .given .0 .0 .time) (c .before .before .before .before .before .before .before .before .before .before .before .before .before .before .loop .book) (c .if2 .book) (c .if2 .next)
+after-settle : (c : tie.Joined3 Inv-loop2 μ-loop2 Inv-loop3 μ-loop3 Inv-loop μ-loop) → (Settled (c .before .before .before .before .before .before .read-record .result .time) (c .before .before .before .before .before .before .before .before .before .before .loop .book) (c .if3 .book) (c .if3 .next)) × (c .if3 .rows ≡ rowsFor (c .if3 .book))
 after-settle c =
-    let l = c .before .before .before .before .before .before .before .before .before .before .before .before .before .before .loop in
-    let t = c .before .before .before .before .before .before .before .before .e .given .0 .0 .time in
+    let l = c .before .before .before .before .before .before .before .before .before .before .loop in
+    let t = c .before .before .before .before .before .before .read-record .result .time in
     ⊎-elim
-    (λ w. settled-by t (l .book) (c .if2 .book) (l .inv .3) (l .inv .4) (c .if2 .next) (w .1 .p) (w .1 .inv .0) (w .2 .left) (w .3 ∙ w .1 .inv .1) (w .4 ∙ w .1 .inv .2))
-    (λ w. settled-still t (l .book) (c .if2 .book) (l .inv .3) (l .inv .4) (l .next) (c .if2 .next) (l .inv .2) (w .0 .left) (w .1) (w .2))
-    (c .if2 .came)
+    (λ w. (
+      settled-by t (l .book) (c .if3 .book) (l .inv .3) (l .inv .4) (c .if3 .next) (w .1 .p) (w .1 .inv .0) (w .2 .left) (w .3 ∙ w .1 .inv .1) (w .5 ∙ w .1 .inv .2),
+      w .4 ∙ w .1 .inv .3 ∙ ap rowsFor (sym (w .3)),
+    ))
+    (λ w. (
+      settled-still t (l .book) (c .if3 .book) (l .inv .3) (l .inv .4) (l .next) (c .if3 .next) (l .inv .2) (w .0 .left) (w .1) (w .3),
+      w .2 ∙ l .inv .5 ∙ ap rowsFor (sym (w .1)),
+    ))
+    (c .if3 .came)
+
+-- settling leaves the assets
+assets-kept : (c : tie.Joined3 Inv-loop2 μ-loop2 Inv-loop3 μ-loop3 Inv-loop μ-loop) → (c .if3 .book .assets ≡ c .before .before .before .before .before .before .before .before .before .before .before .before .before .before .before .before .before .before .before .before .args .b .assets) × (c .if3 .book .assetcount ≡ c .before .before .before .before .before .before .before .before .before .before .before .before .before .before .before .before .before .before .before .before .args .b .assetcount)
+unfolding settledBook
+assets-kept c =
+    let z = after-settle c .0 .is-settled in
+    (ap (λ (m : Book). m .assets) z ∙ c .before .before .before .before .before .before .before .before .before .before .loop .inv .6, ap (λ (m : Book). m .assetcount) z ∙ c .before .before .before .before .before .before .before .before .before .before .loop .inv .7)
+
+planned : (c : tie.Joined6 Inv-loop2 μ-loop2 Inv-loop3 μ-loop3 Inv-loop μ-loop) → Planned (c .before .before .before .before .before .before .before .if3 .book) (eventIn (recordAt (c .before .before .before .before .before .before .before .before .before .before .before .before .before .before .before .before .before .before .before .before .before .before .before .before .before .before .before .args .records .now) (c .before .before .before .before .before .before .before .before .before .before .before .before .before .before .before .before .before .loop .i))) (openAt (c .before .before .before .before .before .before .before .if3 .book .players) (c .before .before .before .before .before .before .before .before .before .before .before .before .before .read-record .result .player % 16)) (c .before .before .before .before .before .before .before .before .before .before .before .before .before .read-record .result .operation) (c .if6 .k) (c .if6 .code)
+planned c =
+    let n = c .before .before .before .before .before .before .before .if3 .book in
+    let a = c .before .before .before .before .before .before .before .before .before .before .before .before .before .read-record .result in
+    let e = eventIn (recordAt (c .before .before .before .before .before .before .before .before .before .before .before .before .before .before .before .before .before .before .before .before .before .before .before .before .before .before .before .args .records .now) (c .before .before .before .before .before .before .before .before .before .before .before .before .before .before .before .before .before .loop .i)) in
+    let came = is-came (c .before .before .before .before .before .before .before .before) in
+    let kept = assets-kept (c .before .before .before .before .before .before .before) in
+    let o = openAt (n .players) (a .player % 16) in
+    let ho : o ≡ openAt (n .players) (e .player) = ap (openAt (n .players)) (is-player (c .before .before .before .before .before .before .before .before) ∙ came .player) in
+    let ht : e .time ≤ latestTime = omega (arith, came .early, came .time) in
+    ⊎-elim
+    (λ w.
+    let r = w .3 .result in
+    let tables = c .before .before .before .before .before .before .before .before .before .before .before .before .before .before .before .before .before .before .before .before .fill-places .ensures in
+    let hr = w .3 .ensures ∙ ap₂ (λ (x y : List ℕ). reachAt x y (a .asset)) (tables .0) (tables .1) in
+    let end : w .7 .e ≡ w .6 .result = omega (arith, w .7 .inv .0, w .8 .left) in
+    planned-begin n e o (a .operation) (a .asset) (a .kind) (c .if6 .k) (c .if6 .code) (w .6 .result) r (w .7 .best)
+    ho (came .operation) (w .0 .taken) (came .asset) (came .kind)
+    (usable-is n (c .before .before .before .before .before .before .before .before .before .before .before .before .before .before .before .before .before .before .before .before .before .before .before .before .before .before .before .args .b .assets) (c .before .before .before .before .before .before .before .before .before .before .before .before .before .before .before .before .before .before .before .before .before .before .before .before .before .before .before .args .b .assetcount) (a .asset) r (kept .0) (kept .1) (omega arith) hr)
+    (parent-is n (c .before .before .before .before .before .before .before .before .before .before .before .before .before .before .before .before .before .before .before .before .before .before .before .before .before .before .before .args .b .assets) (c .before .before .before .before .before .before .before .before .before .before .before .before .before .before .before .before .before .before .before .before .before .before .before .before .before .before .before .args .b .assetcount) (a .asset) r (kept .0) (kept .1) (omega arith) hr)
+    (w .6 .ensures ∙ ap (looked (isOn o) (r .usable)) (w .5 .ensures))
+    (w .7 .inv .2 ∙ ap (bestAfter (n .entries) (a .asset) (r .parent) (a .kind) (a .time)) end ∙ ap (λ (t : ℕ). bestAfter (n .entries) (a .asset) (r .parent) (a .kind) t (w .6 .result)) (came .time))
+    ht (w .11) (w .12 ∙ w .10 .ensures ∙ ap (λ (k : ℕ). beginCode (isOn o) (r .usable) (w .7 .best .suits) (ltb k 64)) (sym (w .11))))
+    (λ w. planned-further n e o (a .operation) (c .if6 .k) (c .if6 .code) ho (came .operation) (w .0 .left) ht (w .1) (w .2 ∙ c .before .before .further-code .ensures))
+    (c .if6 .came)
 
 add-count : tie.Need-add-count Inv-loop2 μ-loop2 Inv-loop3 μ-loop3 Inv-loop μ-loop
 add-count c = omega arith
@@ -105,10 +142,25 @@ returns c =
     let h : length (a .out .now) < 19 * recordCount (a .records .now) = omega arith in
     rw (lt-leb (19 * recordCount (a .records .now)) (length (a .out .now)) h) (refl, refl, refl)
 
+fill-places-requires :
+    tie.Need-fill-places-requires Inv-loop2 μ-loop2 Inv-loop3 μ-loop3 Inv-loop μ-loop
+fill-places-requires c κs = tt
+
+rows-of-requires : tie.Need-rows-of-requires Inv-loop2 μ-loop2 Inv-loop3 μ-loop3 Inv-loop μ-loop
+rows-of-requires c κs = tt
+
 loop-holds : tie.Need-loop-holds Inv-loop2 μ-loop2 Inv-loop3 μ-loop3 Inv-loop μ-loop
 loop-holds c =
-    let a = c .before .before .before .args in
-    (omega arith, upto-none (a .b) (a .records .now) (a .out .now), quiet-start (a .b .players), entries-64 (c .before .before .before), players-16 (c .before .before .before))
+    let a = c .before .before .before .before .before .before .before .before .before .args in (
+      omega arith,
+      upto-none (a .b) (a .records .now) (a .out .now),
+      quiet-start (a .b .players),
+      entries-64 (c .before .before .before .before .before .before .before .before .before),
+      players-16 (c .before .before .before .before .before .before .before .before .before),
+      c .rows-of .ensures,
+      refl,
+      refl,
+    )
 
 mul-from : tie.Need-mul-from Inv-loop2 μ-loop2 Inv-loop3 μ-loop3 Inv-loop μ-loop
 mul-from c = omega arith
@@ -122,50 +174,20 @@ lesser-requires c κs = tt
 add-i : tie.Need-add-i Inv-loop2 μ-loop2 Inv-loop3 μ-loop3 Inv-loop μ-loop
 add-i c = omega arith
 
-sub-decode : tie.Need-sub-decode Inv-loop2 μ-loop2 Inv-loop3 μ-loop3 Inv-loop μ-loop
-sub-decode c = omega arith
+sub-read-record : tie.Need-sub-read-record Inv-loop2 μ-loop2 Inv-loop3 μ-loop3 Inv-loop μ-loop
+sub-read-record c = omega arith
 
-part-decode-start : tie.Need-part-decode-start Inv-loop2 μ-loop2 Inv-loop3 μ-loop3 Inv-loop μ-loop
-part-decode-start c = omega arith
+part-read-record-start :
+    tie.Need-part-read-record-start Inv-loop2 μ-loop2 Inv-loop3 μ-loop3 Inv-loop μ-loop
+part-read-record-start c = omega arith
 
-part-decode-end : tie.Need-part-decode-end Inv-loop2 μ-loop2 Inv-loop3 μ-loop3 Inv-loop μ-loop
-part-decode-end c = omega arith
+part-read-record-end :
+    tie.Need-part-read-record-end Inv-loop2 μ-loop2 Inv-loop3 μ-loop3 Inv-loop μ-loop
+part-read-record-end c = omega arith
 
-decode-requires : tie.Need-decode-requires Inv-loop2 μ-loop2 Inv-loop3 μ-loop3 Inv-loop μ-loop
-decode-requires c κs = tt
-
-enum-known-code : tie.Need-enum-known-code Inv-loop2 μ-loop2 Inv-loop3 μ-loop3 Inv-loop μ-loop
-enum-known-code c = search needs
-
-refused-requires : tie.Need-refused-requires Inv-loop2 μ-loop2 Inv-loop3 μ-loop3 Inv-loop μ-loop
-refused-requires c κs = tt
-
-put-line-requires : tie.Need-put-line-requires Inv-loop2 μ-loop2 Inv-loop3 μ-loop3 Inv-loop μ-loop
-put-line-requires c κs = tt
-
-loop-less : tie.Need-loop-less Inv-loop2 μ-loop2 Inv-loop3 μ-loop3 Inv-loop μ-loop
-loop-less c = omega arith
-
-loop-again : tie.Need-loop-again Inv-loop2 μ-loop2 Inv-loop3 μ-loop3 Inv-loop μ-loop
-loop-again c =
-    let a = c .before .before .before .before .before .before .before .before .before .before .before .before .before .before .before .before .args in
-    let l = c .before .before .before .before .before .before .before .before .before .before .before .before .loop in
-    let p = c .before .before .put-line in
-    let s = a .records .now in
-    let t = in-turn (c .before .before .before .before .before .before .before .before .before .before .before) in
-    let d : decoded (recordAt s (l .i)) ≡ Invalid (c .before .before .before .before .before .before .code .given .0 .0) = sym (is-record (c .before .before .before .before .before .before .before .before)) ∙ c .before .before .before .before .before .before .code .given .1 in
-    let w = way-invalid (l .book) (recordAt s (l .i)) (c .before .before .before .before .before .before .code .given .0 .0) d in
-    let e : stepRecord (l .book) (recordAt s (l .i)) ≡ record { answer = c .before .before .before .refused .result; book = l .book } =
-    w ∙ ap (λ (x : Answer). record { answer = x; book = l .book }) (sym (c .before .before .before .refused .ensures)) in (
-      t .0,
-      upto-next (a .b) s (a .out .now) (l .i) (l .book) (l .out) (l .at) (l .inv .1) (t .1) (c .before .before .before .refused .result) (l .book) (p .last .0) (p .result) e (p .ensures),
-      l .inv .2,
-      l .inv .3,
-      l .inv .4,
-    )
-
-enum-known-e : tie.Need-enum-known-e Inv-loop2 μ-loop2 Inv-loop3 μ-loop3 Inv-loop μ-loop
-enum-known-e c = search needs
+read-record-requires :
+    tie.Need-read-record-requires Inv-loop2 μ-loop2 Inv-loop3 μ-loop3 Inv-loop μ-loop
+read-record-requires c κs = tt
 
 cast-j : tie.Need-cast-j Inv-loop2 μ-loop2 Inv-loop3 μ-loop3 Inv-loop μ-loop
 cast-j c = search needs
@@ -177,76 +199,44 @@ element-copy-out-asking :
     tie.Need-element-copy-out-asking Inv-loop2 μ-loop2 Inv-loop3 μ-loop3 Inv-loop μ-loop
 element-copy-out-asking c = search needs
 
-gate-of-requires : tie.Need-gate-of-requires Inv-loop2 μ-loop2 Inv-loop3 μ-loop3 Inv-loop μ-loop
-gate-of-requires c κs = tt
+gate-code-requires :
+    tie.Need-gate-code-requires Inv-loop2 μ-loop2 Inv-loop3 μ-loop3 Inv-loop μ-loop
+gate-code-requires c κs = tt
 
-enum-known-code-2 : tie.Need-enum-known-code-2 Inv-loop2 μ-loop2 Inv-loop3 μ-loop3 Inv-loop μ-loop
-enum-known-code-2 c = search needs
+early-answer-requires :
+    tie.Need-early-answer-requires Inv-loop2 μ-loop2 Inv-loop3 μ-loop3 Inv-loop μ-loop
+early-answer-requires c κs = tt
 
-refused-requires-2 :
-    tie.Need-refused-requires-2 Inv-loop2 μ-loop2 Inv-loop3 μ-loop3 Inv-loop μ-loop
-refused-requires-2 c κs = tt
+put-line-requires : tie.Need-put-line-requires Inv-loop2 μ-loop2 Inv-loop3 μ-loop3 Inv-loop μ-loop
+put-line-requires c κs = tt
 
-put-line-requires-2 :
-    tie.Need-put-line-requires-2 Inv-loop2 μ-loop2 Inv-loop3 μ-loop3 Inv-loop μ-loop
-put-line-requires-2 c κs = tt
+loop-less : tie.Need-loop-less Inv-loop2 μ-loop2 Inv-loop3 μ-loop3 Inv-loop μ-loop
+loop-less c = omega arith
 
-loop-less-2 : tie.Need-loop-less-2 Inv-loop2 μ-loop2 Inv-loop3 μ-loop3 Inv-loop μ-loop
-loop-less-2 c = omega arith
-
-loop-again-2 : tie.Need-loop-again-2 Inv-loop2 μ-loop2 Inv-loop3 μ-loop3 Inv-loop μ-loop
-loop-again-2 c =
-    let a = c .before .before .before .before .before .before .before .before .before .before .before .before .before .before .before .before .before .before .before .before .before .before .before .args in
-    let l = c .before .before .before .before .before .before .before .before .before .before .before .before .before .before .before .before .before .before .before .loop in
-    let p = c .before .before .put-line2 in
+loop-again : tie.Need-loop-again Inv-loop2 μ-loop2 Inv-loop3 μ-loop3 Inv-loop μ-loop
+loop-again c =
+    let a = c .before .before .before .before .before .before .before .before .before .before .before .before .before .before .before .before .before .before .before .before .before .before .before .before .before .args in
+    let l = c .before .before .before .before .before .before .before .before .before .before .before .before .before .before .before .loop in
+    let p = c .before .before .put-line in
     let s = a .records .now in
-    let t = in-turn (c .before .before .before .before .before .before .before .before .before .before .before .before .before .before .before .before .before .before) in
-    let v = c .before .before .before .before .before .before .before .before .before .before .before .before .before .e .given .0 .0 in
-    let w = way-gated (l .book) (recordAt s (l .i)) v (Refuse (c .before .before .before .before .before .before .code2 .given .0 .0)) (is-event (c .before .before .before .before .before .before .before .before)) (is-gate (c .before .before .before .before .before .before .before .before) ∙ c .before .before .before .before .before .before .code2 .given .1) ∙ way-refused (l .book) v (c .before .before .before .before .before .before .code2 .given .0 .0) in
-    let e : stepRecord (l .book) (recordAt s (l .i)) ≡ record { answer = c .before .before .before .refused2 .result; book = l .book } =
-    w ∙ ap (λ (x : Answer). record { answer = x; book = l .book }) (sym (c .before .before .before .refused2 .ensures)) in (
+    let t = in-turn (c .before .before .before .before .before .before .before .before .before .before .before .before .before .before) in
+    let e : stepRecord (l .book) (recordAt s (l .i)) ≡ record { answer = c .before .before .before .early-answer .result; book = l .book } =
+    way-early (l .book) (recordAt s (l .i)) (c .before .before .before .before .before .before .before .before .before .before .before .read-record .result) (c .before .before .before .before .before .before .before .gate-code .result) (is-asked (c .before .before .before .before .before .before .before)) (c .before .before .before .before .before .before .before .gate-code .ensures) (c .before .before .before .before .before .before .if2 .taken)
+    ∙ ap (λ (x : Answer). record { answer = x; book = l .book }) (sym (c .before .before .before .early-answer .ensures)) in (
       t .0,
-      upto-next (a .b) s (a .out .now) (l .i) (l .book) (l .out) (l .at) (l .inv .1) (t .1) (c .before .before .before .refused2 .result) (l .book) (p .last .0) (p .result) e (p .ensures),
+      upto-next (a .b) s (a .out .now) (l .i) (l .book) (l .out) (l .at) (l .inv .1) (t .1) (c .before .before .before .early-answer .result) (l .book) (p .last .0) (p .result) e (p .ensures),
       l .inv .2,
       l .inv .3,
       l .inv .4,
+      l .inv .5,
+      l .inv .6,
+      l .inv .7,
     )
-
-enum-told : tie.Need-enum-told Inv-loop2 μ-loop2 Inv-loop3 μ-loop3 Inv-loop μ-loop
-enum-told c = search needs
-
-put-line-requires-3 :
-    tie.Need-put-line-requires-3 Inv-loop2 μ-loop2 Inv-loop3 μ-loop3 Inv-loop μ-loop
-put-line-requires-3 c κs = tt
-
-loop-less-3 : tie.Need-loop-less-3 Inv-loop2 μ-loop2 Inv-loop3 μ-loop3 Inv-loop μ-loop
-loop-less-3 c = omega arith
-
-loop-again-3 : tie.Need-loop-again-3 Inv-loop2 μ-loop2 Inv-loop3 μ-loop3 Inv-loop μ-loop
-loop-again-3 c =
-    let a = c .before .before .before .before .before .before .before .before .before .before .before .before .before .before .before .before .before .before .before .before .before .before .args in
-    let l = c .before .before .before .before .before .before .before .before .before .before .before .before .before .before .before .before .before .before .loop in
-    let p = c .before .before .put-line3 in
-    let s = a .records .now in
-    let t = in-turn (c .before .before .before .before .before .before .before .before .before .before .before .before .before .before .before .before .before) in
-    let v = c .before .before .before .before .before .before .before .before .before .before .before .before .e .given .0 .0 in
-    let r = lastAt (l .book .players) (v .player % 16) .answer in
-    let w = way-gated (l .book) (recordAt s (l .i)) v Resend (is-event (c .before .before .before .before .before .before .before)) (is-gate (c .before .before .before .before .before .before .before) ∙ c .before .before .before .before .before .enum-told .given .1) ∙ way-resent (l .book) v in
-    let e : stepRecord (l .book) (recordAt s (l .i)) ≡ record { answer = r; book = l .book } =
-    w ∙ ap (λ (k : ℕ). record { answer = lastAt (l .book .players) k .answer; book = l .book }) (sym (is-player (c .before .before .before .before .before .before .before))) in (
-      t .0,
-      upto-next (a .b) s (a .out .now) (l .i) (l .book) (l .out) (l .at) (l .inv .1) (t .1) r (l .book) (p .last .0) (p .result) e (p .ensures),
-      l .inv .2,
-      l .inv .3,
-      l .inv .4,
-    )
-
-enum-told-2 : tie.Need-enum-told-2 Inv-loop2 μ-loop2 Inv-loop3 μ-loop3 Inv-loop μ-loop
-enum-told-2 c = search needs
 
 loop2-holds : tie.Need-loop2-holds Inv-loop2 μ-loop2 Inv-loop3 μ-loop3 Inv-loop μ-loop
 unfolding leastEnd
-loop2-holds c = (omega arith, settle-none _ _, refl)
+loop2-holds c =
+    (omega arith, settle-none _ _, refl, c .before .before .before .before .before .before .before .before .before .before .loop .inv .5)
 
 mul-player : tie.Need-mul-player Inv-loop2 μ-loop2 Inv-loop3 μ-loop3 Inv-loop μ-loop
 mul-player c = search needs
@@ -255,20 +245,18 @@ element-copy-out-player :
     tie.Need-element-copy-out-player Inv-loop2 μ-loop2 Inv-loop3 μ-loop3 Inv-loop μ-loop
 element-copy-out-player c = search needs
 
-cast-k : tie.Need-cast-k Inv-loop2 μ-loop2 Inv-loop3 μ-loop3 Inv-loop μ-loop
-cast-k c = search needs
-
 due-requires : tie.Need-due-requires Inv-loop2 μ-loop2 Inv-loop3 μ-loop3 Inv-loop μ-loop
 due-requires c κs = tt
+
+cast-k : tie.Need-cast-k Inv-loop2 μ-loop2 Inv-loop3 μ-loop3 Inv-loop μ-loop
+cast-k c = search needs
 
 mul-x : tie.Need-mul-x Inv-loop2 μ-loop2 Inv-loop3 μ-loop3 Inv-loop μ-loop
 mul-x c = search needs
 
 element-copy-out-x :
     tie.Need-element-copy-out-x Inv-loop2 μ-loop2 Inv-loop3 μ-loop3 Inv-loop μ-loop
-element-copy-out-x c =
-    let k = openAt (c .before .before .before .before .before .before .loop2 .book .players) (c .before .before .before .before .before .before .loop2 .p) .entry in
-    omega (arith, ltb-true k 64 (and-right (c .before .due .result) (ltb k 64) (c .if3 .taken)))
+element-copy-out-x c = search needs
 
 ended-meters-requires :
     tie.Need-ended-meters-requires Inv-loop2 μ-loop2 Inv-loop3 μ-loop3 Inv-loop μ-loop
@@ -279,9 +267,24 @@ mul-y c = search needs
 
 element-set-from-y :
     tie.Need-element-set-from-y Inv-loop2 μ-loop2 Inv-loop3 μ-loop3 Inv-loop μ-loop
-element-set-from-y c =
-    let k = openAt (c .before .before .before .before .before .before .before .before .before .before .loop2 .book .players) (c .before .before .before .before .before .before .before .before .before .before .loop2 .p) .entry in
-    omega (arith, ltb-true k 64 (and-right (c .before .before .before .before .before .due .result) (ltb k 64) (c .before .before .before .before .if3 .taken)))
+element-set-from-y c = search needs
+
+row-of-requires : tie.Need-row-of-requires Inv-loop2 μ-loop2 Inv-loop3 μ-loop3 Inv-loop μ-loop
+row-of-requires c κs = tt
+
+mul-rows : tie.Need-mul-rows Inv-loop2 μ-loop2 Inv-loop3 μ-loop3 Inv-loop μ-loop
+mul-rows c = search needs
+
+array-set-from-rows :
+    tie.Need-array-set-from-rows Inv-loop2 μ-loop2 Inv-loop3 μ-loop3 Inv-loop μ-loop
+array-set-from-rows c = search needs
+
+mul-shutting : tie.Need-mul-shutting Inv-loop2 μ-loop2 Inv-loop3 μ-loop3 Inv-loop μ-loop
+mul-shutting c = search needs
+
+element-copy-out-shutting :
+    tie.Need-element-copy-out-shutting Inv-loop2 μ-loop2 Inv-loop3 μ-loop3 Inv-loop μ-loop
+element-copy-out-shutting c = search needs
 
 shut-player-requires :
     tie.Need-shut-player-requires Inv-loop2 μ-loop2 Inv-loop3 μ-loop3 Inv-loop μ-loop
@@ -310,33 +313,48 @@ loop2-less c = omega arith
 loop2-again : tie.Need-loop2-again Inv-loop2 μ-loop2 Inv-loop3 μ-loop3 Inv-loop μ-loop
 unfolding settledTo
 loop2-again c =
-    let l = c .before .before .before .before .before .before .before .before .before .loop2 in
-    let b = c .before .before .before .before .before .before .before .before .before .before .before .before .before .before .before .before .before .before .before .before .before .before .before .before .loop .book in
-    let t = c .before .before .before .before .before .before .before .before .before .before .before .before .before .before .before .before .before .before .e .given .0 .0 .time in
+    let l = c .before .before .before .before .before .before .before .loop2 in
+    let b = c .before .before .before .before .before .before .before .before .before .before .before .before .before .before .before .before .before .before .loop .book in
+    let t = c .before .before .before .before .before .before .before .before .before .before .before .before .before .before .read-record .result .time in
     let ps = l .book .players in
     let es = l .book .entries in
     let o = openAt ps (l .p) in
-    let d = c .before .before .before .before .due .ensures in
-    let len : length es ≡ 64 = ap (λ (m : Book). length (m .entries)) (l .inv .1) ∙ settled-length t (take (l .p) (b .players)) (b .entries) ∙ c .before .before .before .before .before .before .before .before .before .before .before .before .before .before .before .before .before .before .before .before .before .before .before .before .loop .inv .3 in
-    let m : c .before .before .before .if3 .book ≡ with (l .book) (released t o es) ps =
+    let d = c .before .before .before .due .ensures in
+    let len : length es ≡ 64 = ap (λ (m : Book). length (m .entries)) (l .inv .1) ∙ settled-length t (take (l .p) (b .players)) (b .entries) ∙ c .before .before .before .before .before .before .before .before .before .before .before .before .before .before .before .before .before .before .loop .inv .3 in
+    let few : l .p < length (b .players) = omega (arith, c .before .before .before .before .before .before .before .before .before .before .before .before .before .before .before .before .before .before .loop .inv .4) in
+    let one : (c .before .before .if4 .book ≡ settleOne t (l .p) (l .book)) × (c .before .before .if4 .rows ≡ rowsFor (c .before .before .if4 .book)) =
     ⊎-elim
     (λ w.
-    w .5
-    ∙ ap (λ (x : Meters). with (l .book) (set es (o .entry) (record { limits = limitsAt es (o .entry); meters = x })) ps) (w .4 .ensures)
-    ∙ ap (λ (x : List Entry). with (l .book) x ps) (released-in t o es (ap (λ (x : Bool). x && ltb (o .entry) 64) (sym d) ∙ w .0 .taken)))
-    (λ w. w .1 ∙ ap (λ (x : List Entry). with (l .book) x ps) (released-not t o es len (ap (λ (x : Bool). x && ltb (o .entry) 64) (sym d) ∙ w .0 .left)))
-    (c .before .before .before .if3 .came) in
-    let k : c .before .before .if4 .book ≡ settleOne t (l .p) (l .book) =
+    let inner : (w .2 .book ≡ with (l .book) (released t o es) ps) × (w .2 .rows ≡ rowsFor (w .2 .book)) =
     ⊎-elim
-    (λ w.
-    w .2
-    ∙ ap (λ (x : Player). with (c .before .before .before .if3 .book) (c .before .before .before .if3 .book .entries) (set (c .before .before .before .if3 .book .players) (l .p) x)) (w .1 .ensures)
-    ∙ ap (λ (x : Book). with x (x .entries) (set (x .players) (l .p) (shut t (playerAt ps (l .p))))) m)
-    (λ w. w .1 ∙ m ∙ ap (with (l .book) (released t o es)) (shut-not t (l .p) ps (sym d ∙ w .0 .left)))
+    (λ v.
+    let y : Entry = record { limits = limitsAt es (o .entry); meters = v .4 .result } in (
+      v .6
+          ∙ ap (λ (x : Meters). with (l .book) (set es (o .entry) (record { limits = limitsAt es (o .entry); meters = x })) ps) (v .4 .ensures)
+          ∙ ap (λ (x : List Entry). with (l .book) x ps) (released-due t o es (sym d ∙ w .0 .taken)),
+      v .7 ∙ rows-next es (l .rows) (o .entry) y (v .5 .result) (l .inv .3) (v .5 .ensures) ∙ ap rowsFor (sym (v .6)),
+    ))
+    (λ v. (
+      v .1 ∙ ap (λ (x : List Entry). with (l .book) x ps) (released-far t o es (omega (arith, v .0 .left, len))),
+      v .2 ∙ l .inv .3 ∙ ap rowsFor (sym (v .1)),
+    ))
+    (w .2 .came) in (
+      w .5
+          ∙ ap (λ (x : Player). with (w .2 .book) (w .2 .book .entries) (set (w .2 .book .players) (l .p) x)) (w .4 .ensures)
+          ∙ ap (λ (x : Book). with x (x .entries) (set (x .players) (l .p) (shut t (playerAt (x .players) (l .p))))) (inner .0),
+      w .6 ∙ inner .1 ∙ ap rowsFor (sym (w .5)),
+    ))
+    (λ w. (
+      w .1
+          ∙ ap (λ (x : List Entry). with (l .book) x ps) (released-still t o es (sym d ∙ w .0 .left))
+          ∙ ap (with (l .book) (released t o es)) (shut-not t (l .p) ps (sym d ∙ w .0 .left)),
+      w .2 ∙ l .inv .3 ∙ ap rowsFor (sym (w .1)),
+    ))
     (c .before .before .if4 .came) in (
       omega arith,
-      k ∙ ap (settleOne t (l .p)) (l .inv .1) ∙ settle-turn t (l .p) b (omega (arith, c .before .before .before .before .before .before .before .before .before .before .before .before .before .before .before .before .before .before .before .before .before .before .before .before .loop .inv .4)),
-      c .sooner .ensures ∙ ap (min (l .next)) (c .before .runs-until .ensures) ∙ end-turn t (l .p) b (l .book) (l .next) (l .inv .1) (omega (arith, c .before .before .before .before .before .before .before .before .before .before .before .before .before .before .before .before .before .before .before .before .before .before .before .before .loop .inv .4)) (l .inv .2),
+      one .0 ∙ ap (settleOne t (l .p)) (l .inv .1) ∙ settle-turn t (l .p) b few,
+      c .sooner .ensures ∙ ap (min (l .next)) (c .before .runs-until .ensures) ∙ end-turn t (l .p) b (l .book) (l .next) (l .inv .1) few (l .inv .2),
+      one .1,
     )
 
 mul-player-2 : tie.Need-mul-player-2 Inv-loop2 μ-loop2 Inv-loop3 μ-loop3 Inv-loop μ-loop
@@ -346,11 +364,15 @@ element-copy-out-player-2 :
     tie.Need-element-copy-out-player-2 Inv-loop2 μ-loop2 Inv-loop3 μ-loop3 Inv-loop μ-loop
 element-copy-out-player-2 c = search needs
 
-wire-of-requires : tie.Need-wire-of-requires Inv-loop2 μ-loop2 Inv-loop3 μ-loop3 Inv-loop μ-loop
-wire-of-requires c κs = tt
+cast-k-2 : tie.Need-cast-k-2 Inv-loop2 μ-loop2 Inv-loop3 μ-loop3 Inv-loop μ-loop
+cast-k-2 c = search needs
 
-reach-of-requires : tie.Need-reach-of-requires Inv-loop2 μ-loop2 Inv-loop3 μ-loop3 Inv-loop μ-loop
-reach-of-requires c κs = tt
+further-code-requires :
+    tie.Need-further-code-requires Inv-loop2 μ-loop2 Inv-loop3 μ-loop3 Inv-loop μ-loop
+further-code-requires c κs = tt
+
+reach-at-requires : tie.Need-reach-at-requires Inv-loop2 μ-loop2 Inv-loop3 μ-loop3 Inv-loop μ-loop
+reach-at-requires c κs = tt
 
 at-most-64-requires :
     tie.Need-at-most-64-requires Inv-loop2 μ-loop2 Inv-loop3 μ-loop3 Inv-loop μ-loop
@@ -363,62 +385,82 @@ looked-at-requires c κs = tt
 loop3-holds : tie.Need-loop3-holds Inv-loop2 μ-loop2 Inv-loop3 μ-loop3 Inv-loop μ-loop
 unfolding bestAfter choiceAfter chooseOf anyOf
 loop3-holds c =
-    let m = looked-most (eqb (openAt (c .before .before .before .before .before .before .before .before .before .before .if2 .book .players) (c .before .before .before .before .before .before .before .before .before .before .before .before .before .before .before .before .before .before .e .given .0 .0 .player % 16) .on) 1) (c .before .before .before .reach-of .result .usable) (c .before .at-most-64 .result) in
-    (omega arith, omega (arith, m, c .looked-at .ensures, c .before .at-most-64 .ensures, min-le-right (c .before .before .before .before .before .before .before .before .before .before .if2 .book .entrycount) 64), refl)
+    let m = looked-most (isOn (openAt (c .before .before .before .before .before .before .before .before .before .before .before .before .before .if3 .book .players) (c .before .before .before .before .before .before .before .before .before .before .before .before .before .before .before .before .before .before .before .read-record .result .player % 16))) (c .before .before .before .reach-at .result .usable) (c .before .at-most-64 .result) in
+    (omega arith, omega (arith, m, c .looked-at .ensures, c .before .at-most-64 .ensures, min-le-right (c .before .before .before .before .before .before .before .before .before .before .before .before .before .if3 .book .entrycount) 64), refl)
 
-mul-x-2 : tie.Need-mul-x-2 Inv-loop2 μ-loop2 Inv-loop3 μ-loop3 Inv-loop μ-loop
-mul-x-2 c = search needs
+mul-row : tie.Need-mul-row Inv-loop2 μ-loop2 Inv-loop3 μ-loop3 Inv-loop μ-loop
+mul-row c = search needs
 
-element-copy-out-x-2 :
-    tie.Need-element-copy-out-x-2 Inv-loop2 μ-loop2 Inv-loop3 μ-loop3 Inv-loop μ-loop
-element-copy-out-x-2 c = search needs
+array-copy-out-row :
+    tie.Need-array-copy-out-row Inv-loop2 μ-loop2 Inv-loop3 μ-loop3 Inv-loop μ-loop
+array-copy-out-row c = search needs
 
-consider-requires : tie.Need-consider-requires Inv-loop2 μ-loop2 Inv-loop3 μ-loop3 Inv-loop μ-loop
-consider-requires c κs = tt
+consider-row-requires :
+    tie.Need-consider-row-requires Inv-loop2 μ-loop2 Inv-loop3 μ-loop3 Inv-loop μ-loop
+consider-row-requires c κs = tt
 
-add-k : tie.Need-add-k Inv-loop2 μ-loop2 Inv-loop3 μ-loop3 Inv-loop μ-loop
-add-k c = omega arith
+add-e : tie.Need-add-e Inv-loop2 μ-loop2 Inv-loop3 μ-loop3 Inv-loop μ-loop
+add-e c = omega arith
 
 loop3-less : tie.Need-loop3-less Inv-loop2 μ-loop2 Inv-loop3 μ-loop3 Inv-loop μ-loop
 loop3-less c = omega arith
 
 loop3-again : tie.Need-loop3-again Inv-loop2 μ-loop2 Inv-loop3 μ-loop3 Inv-loop μ-loop
 loop3-again c =
-    let l = c .before .before .before .before .before .loop3 in
-    let es = c .before .before .before .before .before .before .before .before .before .before .before .before .before .before .before .before .if2 .book .entries in
-    let w = c .before .before .before .before .before .before .before .before .before .before .before .before .before .wire-of .result in
-    let r = c .before .before .before .before .before .before .before .before .before .reach-of .result in
-    let t = c .before .before .before .before .before .before .before .before .before .before .before .before .before .before .before .before .before .before .before .before .before .before .before .before .e .given .0 .0 .time in (
+    let l = c .before .before .before .loop3 in
+    let n = c .before .before .before .before .before .before .before .before .before .before .before .before .before .before .before .before .before .if3 .book in
+    let es = n .entries in
+    let a = c .before .before .before .before .before .before .before .before .before .before .before .before .before .before .before .before .before .before .before .before .before .before .before .read-record .result in
+    let r = c .before .before .before .before .before .before .before .reach-at .result in
+    let z = after-settle (c .before .before .before .before .before .before .before .before .before .before .before .before .before .before .before .before .before) in
+    let small : l .e < length es = omega (arith, z .0 .entries) in
+    let row : getD (c .before .before .before .before .before .before .before .before .before .before .before .before .before .before .before .before .before .if3 .rows) (l .e) noRow ≡ rowOf (limitsAt es (l .e)) (metersAt es (l .e)) = ap (λ (x : List Row). getD x (l .e) noRow) (z .1) ∙ row-at es (l .e) small in (
       omega arith,
       l .inv .1,
-      c .consider .ensures
-          ∙ ap (λ (x : Best). considered (w .asset) (r .parent) (w .kind) t (l .k) (limitsAt es (l .k)) (metersAt es (l .k)) x) (l .inv .2)
-          ∙ sym (best-turn es (w .asset) (r .parent) (w .kind) t (l .k)),
+      c .consider-row .ensures
+          ∙ ap (λ (x : Row). rowConsidered (a .asset) (r .parent) (a .kind) (a .time) (l .e) x (l .best)) row
+          ∙ row-considered (a .asset) (r .parent) (a .kind) (a .time) (l .e) (limitsAt es (l .e)) (metersAt es (l .e)) (l .best) (is-came (c .before .before .before .before .before .before .before .before .before .before .before .before .before .before .before .before .before .before) .early)
+          ∙ ap (λ (x : Best). considered (a .asset) (r .parent) (a .kind) (a .time) (l .e) (limitsAt es (l .e)) (metersAt es (l .e)) x) (l .inv .2)
+          ∙ sym (best-turn es (a .asset) (r .parent) (a .kind) (a .time) (l .e)),
     )
 
-mul-x-3 : tie.Need-mul-x-3 Inv-loop2 μ-loop2 Inv-loop3 μ-loop3 Inv-loop μ-loop
-mul-x-3 c = omega (arith, ltb-true (c .before .before .before .loop3 .best .at) 64 (and-right (c .before .before .before .loop3 .best .suits) (ltb (c .before .before .before .loop3 .best .at) 64) (c .if6 .taken)))
+begin-code-requires :
+    tie.Need-begin-code-requires Inv-loop2 μ-loop2 Inv-loop3 μ-loop3 Inv-loop μ-loop
+begin-code-requires c κs = tt
 
-element-copy-out-x-3 :
-    tie.Need-element-copy-out-x-3 Inv-loop2 μ-loop2 Inv-loop3 μ-loop3 Inv-loop μ-loop
-element-copy-out-x-3 c = omega (arith, ltb-true (c .before .before .before .loop3 .best .at) 64 (and-right (c .before .before .before .loop3 .best .suits) (ltb (c .before .before .before .loop3 .best .at) 64) (c .if6 .taken)))
+blank-entry-requires :
+    tie.Need-blank-entry-requires Inv-loop2 μ-loop2 Inv-loop3 μ-loop3 Inv-loop μ-loop
+blank-entry-requires c κs = tt
 
-cast-begin-on : tie.Need-cast-begin-on Inv-loop2 μ-loop2 Inv-loop3 μ-loop3 Inv-loop μ-loop
-cast-begin-on c = omega (arith, ltb-true (c .before .before .before .before .before .before .loop3 .best .at) 64 (and-right (c .before .before .before .before .before .before .loop3 .best .suits) (ltb (c .before .before .before .before .before .before .loop3 .best .at) 64) (c .before .before .before .if6 .taken)))
+mul-held : tie.Need-mul-held Inv-loop2 μ-loop2 Inv-loop3 μ-loop3 Inv-loop μ-loop
+mul-held c = search needs
 
-begin-on-requires : tie.Need-begin-on-requires Inv-loop2 μ-loop2 Inv-loop3 μ-loop3 Inv-loop μ-loop
-begin-on-requires c κs = tt
+element-copy-out-held :
+    tie.Need-element-copy-out-held Inv-loop2 μ-loop2 Inv-loop3 μ-loop3 Inv-loop μ-loop
+element-copy-out-held c = search needs
+
+cast-act : tie.Need-cast-act Inv-loop2 μ-loop2 Inv-loop3 μ-loop3 Inv-loop μ-loop
+cast-act c = search needs
+
+act-requires : tie.Need-act-requires Inv-loop2 μ-loop2 Inv-loop3 μ-loop3 Inv-loop μ-loop
+act-requires c κs = tt
 
 mul-y-2 : tie.Need-mul-y-2 Inv-loop2 μ-loop2 Inv-loop3 μ-loop3 Inv-loop μ-loop
-mul-y-2 c = omega (arith, ltb-true (c .before .before .before .before .before .before .before .before .loop3 .best .at) 64 (and-right (c .before .before .before .before .before .before .before .before .loop3 .best .suits) (ltb (c .before .before .before .before .before .before .before .before .loop3 .best .at) 64) (c .before .before .before .before .before .if6 .taken)))
+mul-y-2 c = search needs
 
 element-set-from-y-2 :
     tie.Need-element-set-from-y-2 Inv-loop2 μ-loop2 Inv-loop3 μ-loop3 Inv-loop μ-loop
-element-set-from-y-2 c = omega (arith, ltb-true (c .before .before .before .before .before .before .before .before .loop3 .best .at) 64 (and-right (c .before .before .before .before .before .before .before .before .loop3 .best .suits) (ltb (c .before .before .before .before .before .before .before .before .loop3 .best .at) 64) (c .before .before .before .before .before .if6 .taken)))
+element-set-from-y-2 c = search needs
 
-noted-last-requires :
-    tie.Need-noted-last-requires Inv-loop2 μ-loop2 Inv-loop3 μ-loop3 Inv-loop μ-loop
-noted-last-requires c κs = tt
+row-of-requires-2 : tie.Need-row-of-requires-2 Inv-loop2 μ-loop2 Inv-loop3 μ-loop3 Inv-loop μ-loop
+row-of-requires-2 c κs = tt
+
+mul-rows-2 : tie.Need-mul-rows-2 Inv-loop2 μ-loop2 Inv-loop3 μ-loop3 Inv-loop μ-loop
+mul-rows-2 c = search needs
+
+array-set-from-rows-2 :
+    tie.Need-array-set-from-rows-2 Inv-loop2 μ-loop2 Inv-loop3 μ-loop3 Inv-loop μ-loop
+array-set-from-rows-2 c = search needs
 
 mul-q-2 : tie.Need-mul-q-2 Inv-loop2 μ-loop2 Inv-loop3 μ-loop3 Inv-loop μ-loop
 mul-q-2 c = search needs
@@ -433,63 +475,80 @@ end-of-requires c κs = tt
 sooner-requires-2 : tie.Need-sooner-requires-2 Inv-loop2 μ-loop2 Inv-loop3 μ-loop3 Inv-loop μ-loop
 sooner-requires-2 c κs = tt
 
-put-line-requires-4 :
-    tie.Need-put-line-requires-4 Inv-loop2 μ-loop2 Inv-loop3 μ-loop3 Inv-loop μ-loop
-put-line-requires-4 c κs = tt
+put-line-requires-2 :
+    tie.Need-put-line-requires-2 Inv-loop2 μ-loop2 Inv-loop3 μ-loop3 Inv-loop μ-loop
+put-line-requires-2 c κs = tt
 
-loop-less-4 : tie.Need-loop-less-4 Inv-loop2 μ-loop2 Inv-loop3 μ-loop3 Inv-loop μ-loop
-loop-less-4 c = omega (arith, c .before .before .before .before .before .before .before .before .before .before .before .before .before .before .before .before .before .before .before .before .before .before .before .before .before .before .before .before .before .before .before .before .before .before .before .before .before .before .before .before .before .loop-test .taken)
+loop-less-2 : tie.Need-loop-less-2 Inv-loop2 μ-loop2 Inv-loop3 μ-loop3 Inv-loop μ-loop
+loop-less-2 c = omega (arith, c .before .before .before .before .before .before .before .before .before .before .before .before .before .before .before .before .before .before .before .before .before .before .before .before .before .before .before .before .before .before .before .before .loop-test .taken)
 
-loop-again-4 : tie.Need-loop-again-4 Inv-loop2 μ-loop2 Inv-loop3 μ-loop3 Inv-loop μ-loop
+loop-again-2 : tie.Need-loop-again-2 Inv-loop2 μ-loop2 Inv-loop3 μ-loop3 Inv-loop μ-loop
 unfolding placed stored
-loop-again-4 c =
-    let a = c .before .before .before .before .before .before .before .before .before .before .before .before .before .before .before .before .before .before .before .before .before .before .before .before .before .before .before .before .before .before .before .before .before .before .before .before .before .before .before .before .before .before .before .before .before .before .args in
-    let l = c .before .before .before .before .before .before .before .before .before .before .before .before .before .before .before .before .before .before .before .before .before .before .before .before .before .before .before .before .before .before .before .before .before .before .before .before .before .before .before .before .before .before .loop in
-    let p = c .before .before .put-line4 in
-    let s = a .records .now in
-    let i = in-turn (c .before .before .before .before .before .before .before .before .before .before .before .before .before .before .before .before .before .before .before .before .before .before .before .before .before .before .before .before .before .before .before .before .before .before .before .before .before .before .before .before .before) in
-    let v = c .before .before .before .before .before .before .before .before .before .before .before .before .before .before .before .before .before .before .before .before .before .before .before .before .before .before .before .before .before .before .before .before .before .before .before .before .e .given .0 .0 in
+loop-again-2 c =
+    let a = c .before .before .before .before .before .before .before .before .before .before .before .before .before .before .before .before .before .before .before .before .before .before .before .before .before .before .before .before .before .before .before .before .before .before .before .before .before .before .before .before .before .before .before .args in
+    let l = c .before .before .before .before .before .before .before .before .before .before .before .before .before .before .before .before .before .before .before .before .before .before .before .before .before .before .before .before .before .before .before .before .before .loop in
+    let p = c .before .before .put-line2 in
+    let s = recordAt (a .records .now) (l .i) in
+    let i = in-turn (c .before .before .before .before .before .before .before .before .before .before .before .before .before .before .before .before .before .before .before .before .before .before .before .before .before .before .before .before .before .before .before .before) in
+    let v = c .before .before .before .before .before .before .before .before .before .before .before .before .before .before .before .before .before .before .before .before .before .before .before .before .before .before .before .before .before .read-record .result in
+    let came = is-came (c .before .before .before .before .before .before .before .before .before .before .before .before .before .before .before .before .before .before .before .before .before .before .before .before) in
     let t = v .time in
     let j = v .player % 16 in
-    let n = c .before .before .before .before .before .before .before .before .before .before .before .before .before .before .before .before .before .before .before .before .before .before .before .before .before .before .before .before .if2 .book in
+    let n = c .before .before .before .before .before .before .before .before .before .before .before .before .before .before .before .before .before .before .before .before .before .before .before .if3 .book in
     let es = n .entries in
     let ps = n .players in
     let o = openAt ps j in
-    let z = after-settle (c .before .before .before .before .before .before .before .before .before .before .before .before .before .before .before .before .before .before .before .before .before .before .before .before .before .before .before .before) in
-    let g : gate (l .book .time) (lastAt (l .book .players) (v .player)) v ≡ Take = is-gate (c .before .before .before .before .before .before .before .before .before .before .before .before .before .before .before .before .before .before .before .before .before .before .before .before .before .before .before .before .before .before .before) ∙ c .before .before .before .before .before .before .before .before .before .before .before .before .before .before .before .before .before .before .before .before .before .before .before .before .before .before .before .before .before .enum-told2 .given .1 in
-    let ht : t ≤ latestTime = gate-passed (l .book) v g .early in
-    let ho : o ≡ openAt ps (v .player) = ap (openAt ps) (is-player (c .before .before .before .before .before .before .before .before .before .before .before .before .before .before .before .before .before .before .before .before .before .before .before .before .before .before .before .before .before .before .before)) in
-    let small : j < length ps = omega (arith, z .players) in
-    let w = c .before .before .before .before .before .before .before .before .before .before .before .before .before .before .before .before .before .before .before .before .before .before .before .before .before .wire-of .result in
-    let r = c .before .before .before .before .before .before .before .before .before .before .before .before .before .before .before .before .before .before .before .before .before .reach-of .result in
-    let best = c .before .before .before .before .before .before .before .before .before .before .before .before .before .before .before .before .before .loop3 .best in
-    let k : c .before .before .before .before .before .before .before .before .before .before .before .before .before .before .before .before .before .loop3 .k ≡ c .before .before .before .before .before .before .before .before .before .before .before .before .before .before .before .before .before .before .looked-at .result = omega (arith, c .before .before .before .before .before .before .before .before .before .before .before .before .before .before .before .before .before .loop3 .inv .0, c .before .before .before .before .before .before .before .before .before .before .before .before .before .before .before .before .loop3-test .left) in
-    let hm : c .before .before .before .before .before .before .before .before .before .before .before .before .before .before .before .before .before .loop3 .k ≡ looked (isOn o) (r .usable) (min (n .entrycount) 64) = k ∙ c .before .before .before .before .before .before .before .before .before .before .before .before .before .before .before .before .before .before .looked-at .ensures ∙ ap (looked (isOn o) (r .usable)) (c .before .before .before .before .before .before .before .before .before .before .before .before .before .before .before .before .before .before .before .at-most-64 .ensures) in
-    let part = c .before .before .before .before .before .before .before .before .before .before .begin-on .result in
-    let hd = begun-placed n v o w r best (c .before .before .before .before .before .before .before .before .before .before .before .before .before .before .before .before .before .loop3 .k) ho (c .before .before .before .before .before .before .before .before .before .before .before .before .before .before .before .before .before .before .before .before .before .before .before .before .before .wire-of .ensures) (c .before .before .before .before .before .before .before .before .before .before .before .before .before .before .before .before .before .before .before .before .before .before .before .if5 .taken) (c .before .before .before .before .before .before .before .before .before .before .before .before .before .before .before .before .before .before .before .before .before .reach-of .ensures) hm (c .before .before .before .before .before .before .before .before .before .before .before .before .before .before .before .before .before .loop3 .inv .2) (c .before .before .before .before .before .before .before .before .before .before .before .before .before .before .if6 .taken) ht part (c .before .before .before .before .before .before .before .before .before .before .begin-on .ensures) in
-    let last = c .before .before .before .before .before .before .noted-last .result in
-    let es′ = set es (best .at) (record { limits = limitsAt es (best .at); meters = part .meters }) in
+    let z = after-settle (c .before .before .before .before .before .before .before .before .before .before .before .before .before .before .before .before .before .before .before .before .before .before .before) in
+    let kept = assets-kept (c .before .before .before .before .before .before .before .before .before .before .before .before .before .before .before .before .before .before .before .before .before .before .before) in
+    let k = c .before .before .before .before .before .before .before .before .before .before .before .before .before .before .before .before .if6 .k in
+    let x = c .before .before .before .before .before .before .before .before .before .before .before .before .before .if8 .x in
+    let part = c .before .before .before .before .before .before .before .before .before .act .result in
+    let is-x : x ≡ getD es k noEntry =
+    ⊎-elim (λ w. w .3)
+    (λ w. w .1 ∙ c .before .before .before .before .before .before .before .before .before .before .before .before .before .before .blank-entry .ensures ∙ sym (List·getD-eq-default es noEntry (omega (arith, w .0 .left, z .0 .entries))))
+    (c .before .before .before .before .before .before .before .before .before .before .before .before .before .if8 .came) in
+    let hp =
+    c .before .before .before .before .before .before .before .before .before .act .ensures
+    ∙ ap (λ (y : Entry). actOn (v .operation) (k % 256) t (y .limits) (y .meters) o) is-x
+    ∙ ap (λ (u : ℕ). actOn (v .operation) (k % 256) u (limitsAt es k) (metersAt es k) o) (came .time) in
+    let hd = planned (c .before .before .before .before .before .before .before .before .before .before .before .before .before .before .before .before) .acts (c .before .before .before .before .before .before .before .before .before .before .before .before .before .before .before .if7 .taken) part hp in
+    let es′ = set es k (record { limits = limitsAt es k; meters = part .meters }) in
+    let timed : List Entry → Book = λ xs. record { time = t; assetcount = n .assetcount; entrycount = n .entrycount; assets = n .assets; entries = xs; players = ps } in
+    let done : (c .before .before .before .before .before .before .before .before .if9 .book ≡ timed es′) × (c .before .before .before .before .before .before .before .before .if9 .rows ≡ map rowOfEntry es′) =
+    ⊎-elim
+    (λ w.
+    let y : Entry = record { limits = x .limits; meters = part .meters } in
+    let same : set es k y ≡ es′ = ap (λ (u : Entry). set es k (record { limits = u .limits; meters = part .meters })) is-x in (
+      w .3 ∙ ap timed same,
+      w .4 ∙ rows-next es (c .before .before .before .before .before .before .before .before .before .before .before .before .before .before .before .before .before .before .before .before .before .before .before .if3 .rows) k y (w .2 .result) (z .1) (w .2 .ensures) ∙ ap (map rowOfEntry) same,
+    ))
+    (λ w.
+    let same : es ≡ es′ = sym (set-out es k _ (omega (arith, w .0 .left, z .0 .entries))) in (
+      w .1 ∙ ap timed same,
+      w .2 ∙ z .1 ∙ ap (map rowOfEntry) same,
+    ))
+    (c .before .before .before .before .before .before .before .before .if9 .came) in
+    let last : Last = record { number = v .number; operation = v .operation; asset = v .asset; kind = v .kind; answer = part .answer } in
     let q : Player = record { last = last; current = part .current } in
-    let e : stepRecord (l .book) (recordAt s (l .i)) ≡ record { answer = part .answer; book = closing n es′ j t last (part .current) } =
-    way-taken (l .book) (recordAt s (l .i)) v n (record { answer = part .answer; entries = es′; current = part .current }) j last (is-event (c .before .before .before .before .before .before .before .before .before .before .before .before .before .before .before .before .before .before .before .before .before .before .before .before .before .before .before .before .before .before .before)) g (z .is-settled) hd (is-player (c .before .before .before .before .before .before .before .before .before .before .before .before .before .before .before .before .before .before .before .before .before .before .before .before .before .before .before .before .before .before .before)) (c .before .before .before .before .before .before .noted-last .ensures) in (
+    let store : Book → Book = λ m. with m (m .entries) (set (m .players) j q) in
+    let is-book : store (c .before .before .before .before .before .before .before .before .if9 .book) ≡ closing n es′ j t last (part .current) = ap store (done .0) in
+    let small : j < length ps = omega (arith, z .0 .players) in
+    let e : stepRecord (l .book) s ≡ record { answer = part .answer; book = store (c .before .before .before .before .before .before .before .before .if9 .book) } =
+    way-taken (l .book) s v n (record { answer = part .answer; entries = es′; current = part .current }) j came (z .0 .is-settled) hd (is-player (c .before .before .before .before .before .before .before .before .before .before .before .before .before .before .before .before .before .before .before .before .before .before .before .before))
+    ∙ ap (λ (m : Book). record { answer = part .answer; book = m }) (sym is-book) in (
       i .0,
-      upto-next (a .b) s (a .out .now) (l .i) (l .book) (l .out) (l .at) (l .inv .1) (i .1) (part .answer) (closing n es′ j t last (part .current)) (p .last .0) (p .result) e (p .ensures),
-      subst (λ (x : ℕ). Quiet x (set ps j q)) (sym (c .before .before .before .before .sooner2 .ensures ∙ ap (min (c .before .before .before .before .before .before .before .before .before .before .before .before .before .before .before .before .before .before .before .before .before .before .before .before .before .before .before .before .if2 .next)) (c .before .before .before .before .before .end-of .ensures))) (quiet-store (c .before .before .before .before .before .before .before .before .before .before .before .before .before .before .before .before .before .before .before .before .before .before .before .before .before .before .before .before .if2 .next) ps j q (z .quiet) small),
-      length-set es (best .at) _ ∙ z .entries,
-      length-set ps j q ∙ z .players,
+      upto-next (a .b) (a .records .now) (a .out .now) (l .i) (l .book) (l .out) (l .at) (l .inv .1) (i .1) (part .answer) (store (c .before .before .before .before .before .before .before .before .if9 .book)) (p .last .0) (p .result) e (p .ensures),
+      subst (λ (m : Book). Quiet (c .before .before .before .before .sooner2 .result) (m .players)) (sym is-book)
+          (subst (λ (u : ℕ). Quiet u (set ps j q)) (sym (c .before .before .before .before .sooner2 .ensures ∙ ap (min (c .before .before .before .before .before .before .before .before .before .before .before .before .before .before .before .before .before .before .before .before .before .before .before .if3 .next)) (c .before .before .before .before .before .end-of .ensures))) (quiet-store (c .before .before .before .before .before .before .before .before .before .before .before .before .before .before .before .before .before .before .before .before .before .before .before .if3 .next) ps j q (z .0 .quiet) small)),
+      ap (λ (m : Book). length (m .entries)) is-book ∙ length-set es k _ ∙ z .0 .entries,
+      ap (λ (m : Book). length (m .players)) is-book ∙ length-set ps j q ∙ z .0 .players,
+      done .1 ∙ ap rowsFor (sym is-book),
+      ap (λ (m : Book). m .assets) is-book ∙ kept .0,
+      ap (λ (m : Book). m .assetcount) is-book ∙ kept .1,
     )
 
-begin-code-requires :
-    tie.Need-begin-code-requires Inv-loop2 μ-loop2 Inv-loop3 μ-loop3 Inv-loop μ-loop
-begin-code-requires c κs = tt
-
-refused-requires-3 :
-    tie.Need-refused-requires-3 Inv-loop2 μ-loop2 Inv-loop3 μ-loop3 Inv-loop μ-loop
-refused-requires-3 c κs = tt
-
-noted-last-requires-2 :
-    tie.Need-noted-last-requires-2 Inv-loop2 μ-loop2 Inv-loop3 μ-loop3 Inv-loop μ-loop
-noted-last-requires-2 c κs = tt
+refused-requires : tie.Need-refused-requires Inv-loop2 μ-loop2 Inv-loop3 μ-loop3 Inv-loop μ-loop
+refused-requires c κs = tt
 
 mul-q-3 : tie.Need-mul-q-3 Inv-loop2 μ-loop2 Inv-loop3 μ-loop3 Inv-loop μ-loop
 mul-q-3 c = search needs
@@ -498,216 +557,57 @@ element-set-from-q-3 :
     tie.Need-element-set-from-q-3 Inv-loop2 μ-loop2 Inv-loop3 μ-loop3 Inv-loop μ-loop
 element-set-from-q-3 c = search needs
 
-put-line-requires-5 :
-    tie.Need-put-line-requires-5 Inv-loop2 μ-loop2 Inv-loop3 μ-loop3 Inv-loop μ-loop
-put-line-requires-5 c κs = tt
+put-line-requires-3 :
+    tie.Need-put-line-requires-3 Inv-loop2 μ-loop2 Inv-loop3 μ-loop3 Inv-loop μ-loop
+put-line-requires-3 c κs = tt
 
-loop-less-5 : tie.Need-loop-less-5 Inv-loop2 μ-loop2 Inv-loop3 μ-loop3 Inv-loop μ-loop
-loop-less-5 c = omega (arith, c .before .before .before .before .before .before .before .before .before .before .before .before .before .before .before .before .before .before .before .before .before .before .before .before .before .before .before .before .before .before .before .before .before .before .before .loop-test .taken)
+loop-less-3 : tie.Need-loop-less-3 Inv-loop2 μ-loop2 Inv-loop3 μ-loop3 Inv-loop μ-loop
+loop-less-3 c = omega arith
 
-loop-again-5 : tie.Need-loop-again-5 Inv-loop2 μ-loop2 Inv-loop3 μ-loop3 Inv-loop μ-loop
-loop-again-5 c =
-    let a = c .before .before .before .before .before .before .before .before .before .before .before .before .before .before .before .before .before .before .before .before .before .before .before .before .before .before .before .before .before .before .before .before .before .before .before .before .before .before .before .before .args in
-    let l = c .before .before .before .before .before .before .before .before .before .before .before .before .before .before .before .before .before .before .before .before .before .before .before .before .before .before .before .before .before .before .before .before .before .before .before .before .loop in
-    let p = c .before .before .put-line5 in
-    let s = a .records .now in
-    let i = in-turn (c .before .before .before .before .before .before .before .before .before .before .before .before .before .before .before .before .before .before .before .before .before .before .before .before .before .before .before .before .before .before .before .before .before .before .before) in
-    let v = c .before .before .before .before .before .before .before .before .before .before .before .before .before .before .before .before .before .before .before .before .before .before .before .before .before .before .before .before .before .before .e .given .0 .0 in
+loop-again-3 : tie.Need-loop-again-3 Inv-loop2 μ-loop2 Inv-loop3 μ-loop3 Inv-loop μ-loop
+loop-again-3 c =
+    let a = c .before .before .before .before .before .before .before .before .before .before .before .before .before .before .before .before .before .before .before .before .before .before .before .before .before .before .before .before .before .before .before .before .before .args in
+    let l = c .before .before .before .before .before .before .before .before .before .before .before .before .before .before .before .before .before .before .before .before .before .before .before .loop in
+    let p = c .before .before .put-line3 in
+    let s = recordAt (a .records .now) (l .i) in
+    let i = in-turn (c .before .before .before .before .before .before .before .before .before .before .before .before .before .before .before .before .before .before .before .before .before .before) in
+    let v = c .before .before .before .before .before .before .before .before .before .before .before .before .before .before .before .before .before .before .before .read-record .result in
+    let came = is-came (c .before .before .before .before .before .before .before .before .before .before .before .before .before .before) in
     let t = v .time in
     let j = v .player % 16 in
-    let n = c .before .before .before .before .before .before .before .before .before .before .before .before .before .before .before .before .before .before .before .before .before .before .if2 .book in
+    let n = c .before .before .before .before .before .before .before .before .before .before .before .before .before .if3 .book in
     let es = n .entries in
     let ps = n .players in
     let o = openAt ps j in
-    let z = after-settle (c .before .before .before .before .before .before .before .before .before .before .before .before .before .before .before .before .before .before .before .before .before .before) in
-    let g : gate (l .book .time) (lastAt (l .book .players) (v .player)) v ≡ Take = is-gate (c .before .before .before .before .before .before .before .before .before .before .before .before .before .before .before .before .before .before .before .before .before .before .before .before .before) ∙ c .before .before .before .before .before .before .before .before .before .before .before .before .before .before .before .before .before .before .before .before .before .before .before .enum-told2 .given .1 in
-    let ht : t ≤ latestTime = gate-passed (l .book) v g .early in
-    let ho : o ≡ openAt ps (v .player) = ap (openAt ps) (is-player (c .before .before .before .before .before .before .before .before .before .before .before .before .before .before .before .before .before .before .before .before .before .before .before .before .before)) in
-    let small : j < length ps = omega (arith, z .players) in
-    let w = c .before .before .before .before .before .before .before .before .before .before .before .before .before .before .before .before .before .before .before .wire-of .result in
-    let r = c .before .before .before .before .before .before .before .before .before .before .before .before .before .before .before .reach-of .result in
-    let best = c .before .before .before .before .before .before .before .before .before .before .before .loop3 .best in
-    let k : c .before .before .before .before .before .before .before .before .before .before .before .loop3 .k ≡ c .before .before .before .before .before .before .before .before .before .before .before .before .looked-at .result = omega (arith, c .before .before .before .before .before .before .before .before .before .before .before .loop3 .inv .0, c .before .before .before .before .before .before .before .before .before .before .loop3-test .left) in
-    let hm : c .before .before .before .before .before .before .before .before .before .before .before .loop3 .k ≡ looked (isOn o) (r .usable) (min (n .entrycount) 64) = k ∙ c .before .before .before .before .before .before .before .before .before .before .before .before .looked-at .ensures ∙ ap (looked (isOn o) (r .usable)) (c .before .before .before .before .before .before .before .before .before .before .before .before .before .at-most-64 .ensures) in
-    let code = beginCode (isOn o) (r .usable) (best .suits) in
-    let hd : unchanged code es o ≡ doneOn n v = begun-refused n v o w r best (c .before .before .before .before .before .before .before .before .before .before .before .loop3 .k) ho (c .before .before .before .before .before .before .before .before .before .before .before .before .before .before .before .before .before .before .before .wire-of .ensures) (c .before .before .before .before .before .before .before .before .before .before .before .before .before .before .before .before .before .if5 .taken) (c .before .before .before .before .before .before .before .before .before .before .before .before .before .before .before .reach-of .ensures) hm (c .before .before .before .before .before .before .before .before .before .before .before .loop3 .inv .2) (c .before .before .before .before .before .before .before .before .if6 .left) in
-    let ha : c .before .before .before .before .before .refused3 .result ≡ refusal code = c .before .before .before .before .before .refused3 .ensures ∙ ap refusal (c .before .before .before .before .before .before .begin-code .ensures) in
-    let last = c .before .before .before .before .noted-last2 .result in
+    let z = after-settle (c .before .before .before .before .before .before .before .before .before .before .before .before .before) in
+    let kept = assets-kept (c .before .before .before .before .before .before .before .before .before .before .before .before .before) in
+    let answer = c .before .before .before .before .refused .result in
+    let last : Last = record { number = v .number; operation = v .operation; asset = v .asset; kind = v .kind; answer = answer } in
     let q : Player = record { last = last; current = o } in
-    let e : stepRecord (l .book) (recordAt s (l .i)) ≡ record { answer = c .before .before .before .before .before .refused3 .result; book = closing n es j t last o } =
-    way-taken (l .book) (recordAt s (l .i)) v n (unchanged code es o) j last (is-event (c .before .before .before .before .before .before .before .before .before .before .before .before .before .before .before .before .before .before .before .before .before .before .before .before .before)) g (z .is-settled) hd (is-player (c .before .before .before .before .before .before .before .before .before .before .before .before .before .before .before .before .before .before .before .before .before .before .before .before .before)) (c .before .before .before .before .noted-last2 .ensures ∙ ap (noted v) ha)
-    ∙ ap (λ (x : Answer). record { answer = x; book = closing n es j t last o }) (sym ha) in (
+    let small : j < length ps = omega (arith, z .0 .players) in
+    let hd = ap (λ (x : Answer). record { answer = x; entries = es; current = o }) (c .before .before .before .before .refused .ensures) ∙ planned (c .before .before .before .before .before .before) .refuses (c .before .before .before .before .before .if7 .left) in
+    let e : stepRecord (l .book) s ≡ record { answer = answer; book = closing n es j t last o } =
+    way-taken (l .book) s v n (record { answer = answer; entries = es; current = o }) j came (z .0 .is-settled) hd (is-player (c .before .before .before .before .before .before .before .before .before .before .before .before .before .before)) in (
       i .0,
-      upto-next (a .b) s (a .out .now) (l .i) (l .book) (l .out) (l .at) (l .inv .1) (i .1) (c .before .before .before .before .before .refused3 .result) (closing n es j t last o) (p .last .0) (p .result) e (p .ensures),
-      quiet-keep (c .before .before .before .before .before .before .before .before .before .before .before .before .before .before .before .before .before .before .before .before .before .before .if2 .next) ps j q (z .quiet) small refl,
-      z .entries,
-      length-set ps j q ∙ z .players,
-    )
-
-cast-k-2 : tie.Need-cast-k-2 Inv-loop2 μ-loop2 Inv-loop3 μ-loop3 Inv-loop μ-loop
-cast-k-2 c = search needs
-
-mul-x-4 : tie.Need-mul-x-4 Inv-loop2 μ-loop2 Inv-loop3 μ-loop3 Inv-loop μ-loop
-mul-x-4 c = search needs
-
-element-copy-out-x-4 :
-    tie.Need-element-copy-out-x-4 Inv-loop2 μ-loop2 Inv-loop3 μ-loop3 Inv-loop μ-loop
-element-copy-out-x-4 c = search needs
-
-further-on-requires :
-    tie.Need-further-on-requires Inv-loop2 μ-loop2 Inv-loop3 μ-loop3 Inv-loop μ-loop
-further-on-requires c κs = tt
-
-mul-y-3 : tie.Need-mul-y-3 Inv-loop2 μ-loop2 Inv-loop3 μ-loop3 Inv-loop μ-loop
-mul-y-3 c = search needs
-
-element-set-from-y-3 :
-    tie.Need-element-set-from-y-3 Inv-loop2 μ-loop2 Inv-loop3 μ-loop3 Inv-loop μ-loop
-element-set-from-y-3 c = search needs
-
-noted-last-requires-3 :
-    tie.Need-noted-last-requires-3 Inv-loop2 μ-loop2 Inv-loop3 μ-loop3 Inv-loop μ-loop
-noted-last-requires-3 c κs = tt
-
-mul-q-4 : tie.Need-mul-q-4 Inv-loop2 μ-loop2 Inv-loop3 μ-loop3 Inv-loop μ-loop
-mul-q-4 c = search needs
-
-element-set-from-q-4 :
-    tie.Need-element-set-from-q-4 Inv-loop2 μ-loop2 Inv-loop3 μ-loop3 Inv-loop μ-loop
-element-set-from-q-4 c = search needs
-
-end-of-requires-2 : tie.Need-end-of-requires-2 Inv-loop2 μ-loop2 Inv-loop3 μ-loop3 Inv-loop μ-loop
-end-of-requires-2 c κs = tt
-
-sooner-requires-3 : tie.Need-sooner-requires-3 Inv-loop2 μ-loop2 Inv-loop3 μ-loop3 Inv-loop μ-loop
-sooner-requires-3 c κs = tt
-
-put-line-requires-6 :
-    tie.Need-put-line-requires-6 Inv-loop2 μ-loop2 Inv-loop3 μ-loop3 Inv-loop μ-loop
-put-line-requires-6 c κs = tt
-
-loop-less-6 : tie.Need-loop-less-6 Inv-loop2 μ-loop2 Inv-loop3 μ-loop3 Inv-loop μ-loop
-loop-less-6 c = omega (arith, c .before .before .before .before .before .before .before .before .before .before .before .before .before .before .before .before .before .before .before .before .before .before .before .before .before .before .before .before .before .before .before .before .before .before .loop-test .taken)
-
-loop-again-6 : tie.Need-loop-again-6 Inv-loop2 μ-loop2 Inv-loop3 μ-loop3 Inv-loop μ-loop
-unfolding placed stored
-loop-again-6 c =
-    let a = c .before .before .before .before .before .before .before .before .before .before .before .before .before .before .before .before .before .before .before .before .before .before .before .before .before .before .before .before .before .before .before .before .before .before .before .before .before .before .before .args in
-    let l = c .before .before .before .before .before .before .before .before .before .before .before .before .before .before .before .before .before .before .before .before .before .before .before .before .before .before .before .before .before .before .before .before .before .before .before .loop in
-    let p = c .before .before .put-line6 in
-    let s = a .records .now in
-    let i = in-turn (c .before .before .before .before .before .before .before .before .before .before .before .before .before .before .before .before .before .before .before .before .before .before .before .before .before .before .before .before .before .before .before .before .before .before) in
-    let v = c .before .before .before .before .before .before .before .before .before .before .before .before .before .before .before .before .before .before .before .before .before .before .before .before .before .before .before .before .before .e .given .0 .0 in
-    let t = v .time in
-    let j = v .player % 16 in
-    let n = c .before .before .before .before .before .before .before .before .before .before .before .before .before .before .before .before .before .before .before .before .before .if2 .book in
-    let es = n .entries in
-    let ps = n .players in
-    let o = openAt ps j in
-    let z = after-settle (c .before .before .before .before .before .before .before .before .before .before .before .before .before .before .before .before .before .before .before .before .before) in
-    let g : gate (l .book .time) (lastAt (l .book .players) (v .player)) v ≡ Take = is-gate (c .before .before .before .before .before .before .before .before .before .before .before .before .before .before .before .before .before .before .before .before .before .before .before .before) ∙ c .before .before .before .before .before .before .before .before .before .before .before .before .before .before .before .before .before .before .before .before .before .before .enum-told2 .given .1 in
-    let ht : t ≤ latestTime = gate-passed (l .book) v g .early in
-    let ho : o ≡ openAt ps (v .player) = ap (openAt ps) (is-player (c .before .before .before .before .before .before .before .before .before .before .before .before .before .before .before .before .before .before .before .before .before .before .before .before)) in
-    let small : j < length ps = omega (arith, z .players) in
-    let w = c .before .before .before .before .before .before .before .before .before .before .before .before .before .before .before .before .before .before .wire-of .result in
-    let part = c .before .before .before .before .before .before .before .before .before .before .further-on .result in
-    let ne : operationNumber (v .request) ≡ 1 → ⊥ = λ x. c .before .before .before .before .before .before .before .before .before .before .before .before .before .before .before .before .if5 .left (ap (λ (y : Wire). y .operation) (c .before .before .before .before .before .before .before .before .before .before .before .before .before .before .before .before .before .before .wire-of .ensures) ∙ x) in
-    let hp = c .before .before .before .before .before .before .before .before .before .before .further-on .ensures ∙ ap (λ (x : Wire). furtherOn (x .operation) t (limitsAt es (o .entry)) (metersAt es (o .entry)) o) (c .before .before .before .before .before .before .before .before .before .before .before .before .before .before .before .before .before .before .wire-of .ensures) in
-    let hd = further-placed n v o part ho ne ht hp in
-    let last = c .before .before .before .before .before .before .noted-last3 .result in
-    let es′ = set es (o .entry) (record { limits = limitsAt es (o .entry); meters = part .meters }) in
-    let q : Player = record { last = last; current = part .current } in
-    let e : stepRecord (l .book) (recordAt s (l .i)) ≡ record { answer = part .answer; book = closing n es′ j t last (part .current) } =
-    way-taken (l .book) (recordAt s (l .i)) v n (record { answer = part .answer; entries = es′; current = part .current }) j last (is-event (c .before .before .before .before .before .before .before .before .before .before .before .before .before .before .before .before .before .before .before .before .before .before .before .before)) g (z .is-settled) hd (is-player (c .before .before .before .before .before .before .before .before .before .before .before .before .before .before .before .before .before .before .before .before .before .before .before .before)) (c .before .before .before .before .before .before .noted-last3 .ensures) in (
-      i .0,
-      upto-next (a .b) s (a .out .now) (l .i) (l .book) (l .out) (l .at) (l .inv .1) (i .1) (part .answer) (closing n es′ j t last (part .current)) (p .last .0) (p .result) e (p .ensures),
-      subst (λ (x : ℕ). Quiet x (set ps j q)) (sym (c .before .before .before .before .sooner3 .ensures ∙ ap (min (c .before .before .before .before .before .before .before .before .before .before .before .before .before .before .before .before .before .before .before .before .before .if2 .next)) (c .before .before .before .before .before .end-of2 .ensures))) (quiet-store (c .before .before .before .before .before .before .before .before .before .before .before .before .before .before .before .before .before .before .before .before .before .if2 .next) ps j q (z .quiet) small),
-      length-set es (o .entry) _ ∙ z .entries,
-      length-set ps j q ∙ z .players,
-    )
-
-blank-entry-requires :
-    tie.Need-blank-entry-requires Inv-loop2 μ-loop2 Inv-loop3 μ-loop3 Inv-loop μ-loop
-blank-entry-requires c κs = tt
-
-further-on-requires-2 :
-    tie.Need-further-on-requires-2 Inv-loop2 μ-loop2 Inv-loop3 μ-loop3 Inv-loop μ-loop
-further-on-requires-2 c κs = tt
-
-noted-last-requires-4 :
-    tie.Need-noted-last-requires-4 Inv-loop2 μ-loop2 Inv-loop3 μ-loop3 Inv-loop μ-loop
-noted-last-requires-4 c κs = tt
-
-mul-q-5 : tie.Need-mul-q-5 Inv-loop2 μ-loop2 Inv-loop3 μ-loop3 Inv-loop μ-loop
-mul-q-5 c = search needs
-
-element-set-from-q-5 :
-    tie.Need-element-set-from-q-5 Inv-loop2 μ-loop2 Inv-loop3 μ-loop3 Inv-loop μ-loop
-element-set-from-q-5 c = search needs
-
-end-of-requires-3 : tie.Need-end-of-requires-3 Inv-loop2 μ-loop2 Inv-loop3 μ-loop3 Inv-loop μ-loop
-end-of-requires-3 c κs = tt
-
-sooner-requires-4 : tie.Need-sooner-requires-4 Inv-loop2 μ-loop2 Inv-loop3 μ-loop3 Inv-loop μ-loop
-sooner-requires-4 c κs = tt
-
-put-line-requires-7 :
-    tie.Need-put-line-requires-7 Inv-loop2 μ-loop2 Inv-loop3 μ-loop3 Inv-loop μ-loop
-put-line-requires-7 c κs = tt
-
-loop-less-7 : tie.Need-loop-less-7 Inv-loop2 μ-loop2 Inv-loop3 μ-loop3 Inv-loop μ-loop
-loop-less-7 c = omega (arith, c .before .before .before .before .before .before .before .before .before .before .before .before .before .before .before .before .before .before .before .before .before .before .before .before .before .before .before .before .before .before .before .before .before .loop-test .taken)
-
-loop-again-7 : tie.Need-loop-again-7 Inv-loop2 μ-loop2 Inv-loop3 μ-loop3 Inv-loop μ-loop
-loop-again-7 c =
-    let a = c .before .before .before .before .before .before .before .before .before .before .before .before .before .before .before .before .before .before .before .before .before .before .before .before .before .before .before .before .before .before .before .before .before .before .before .before .before .before .args in
-    let l = c .before .before .before .before .before .before .before .before .before .before .before .before .before .before .before .before .before .before .before .before .before .before .before .before .before .before .before .before .before .before .before .before .before .before .loop in
-    let p = c .before .before .put-line7 in
-    let s = a .records .now in
-    let i = in-turn (c .before .before .before .before .before .before .before .before .before .before .before .before .before .before .before .before .before .before .before .before .before .before .before .before .before .before .before .before .before .before .before .before .before) in
-    let v = c .before .before .before .before .before .before .before .before .before .before .before .before .before .before .before .before .before .before .before .before .before .before .before .before .before .before .before .before .e .given .0 .0 in
-    let t = v .time in
-    let j = v .player % 16 in
-    let n = c .before .before .before .before .before .before .before .before .before .before .before .before .before .before .before .before .before .before .before .before .if2 .book in
-    let es = n .entries in
-    let ps = n .players in
-    let o = openAt ps j in
-    let z = after-settle (c .before .before .before .before .before .before .before .before .before .before .before .before .before .before .before .before .before .before .before .before) in
-    let g : gate (l .book .time) (lastAt (l .book .players) (v .player)) v ≡ Take = is-gate (c .before .before .before .before .before .before .before .before .before .before .before .before .before .before .before .before .before .before .before .before .before .before .before) ∙ c .before .before .before .before .before .before .before .before .before .before .before .before .before .before .before .before .before .before .before .before .before .enum-told2 .given .1 in
-    let ht : t ≤ latestTime = gate-passed (l .book) v g .early in
-    let ho : o ≡ openAt ps (v .player) = ap (openAt ps) (is-player (c .before .before .before .before .before .before .before .before .before .before .before .before .before .before .before .before .before .before .before .before .before .before .before)) in
-    let small : j < length ps = omega (arith, z .players) in
-    let w = c .before .before .before .before .before .before .before .before .before .before .before .before .before .before .before .before .before .wire-of .result in
-    let part = c .before .before .before .before .before .before .before .before .before .further-on2 .result in
-    let ne : operationNumber (v .request) ≡ 1 → ⊥ = λ x. c .before .before .before .before .before .before .before .before .before .before .before .before .before .before .before .if5 .left (ap (λ (y : Wire). y .operation) (c .before .before .before .before .before .before .before .before .before .before .before .before .before .before .before .before .before .wire-of .ensures) ∙ x) in
-    let none : getD es (o .entry) noEntry ≡ c .before .before .before .before .before .before .before .before .before .before .before .before .blank-entry .result = List·getD-eq-default es noEntry (omega (arith, c .before .before .before .before .before .before .before .before .before .before .before .before .before .if7 .left, z .entries)) ∙ sym (c .before .before .before .before .before .before .before .before .before .before .before .before .blank-entry .ensures) in
-    let hp =
-    c .before .before .before .before .before .before .before .before .before .further-on2 .ensures
-    ∙ ap (λ (x : Wire). furtherOn (x .operation) t (c .before .before .before .before .before .before .before .before .before .before .before .before .blank-entry .result .limits) (c .before .before .before .before .before .before .before .before .before .before .before .before .blank-entry .result .meters) o) (c .before .before .before .before .before .before .before .before .before .before .before .before .before .before .before .before .before .wire-of .ensures)
-    ∙ ap (λ (x : Entry). furtherOn (operationNumber (v .request)) t (x .limits) (x .meters) o) (sym none) in
-    let hd = sym (placed-out (o .entry) part es (omega (arith, c .before .before .before .before .before .before .before .before .before .before .before .before .before .if7 .left, z .entries))) ∙ further-placed n v o part ho ne ht hp in
-    let last = c .before .before .before .before .before .before .noted-last4 .result in
-    let es′ = es in
-    let q : Player = record { last = last; current = part .current } in
-    let e : stepRecord (l .book) (recordAt s (l .i)) ≡ record { answer = part .answer; book = closing n es′ j t last (part .current) } =
-    way-taken (l .book) (recordAt s (l .i)) v n (record { answer = part .answer; entries = es′; current = part .current }) j last (is-event (c .before .before .before .before .before .before .before .before .before .before .before .before .before .before .before .before .before .before .before .before .before .before .before)) g (z .is-settled) hd (is-player (c .before .before .before .before .before .before .before .before .before .before .before .before .before .before .before .before .before .before .before .before .before .before .before)) (c .before .before .before .before .before .before .noted-last4 .ensures) in (
-      i .0,
-      upto-next (a .b) s (a .out .now) (l .i) (l .book) (l .out) (l .at) (l .inv .1) (i .1) (part .answer) (closing n es′ j t last (part .current)) (p .last .0) (p .result) e (p .ensures),
-      subst (λ (x : ℕ). Quiet x (set ps j q)) (sym (c .before .before .before .before .sooner4 .ensures ∙ ap (min (c .before .before .before .before .before .before .before .before .before .before .before .before .before .before .before .before .before .before .before .before .if2 .next)) (c .before .before .before .before .before .end-of3 .ensures))) (quiet-store (c .before .before .before .before .before .before .before .before .before .before .before .before .before .before .before .before .before .before .before .before .if2 .next) ps j q (z .quiet) small),
-      z .entries,
-      length-set ps j q ∙ z .players,
+      upto-next (a .b) (a .records .now) (a .out .now) (l .i) (l .book) (l .out) (l .at) (l .inv .1) (i .1) answer (closing n es j t last o) (p .last .0) (p .result) e (p .ensures),
+      quiet-keep (c .before .before .before .before .before .before .before .before .before .before .before .before .before .if3 .next) ps j q (z .0 .quiet) small refl,
+      z .0 .entries,
+      length-set ps j q ∙ z .0 .players,
+      z .1,
+      kept .0,
+      kept .1,
     )
 
 same-length : tie.Need-same-length Inv-loop2 μ-loop2 Inv-loop3 μ-loop3 Inv-loop μ-loop
 same-length c =
-    let a = c .before .before .before .before .before .args in
+    let a = c .before .before .before .before .before .before .before .before .before .before .before .args in
     let l = c .before .loop in
     upto-length (a .b) (a .records .now) (a .out .now) (l .i) (l .book) (l .out) (l .at) (l .inv .1) (omega arith)
 
 returns-2 : tie.Need-returns-2 Inv-loop2 μ-loop2 Inv-loop3 μ-loop3 Inv-loop μ-loop
 unfolding fits blockBook blockWritten blockBuffer recordCount
 returns-2 c =
-    let a = c .before .before .before .before .before .args in
+    let a = c .before .before .before .before .before .before .before .before .before .before .before .args in
     let l = c .before .loop in
     let h : 19 * recordCount (a .records .now) ≤ length (a .out .now) = omega arith in
     rw (le-leb (19 * recordCount (a .records .now)) (length (a .out .now)) h)
@@ -725,45 +625,40 @@ answer-block-spec =
     μ-loop
     add-count
     returns
+    fill-places-requires
+    rows-of-requires
     loop-holds
     mul-from
     add-lesser
     lesser-requires
     add-i
-    sub-decode
-    part-decode-start
-    part-decode-end
-    decode-requires
-    enum-known-code
-    refused-requires
-    put-line-requires
-    loop-less
-    loop-again
-    enum-known-e
+    sub-read-record
+    part-read-record-start
+    part-read-record-end
+    read-record-requires
     cast-j
     mul-asking
     element-copy-out-asking
-    gate-of-requires
-    enum-known-code-2
-    refused-requires-2
-    put-line-requires-2
-    loop-less-2
-    loop-again-2
-    enum-told
-    put-line-requires-3
-    loop-less-3
-    loop-again-3
-    enum-told-2
+    gate-code-requires
+    early-answer-requires
+    put-line-requires
+    loop-less
+    loop-again
     loop2-holds
     mul-player
     element-copy-out-player
-    cast-k
     due-requires
+    cast-k
     mul-x
     element-copy-out-x
     ended-meters-requires
     mul-y
     element-set-from-y
+    row-of-requires
+    mul-rows
+    array-set-from-rows
+    mul-shutting
+    element-copy-out-shutting
     shut-player-requires
     mul-q
     element-set-from-q
@@ -774,62 +669,41 @@ answer-block-spec =
     loop2-again
     mul-player-2
     element-copy-out-player-2
-    wire-of-requires
-    reach-of-requires
+    cast-k-2
+    further-code-requires
+    reach-at-requires
     at-most-64-requires
     looked-at-requires
     loop3-holds
-    mul-x-2
-    element-copy-out-x-2
-    consider-requires
-    add-k
+    mul-row
+    array-copy-out-row
+    consider-row-requires
+    add-e
     loop3-less
     loop3-again
-    mul-x-3
-    element-copy-out-x-3
-    cast-begin-on
-    begin-on-requires
+    begin-code-requires
+    blank-entry-requires
+    mul-held
+    element-copy-out-held
+    cast-act
+    act-requires
     mul-y-2
     element-set-from-y-2
-    noted-last-requires
+    row-of-requires-2
+    mul-rows-2
+    array-set-from-rows-2
     mul-q-2
     element-set-from-q-2
     end-of-requires
     sooner-requires-2
-    put-line-requires-4
-    loop-less-4
-    loop-again-4
-    begin-code-requires
-    refused-requires-3
-    noted-last-requires-2
+    put-line-requires-2
+    loop-less-2
+    loop-again-2
+    refused-requires
     mul-q-3
     element-set-from-q-3
-    put-line-requires-5
-    loop-less-5
-    loop-again-5
-    cast-k-2
-    mul-x-4
-    element-copy-out-x-4
-    further-on-requires
-    mul-y-3
-    element-set-from-y-3
-    noted-last-requires-3
-    mul-q-4
-    element-set-from-q-4
-    end-of-requires-2
-    sooner-requires-3
-    put-line-requires-6
-    loop-less-6
-    loop-again-6
-    blank-entry-requires
-    further-on-requires-2
-    noted-last-requires-4
-    mul-q-5
-    element-set-from-q-5
-    end-of-requires-3
-    sooner-requires-4
-    put-line-requires-7
-    loop-less-7
-    loop-again-7
+    put-line-requires-3
+    loop-less-3
+    loop-again-3
     same-length
     returns-2)
