@@ -1,14 +1,17 @@
--- Laws of decimal digits: how many a number has, one digit less, and digits laid into a buffer from the last to the first.
+-- Laws of decimal digits: how many a number has, one or two digits less, and digits laid into a buffer, one by one from the last to the first, or two at a time.
 use Prim.Native.Nat.{ℕ, zero, suc, _+_, _-_, _*_, _/_, _%_, _<_, _≤_, _^_, zero-le, suc-le-suc}
-use mathlib.Core.Path.{_≡_, refl, sym, ap, _∙_}
+use mathlib.Core.Path.{_≡_, refl, sym, ap, ap₂, _∙_}
+use mathlib.Core.Bool.{true, _&&_}
 use mathlib.Core.Logic.{_⊎_, inl, inr, ⊎-elim}
 use mathlib.Core.List.{List, [], _∷_, _++_, append-assoc, append-nil}
 use native.Mathlib.Numerals.{add-one}
 use native.Mathlib.Nat.{pow-succ', one-le-pow}
 use native.Mathlib.Omega.{arith}
 use lib.ListN.{length, getD, set, take, drop, length-append, length-take, length-drop}
+use lib.Dec.{eqb}
 use lib.Seq.{length-take-le, take-all, set-at, set-split, append-snoc, drop-cons, take-suc, take-length, drop-length}
-use borrow.Author.Tests.{lt-ltb, le-ltb}
+use borrow.Author.Tests.{lt-ltb, le-ltb, eqb-true}
+use Rattle.model.specs.Proof.Facts.{and-left, and-right}
 use Rattle.laws.specs.Buffer.{lay, lay-nil, lay-lay}
 use Rattle.book.specs.declared.Answer.{Answer}
 use Rattle.model.specs.Run.{decimalIn, decimal, line}
@@ -277,3 +280,23 @@ ten-laid l at n lo hi room =
     let e = two (n % 10000 % 100) in
     rw (lay-lay l at a b (at + 2) refl (omega arith), lay-lay l at (a ++ b) c (at + 4) refl (omega arith), lay-lay l at (a ++ b ++ c) d (at + 6) refl (omega arith), lay-lay l at (a ++ b ++ c ++ d) e (at + 8) refl (omega arith), four-more 6 n (omega arith), four-more 2 (n / 10000) (omega arith), two-only 0 (n / 10000 / 10000) (omega arith) (omega arith))
     refl
+
+refused-length : length refusedEnd ≡ 7
+unfolding refusedEnd decimal decimalIn
+refused-length = refl
+
+refused-parts : (d s e u t : List ℕ) → d ++ s ++ e ++ s ++ u ++ t ≡ d ++ (s ++ e ++ s ++ u ++ t)
+refused-parts d s e u t = simp append-assoc
+
+-- a code and what stands behind it in a refusal are the line of that answer
+pub refused-line : (a : Answer) (l o : List ℕ) (at f : ℕ) → at + 19 ≤ length l → a .code < 256 → (eqb (a .entry) 255 && eqb (a .until) 0) ≡ true → f ≡ at + length (decimal (a .code)) → o ≡ lay l at (decimal (a .code)) → (f + 7 ≡ at + length (line a)) × (lay o f refusedEnd ≡ lay l at (line a))
+unfolding line refusedEnd
+refused-line a l o at f room c t ef e =
+    let d = decimal (a .code) in
+    let sp : List ℕ = 32 ∷ [] in
+    let n : a .entry ≡ 255 = eqb-true (a .entry) 255 (and-left (eqb (a .entry) 255) (eqb (a .until) 0) t) in
+    let u : a .until ≡ 0 = eqb-true (a .until) 0 (and-right (eqb (a .entry) 255) (eqb (a .until) 0) t) in
+    let w : line a ≡ d ++ refusedEnd =
+    ap₂ (λ (x y : ℕ). d ++ sp ++ decimal x ++ sp ++ decimal y ++ (10 ∷ [])) n u ∙ refused-parts d sp (decimal 255) (decimal 0) (10 ∷ []) in
+    let k : length (line a) ≡ length d + 7 = ap length w ∙ length-append d refusedEnd ∙ ap (λ (x : ℕ). length d + x) refused-length in
+    (omega arith, ap (λ (x : List ℕ). lay x f refusedEnd) e ∙ lay-lay l at d refusedEnd f (sym ef) (omega (arith, byte-places (a .code) c, refused-length)) ∙ ap (lay l at) (sym w))

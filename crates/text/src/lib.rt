@@ -1,5 +1,5 @@
 // The line of one answer, as the run program prints it, put into a lent buffer.
-// Digits are written in place from the last to the first, once their number is known.
+// What most lines hold (a code, an entry, a time of ten digits, a refusal's end) is written with no loop.
 ghost use mathlib.Core.Path.{_≡_};
 ghost use Prim.Native.Nat.{_+_, _<_, _≤_};
 ghost use lib.ListN.{length};
@@ -43,7 +43,7 @@ fn places(n: u32) -> usize
     10
 }
 
-// Two digits of a number.
+// Puts two digits, the first of which may be 0.
 fn put_two(out: &mut [u8], at: usize, n: u32)
     requires { ⌜ (at + 2 ≤ length (now out)) × (n < 100) ⌝ }
     ensures { λ r. ⌜ now (out .exit) ≡ lay (now (out .entry)) at (two n) ⌝ }
@@ -69,6 +69,7 @@ fn put_ten(out: &mut [u8], at: usize, n: u32)
 }
 
 // Puts the digits of n into out from at, and answers the place behind them.
+// Where there are not ten, from the last to the first, once their number is known.
 fn put_number(out: &mut [u8], at: usize, n: u32) -> usize
     requires { ⌜ at + length (decimal n) ≤ length (now out) ⌝ }
     ensures { λ r. ⌜ (r ≡ at + length (decimal n)) × (now (out .exit) ≡ lay (now (out .entry)) at (decimal n)) ⌝ }
