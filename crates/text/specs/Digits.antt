@@ -1,17 +1,21 @@
--- Laws of decimal digits: how many a number has, one digit less, and digits laid into a buffer from the last to the first.
+-- Laws of decimal digits: how many a number has, one or two digits less, and digits laid into a buffer, one by one from the last to the first, or two at a time.
 use Prim.Native.Nat.{ℕ, zero, suc, _+_, _-_, _*_, _/_, _%_, _<_, _≤_, _^_, zero-le, suc-le-suc}
-use mathlib.Core.Path.{_≡_, refl, sym, ap, _∙_}
+use mathlib.Core.Path.{_≡_, refl, sym, ap, ap₂, _∙_}
+use mathlib.Core.Bool.{true, _&&_}
 use mathlib.Core.Logic.{_⊎_, inl, inr, ⊎-elim}
-use mathlib.Core.List.{List, [], _∷_, _++_, append-assoc}
+use mathlib.Core.List.{List, [], _∷_, _++_, append-assoc, append-nil}
 use native.Mathlib.Numerals.{add-one}
 use native.Mathlib.Nat.{pow-succ', one-le-pow}
 use native.Mathlib.Omega.{arith}
 use lib.ListN.{length, getD, set, take, drop, length-append, length-take, length-drop}
+use lib.Dec.{eqb}
 use lib.Seq.{length-take-le, take-all, set-at, set-split, append-snoc, drop-cons, take-suc, take-length, drop-length}
-use borrow.Author.Tests.{lt-ltb, le-ltb}
+use borrow.Author.Tests.{lt-ltb, le-ltb, eqb-true}
+use Rattle.model.specs.Proof.Facts.{and-left, and-right}
 use Rattle.laws.specs.Buffer.{lay, lay-nil, lay-lay}
 use Rattle.book.specs.declared.Answer.{Answer}
 use Rattle.model.specs.Run.{decimalIn, decimal, line}
+use Rattle.text.specs.Lines.{refusedEnd}
 
 pub below : (a b : ℕ) → (a < b) ⊎ (b ≤ a)
 below a zero = inr zero-le
@@ -198,50 +202,101 @@ line-laid a l o₁ o₂ o₃ at f s t room c e ef e₁ es e₂ et e₃ =
     ∙ lay-word l at w′ (decimal (a .until)) (s + 1) t 10 (omega arith) et (omega arith) in
     (rw (length-append, length-append, n′) (omega arith), r)
 
--- a number of ten digits, from the first to the last
-pub ten-digits : (n : ℕ) → 1000000000 ≤ n → n < 4294967296 → decimal n ≡ (48 + n / 10 / 10 / 10 / 10 / 10 / 10 / 10 / 10 / 10 % 10) ∷ (48 + n / 10 / 10 / 10 / 10 / 10 / 10 / 10 / 10 % 10) ∷ (48 + n / 10 / 10 / 10 / 10 / 10 / 10 / 10 % 10) ∷ (48 + n / 10 / 10 / 10 / 10 / 10 / 10 % 10) ∷ (48 + n / 10 / 10 / 10 / 10 / 10 % 10) ∷ (48 + n / 10 / 10 / 10 / 10 % 10) ∷ (48 + n / 10 / 10 / 10 % 10) ∷ (48 + n / 10 / 10 % 10) ∷ (48 + n / 10 % 10) ∷ (48 + n % 10) ∷ []
-unfolding decimal
-ten-digits n lo hi =
-    let l1 : 100000000 ≤ n / 10 = omega arith in
-    let u1 : n / 10 < 429496730 = omega arith in
-    let l2 : 10000000 ≤ n / 10 / 10 = omega arith in
-    let u2 : n / 10 / 10 < 42949673 = omega arith in
-    let l3 : 1000000 ≤ n / 10 / 10 / 10 = omega arith in
-    let u3 : n / 10 / 10 / 10 < 4294968 = omega arith in
-    let l4 : 100000 ≤ n / 10 / 10 / 10 / 10 = omega arith in
-    let u4 : n / 10 / 10 / 10 / 10 < 429497 = omega arith in
-    let l5 : 10000 ≤ n / 10 / 10 / 10 / 10 / 10 = omega arith in
-    let u5 : n / 10 / 10 / 10 / 10 / 10 < 42950 = omega arith in
-    let l6 : 1000 ≤ n / 10 / 10 / 10 / 10 / 10 / 10 = omega arith in
-    let u6 : n / 10 / 10 / 10 / 10 / 10 / 10 < 4295 = omega arith in
-    let l7 : 100 ≤ n / 10 / 10 / 10 / 10 / 10 / 10 / 10 = omega arith in
-    let u7 : n / 10 / 10 / 10 / 10 / 10 / 10 / 10 < 430 = omega arith in
-    let l8 : 10 ≤ n / 10 / 10 / 10 / 10 / 10 / 10 / 10 / 10 = omega arith in
-    let u8 : n / 10 / 10 / 10 / 10 / 10 / 10 / 10 / 10 < 43 = omega arith in
-    let l9 : 1 ≤ n / 10 / 10 / 10 / 10 / 10 / 10 / 10 / 10 / 10 = omega arith in
-    let u9 : n / 10 / 10 / 10 / 10 / 10 / 10 / 10 / 10 / 10 < 5 = omega arith in
-    let top : n / 10 / 10 / 10 / 10 / 10 / 10 / 10 / 10 / 10 ≡ n / 10 / 10 / 10 / 10 / 10 / 10 / 10 / 10 / 10 % 10 = omega arith in
-    rw (digit-more 9 n (omega arith), digit-more 8 (n / 10) (omega arith), digit-more 7 (n / 10 / 10) (omega arith), digit-more 6 (n / 10 / 10 / 10) (omega arith), digit-more 5 (n / 10 / 10 / 10 / 10) (omega arith), digit-more 4 (n / 10 / 10 / 10 / 10 / 10) (omega arith), digit-more 3 (n / 10 / 10 / 10 / 10 / 10 / 10) (omega arith), digit-more 2 (n / 10 / 10 / 10 / 10 / 10 / 10 / 10) (omega arith), digit-more 1 (n / 10 / 10 / 10 / 10 / 10 / 10 / 10 / 10) (omega arith), digit-one 0 (n / 10 / 10 / 10 / 10 / 10 / 10 / 10 / 10 / 10) (omega arith))
-    (ap (λ (x : ℕ). (48 + x) ∷ (48 + n / 10 / 10 / 10 / 10 / 10 / 10 / 10 / 10 % 10) ∷ (48 + n / 10 / 10 / 10 / 10 / 10 / 10 / 10 % 10) ∷ (48 + n / 10 / 10 / 10 / 10 / 10 / 10 % 10) ∷ (48 + n / 10 / 10 / 10 / 10 / 10 % 10) ∷ (48 + n / 10 / 10 / 10 / 10 % 10) ∷ (48 + n / 10 / 10 / 10 % 10) ∷ (48 + n / 10 / 10 % 10) ∷ (48 + n / 10 % 10) ∷ (48 + n % 10) ∷ []) top)
+-- two digits of a number below 100, zeros in front too
+unfoldable pub two : ℕ → List ℕ
+two n = (48 + n / 10) ∷ (48 + n % 10) ∷ []
 
--- ten bytes, one behind the other
-pub ten-laid : (l : List ℕ) (at d0 d1 d2 d3 d4 d5 d6 d7 d8 d9 : ℕ) → at + 10 ≤ length l → set (set (set (set (set (set (set (set (set (set l at d0) (at + 1) d1) (at + 2) d2) (at + 3) d3) (at + 4) d4) (at + 5) d5) (at + 6) d6) (at + 7) d7) (at + 8) d8) (at + 9) d9 ≡ lay l at (d0 ∷ d1 ∷ d2 ∷ d3 ∷ d4 ∷ d5 ∷ d6 ∷ d7 ∷ d8 ∷ d9 ∷ [])
-ten-laid l at d0 d1 d2 d3 d4 d5 d6 d7 d8 d9 h =
-    let e0 : set l at d0 ≡ lay l at (d0 ∷ []) = lay-one l at d0 (omega arith) in
-    let e1 : set (set l at d0) (at + 1) d1 ≡ lay l at (d0 ∷ d1 ∷ []) = ap (λ (x : List ℕ). set x (at + 1) d1) e0 ∙ lay-end l at (d0 ∷ []) (at + 1) d1 refl (omega arith) in
-    let e2 : set (set (set l at d0) (at + 1) d1) (at + 2) d2 ≡ lay l at (d0 ∷ d1 ∷ d2 ∷ []) = ap (λ (x : List ℕ). set x (at + 2) d2) e1 ∙ lay-end l at (d0 ∷ d1 ∷ []) (at + 2) d2 refl (omega arith) in
-    let e3 : set (set (set (set l at d0) (at + 1) d1) (at + 2) d2) (at + 3) d3 ≡ lay l at (d0 ∷ d1 ∷ d2 ∷ d3 ∷ []) = ap (λ (x : List ℕ). set x (at + 3) d3) e2 ∙ lay-end l at (d0 ∷ d1 ∷ d2 ∷ []) (at + 3) d3 refl (omega arith) in
-    let e4 : set (set (set (set (set l at d0) (at + 1) d1) (at + 2) d2) (at + 3) d3) (at + 4) d4 ≡ lay l at (d0 ∷ d1 ∷ d2 ∷ d3 ∷ d4 ∷ []) = ap (λ (x : List ℕ). set x (at + 4) d4) e3 ∙ lay-end l at (d0 ∷ d1 ∷ d2 ∷ d3 ∷ []) (at + 4) d4 refl (omega arith) in
-    let e5 : set (set (set (set (set (set l at d0) (at + 1) d1) (at + 2) d2) (at + 3) d3) (at + 4) d4) (at + 5) d5 ≡ lay l at (d0 ∷ d1 ∷ d2 ∷ d3 ∷ d4 ∷ d5 ∷ []) = ap (λ (x : List ℕ). set x (at + 5) d5) e4 ∙ lay-end l at (d0 ∷ d1 ∷ d2 ∷ d3 ∷ d4 ∷ []) (at + 5) d5 refl (omega arith) in
-    let e6 : set (set (set (set (set (set (set l at d0) (at + 1) d1) (at + 2) d2) (at + 3) d3) (at + 4) d4) (at + 5) d5) (at + 6) d6 ≡ lay l at (d0 ∷ d1 ∷ d2 ∷ d3 ∷ d4 ∷ d5 ∷ d6 ∷ []) = ap (λ (x : List ℕ). set x (at + 6) d6) e5 ∙ lay-end l at (d0 ∷ d1 ∷ d2 ∷ d3 ∷ d4 ∷ d5 ∷ []) (at + 6) d6 refl (omega arith) in
-    let e7 : set (set (set (set (set (set (set (set l at d0) (at + 1) d1) (at + 2) d2) (at + 3) d3) (at + 4) d4) (at + 5) d5) (at + 6) d6) (at + 7) d7 ≡ lay l at (d0 ∷ d1 ∷ d2 ∷ d3 ∷ d4 ∷ d5 ∷ d6 ∷ d7 ∷ []) = ap (λ (x : List ℕ). set x (at + 7) d7) e6 ∙ lay-end l at (d0 ∷ d1 ∷ d2 ∷ d3 ∷ d4 ∷ d5 ∷ d6 ∷ []) (at + 7) d7 refl (omega arith) in
-    let e8 : set (set (set (set (set (set (set (set (set l at d0) (at + 1) d1) (at + 2) d2) (at + 3) d3) (at + 4) d4) (at + 5) d5) (at + 6) d6) (at + 7) d7) (at + 8) d8 ≡ lay l at (d0 ∷ d1 ∷ d2 ∷ d3 ∷ d4 ∷ d5 ∷ d6 ∷ d7 ∷ d8 ∷ []) = ap (λ (x : List ℕ). set x (at + 8) d8) e7 ∙ lay-end l at (d0 ∷ d1 ∷ d2 ∷ d3 ∷ d4 ∷ d5 ∷ d6 ∷ d7 ∷ []) (at + 8) d8 refl (omega arith) in
-    let e9 : set (set (set (set (set (set (set (set (set (set l at d0) (at + 1) d1) (at + 2) d2) (at + 3) d3) (at + 4) d4) (at + 5) d5) (at + 6) d6) (at + 7) d7) (at + 8) d8) (at + 9) d9 ≡ lay l at (d0 ∷ d1 ∷ d2 ∷ d3 ∷ d4 ∷ d5 ∷ d6 ∷ d7 ∷ d8 ∷ d9 ∷ []) = ap (λ (x : List ℕ). set x (at + 9) d9) e8 ∙ lay-end l at (d0 ∷ d1 ∷ d2 ∷ d3 ∷ d4 ∷ d5 ∷ d6 ∷ d7 ∷ d8 ∷ []) (at + 9) d9 refl (omega arith) in
-    e9
+two-only : (k n : ℕ) → 10 ≤ n → n < 100 → decimalIn (suc (suc k)) n ≡ two n
+unfolding two
+two-only k n lo hi = digit-more (suc k) n lo ∙ ap (λ (s : List ℕ). s ++ ((48 + n % 10) ∷ [])) (digit-one k (n / 10) (omega arith))
 
--- a number of one digit
-pub one-laid : (l : List ℕ) (at n : ℕ) → n < 10 → at < length l → (at + 1 ≡ at + length (decimal n)) × (set l at (48 + n % 10) ≡ lay l at (decimal n))
+-- the last two digits, and those before them
+two-more : (k n : ℕ) → 100 ≤ n → decimalIn (suc (suc k)) n ≡ decimalIn k (n / 100) ++ two (n % 100)
+unfolding two
+two-more k n lo =
+    let a : n / 10 / 10 ≡ n / 100 = omega arith in
+    let b : n / 10 % 10 ≡ n % 100 / 10 = omega arith in
+    let c : n % 10 ≡ n % 100 % 10 = omega arith in
+    rw (digit-more (suc k) n (omega arith), digit-more k (n / 10) (omega arith), a, b, c)
+    (append-assoc (decimalIn k (n / 100)) ((48 + n % 100 / 10) ∷ []) ((48 + n % 100 % 10) ∷ []))
+
+-- the last four
+four-more : (k n : ℕ) → 10000 ≤ n → decimalIn (suc (suc (suc (suc k)))) n ≡ decimalIn k (n / 10000) ++ two (n % 10000 / 100) ++ two (n % 10000 % 100)
+four-more k n lo =
+    let a : n / 100 / 100 ≡ n / 10000 = omega arith in
+    let b : n / 100 % 100 ≡ n % 10000 / 100 = omega arith in
+    let c : n % 100 ≡ n % 10000 % 100 = omega arith in
+    rw (two-more (suc (suc k)) n (omega arith), two-more k (n / 100) (omega arith), a, b, c) refl
+
+-- bytes set one behind the other, from the place at + k on
+written : List ℕ → ℕ → ℕ → List ℕ → List ℕ
+written l at k [] = l
+written l at k (v ∷ s) = written (set l (at + k) v) at (suc k) s
+
+written-laid : (l : List ℕ) (at k : ℕ) (w s : List ℕ) → length w ≡ k → at + k + length s ≤ length l → written (lay l at w) at k s ≡ lay l at (w ++ s)
+unfolding written
+written-laid l at k w [] e h = ap (lay l at) (sym (append-nil w))
+written-laid l at k w (v ∷ s) e h =
+    ap (λ (x : List ℕ). written x at (suc k) s) (lay-end l at w (at + k) v (ap (λ (x : ℕ). at + x) e) (omega arith))
+    ∙ written-laid l at (suc k) (w ++ (v ∷ [])) s (rw (length-append) (omega arith)) (omega arith)
+    ∙ ap (lay l at) (append-assoc w (v ∷ []) s)
+
+-- the first byte, and those behind it
+bytes-laid : (l : List ℕ) (at v : ℕ) (s : List ℕ) → at + 1 + length s ≤ length l → written (set l at v) at 1 s ≡ lay l at (v ∷ s)
+bytes-laid l at v s h =
+    ap (λ (x : List ℕ). written x at 1 s) (lay-one l at v (omega arith))
+    ∙ written-laid l at 1 (v ∷ []) s refl h
+
+pub two-laid : (l : List ℕ) (at n : ℕ) → at + 2 ≤ length l → set (set l at (48 + n / 10)) (at + 1) (48 + n % 10) ≡ lay l at (two n)
+unfolding two written
+two-laid l at n h = bytes-laid l at (48 + n / 10) ((48 + n % 10) ∷ []) (omega arith)
+
+pub refused-laid : (l : List ℕ) (at : ℕ) → at + 7 ≤ length l → set (set (set (set (set (set (set l at 32) (at + 1) 50) (at + 2) 53) (at + 3) 53) (at + 4) 32) (at + 5) 48) (at + 6) 10 ≡ lay l at refusedEnd
+unfolding refusedEnd decimal decimalIn written
+refused-laid l at h = bytes-laid l at 32 (50 ∷ 53 ∷ 53 ∷ 32 ∷ 48 ∷ 10 ∷ []) (omega arith)
+
+-- a number of one digit, of two, of three, and of ten
+pub one-laid : (l : List ℕ) (at n : ℕ) → n < 10 → at < length l → set l at (48 + n) ≡ lay l at (decimal n)
 unfolding decimal
-one-laid l at n h room =
-    let e : decimalIn 10 n ≡ (48 + n % 10) ∷ [] = digit-one 9 n h ∙ ap (λ (x : ℕ). (48 + x) ∷ []) (omega arith) in
-    (sym (ap (λ (x : List ℕ). at + length x) e), lay-one l at (48 + n % 10) room ∙ ap (lay l at) (sym e))
+one-laid l at n h room = lay-one l at (48 + n) room ∙ ap (lay l at) (sym (digit-one 9 n h))
+
+pub two-digits : (n : ℕ) → 10 ≤ n → n < 100 → two n ≡ decimal n
+unfolding decimal
+two-digits n lo hi = sym (two-only 8 n lo hi)
+
+pub three-laid : (l : List ℕ) (at n : ℕ) → 100 ≤ n → n < 1000 → at + 3 ≤ length l → lay (set l at (48 + n / 100)) (at + 1) (two (n % 100)) ≡ lay l at (decimal n)
+unfolding decimal two
+three-laid l at n lo hi room =
+    rw (two-more 8 n lo, digit-one 7 (n / 100) (omega arith), lay-one l at (48 + n / 100) (omega arith))
+    (lay-lay l at ((48 + n / 100) ∷ []) (two (n % 100)) (at + 1) refl (omega arith))
+
+pub ten-laid : (l : List ℕ) (at n : ℕ) → 1000000000 ≤ n → n < 4294967296 → at + 10 ≤ length l → lay (lay (lay (lay (lay l at (two (n / 10000 / 10000))) (at + 2) (two (n / 10000 % 10000 / 100))) (at + 4) (two (n / 10000 % 10000 % 100))) (at + 6) (two (n % 10000 / 100))) (at + 8) (two (n % 10000 % 100)) ≡ lay l at (decimal n)
+unfolding decimal two
+ten-laid l at n lo hi room =
+    let a = two (n / 10000 / 10000) in
+    let b = two (n / 10000 % 10000 / 100) in
+    let c = two (n / 10000 % 10000 % 100) in
+    let d = two (n % 10000 / 100) in
+    let e = two (n % 10000 % 100) in
+    rw (lay-lay l at a b (at + 2) refl (omega arith), lay-lay l at (a ++ b) c (at + 4) refl (omega arith), lay-lay l at (a ++ b ++ c) d (at + 6) refl (omega arith), lay-lay l at (a ++ b ++ c ++ d) e (at + 8) refl (omega arith), four-more 6 n (omega arith), four-more 2 (n / 10000) (omega arith), two-only 0 (n / 10000 / 10000) (omega arith) (omega arith))
+    refl
+
+refused-length : length refusedEnd ≡ 7
+unfolding refusedEnd decimal decimalIn
+refused-length = refl
+
+refused-parts : (d s e u t : List ℕ) → d ++ s ++ e ++ s ++ u ++ t ≡ d ++ (s ++ e ++ s ++ u ++ t)
+refused-parts d s e u t = simp append-assoc
+
+-- a code and what stands behind it in a refusal are the line of that answer
+pub refused-line : (a : Answer) (l o : List ℕ) (at f : ℕ) → at + 19 ≤ length l → a .code < 256 → (eqb (a .entry) 255 && eqb (a .until) 0) ≡ true → f ≡ at + length (decimal (a .code)) → o ≡ lay l at (decimal (a .code)) → (f + 7 ≡ at + length (line a)) × (lay o f refusedEnd ≡ lay l at (line a))
+unfolding line refusedEnd
+refused-line a l o at f room c t ef e =
+    let d = decimal (a .code) in
+    let sp : List ℕ = 32 ∷ [] in
+    let n : a .entry ≡ 255 = eqb-true (a .entry) 255 (and-left (eqb (a .entry) 255) (eqb (a .until) 0) t) in
+    let u : a .until ≡ 0 = eqb-true (a .until) 0 (and-right (eqb (a .entry) 255) (eqb (a .until) 0) t) in
+    let w : line a ≡ d ++ refusedEnd =
+    ap₂ (λ (x y : ℕ). d ++ sp ++ decimal x ++ sp ++ decimal y ++ (10 ∷ [])) n u ∙ refused-parts d sp (decimal 255) (decimal 0) (10 ∷ []) in
+    let k : length (line a) ≡ length d + 7 = ap length w ∙ length-append d refusedEnd ∙ ap (λ (x : ℕ). length d + x) refused-length in
+    (omega arith, ap (λ (x : List ℕ). lay x f refusedEnd) e ∙ lay-lay l at d refusedEnd f (sym ef) (omega (arith, byte-places (a .code) c, refused-length)) ∙ ap (lay l at) (sym w))

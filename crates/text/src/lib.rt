@@ -1,11 +1,12 @@
 // The line of one answer, as the run program prints it, put into a lent buffer.
-// Digits are written in place from the last to the first, once their number is known.
+// What most lines hold (a code, an entry, a time of ten digits, a refusal's end) is written with no loop.
 ghost use mathlib.Core.Path.{_≡_};
-ghost use Prim.Native.Nat.{_+_, _%_, _≤_};
+ghost use Prim.Native.Nat.{_+_, _<_, _≤_};
 ghost use lib.ListN.{length};
 ghost use Rattle.laws.specs.Buffer.{lay};
 ghost use Rattle.model.specs.Run.{decimal};
-ghost use Rattle.text.specs.Lines.{lineEnd, lineBuffer};
+ghost use Rattle.text.specs.Digits.{two};
+ghost use Rattle.text.specs.Lines.{lineEnd, lineBuffer, refusedEnd};
 use book::Answer;
 
 // How many digits a number has.
@@ -42,47 +43,37 @@ fn places(n: u32) -> usize
     10
 }
 
-fn digit(n: u32) -> u8
-    ensures { λ r. ⌜ r ≡ 48 + n % 10 ⌝ }
+// Puts two digits, the first of which may be 0.
+fn put_two(out: &mut [u8], at: usize, n: u32)
+    requires { ⌜ (at + 2 ≤ length (now out)) × (n < 100) ⌝ }
+    ensures { λ r. ⌜ now (out .exit) ≡ lay (now (out .entry)) at (two n) ⌝ }
 {
-    (48 + n % 10) as u8
+    out[at] = (48 + n / 10) as u8;
+    out[at + 1] = (48 + n % 10) as u8;
 }
 
-// Puts the digits of a number that has ten of them, as most times have, with no loop.
+// Puts the digits of a number that has ten of them, as most times have, two at a time.
 fn put_ten(out: &mut [u8], at: usize, n: u32)
     requires { ⌜ (at + 10 ≤ length (now out)) × (1000000000 ≤ n) ⌝ }
     ensures { λ r. ⌜ now (out .exit) ≡ lay (now (out .entry)) at (decimal n) ⌝ }
 {
-    let a = n / 10;
-    let b = a / 10;
-    let c = b / 10;
-    let d = c / 10;
-    let e = d / 10;
-    let f = e / 10;
-    let g = f / 10;
-    let h = g / 10;
-    let i = h / 10;
-    out[at] = digit(i);
-    out[at + 1] = digit(h);
-    out[at + 2] = digit(g);
-    out[at + 3] = digit(f);
-    out[at + 4] = digit(e);
-    out[at + 5] = digit(d);
-    out[at + 6] = digit(c);
-    out[at + 7] = digit(b);
-    out[at + 8] = digit(a);
-    out[at + 9] = digit(n);
+    let upper = n / 10000;
+    let low = n % 10000;
+    let top = upper / 10000;
+    let mid = upper % 10000;
+    put_two(out, at, top);
+    put_two(out, at + 2, mid / 100);
+    put_two(out, at + 4, mid % 100);
+    put_two(out, at + 6, low / 100);
+    put_two(out, at + 8, low % 100);
 }
 
 // Puts the digits of n into out from at, and answers the place behind them.
+// Where there are not ten, from the last to the first, once their number is known.
 fn put_number(out: &mut [u8], at: usize, n: u32) -> usize
     requires { ⌜ at + length (decimal n) ≤ length (now out) ⌝ }
     ensures { λ r. ⌜ (r ≡ at + length (decimal n)) × (now (out .exit) ≡ lay (now (out .entry)) at (decimal n)) ⌝ }
 {
-    if n < 10 {
-        out[at] = digit(n);
-        return at + 1;
-    }
     if 1000000000 <= n {
         put_ten(out, at, n);
         return at + 10;
@@ -92,10 +83,42 @@ fn put_number(out: &mut [u8], at: usize, n: u32) -> usize
     let mut rest = n;
     while 0 < left {
         left = left - 1;
-        out[at + left] = digit(rest);
+        out[at + left] = (48 + rest % 10) as u8;
         rest = rest / 10;
     }
     at + count
+}
+
+// The same for a byte, as a code and an entry are, with no loop.
+fn put_byte(out: &mut [u8], at: usize, n: u8) -> usize
+    requires { ⌜ at + length (decimal n) ≤ length (now out) ⌝ }
+    ensures { λ r. ⌜ (r ≡ at + length (decimal n)) × (now (out .exit) ≡ lay (now (out .entry)) at (decimal n)) ⌝ }
+{
+    if n < 10 {
+        out[at] = 48 + n;
+        return at + 1;
+    }
+    if n < 100 {
+        put_two(out, at, n as u32);
+        return at + 2;
+    }
+    out[at] = 48 + n / 100;
+    put_two(out, at + 1, (n % 100) as u32);
+    at + 3
+}
+
+// Puts what stands behind the code of a refusal, whose entry is 255 and until 0.
+fn put_refused(out: &mut [u8], at: usize)
+    requires { ⌜ at + 7 ≤ length (now out) ⌝ }
+    ensures { λ r. ⌜ now (out .exit) ≡ lay (now (out .entry)) at refusedEnd ⌝ }
+{
+    out[at] = 32;
+    out[at + 1] = 50;
+    out[at + 2] = 53;
+    out[at + 3] = 53;
+    out[at + 4] = 32;
+    out[at + 5] = 48;
+    out[at + 6] = 10;
 }
 
 // Wrong and ruled out: a digit, a space or the line's end left out, zeros in front, a byte touched past the line, and a line begun where it may not fit.
@@ -108,9 +131,13 @@ pub fn put_line(out: &mut [u8], at: usize, a: Answer) -> usize
     if out.len() - 19 < at {
         return at;
     }
-    let first = put_number(out, at, a.code as u32);
+    let first = put_byte(out, at, a.code);
+    if (a.entry == 255) & (a.until == 0) {
+        put_refused(out, first);
+        return first + 7;
+    }
     out[first] = 32;
-    let second = put_number(out, first + 1, a.entry as u32);
+    let second = put_byte(out, first + 1, a.entry);
     out[second] = 32;
     let third = put_number(out, second + 1, a.until);
     out[third] = 10;

@@ -1,12 +1,13 @@
 -- `text::put_number` meets its contract. The invariant: the digits from `left` on are laid, and `rest` has those before them.
-use Prim.Native.Nat.{ℕ, _+_, _-_, _≤_}
+use Prim.Native.Nat.{ℕ, _+_, _-_, _%_, _≤_}
 use mathlib.Core.Path.{_≡_, refl, ap, _∙_}
 use native.Mathlib.Nat.{add-zero}
 use native.Mathlib.Omega.{arith}
-use lib.ListN.{length, set, take, drop, length-set}
+use lib.ListN.{length, take, drop, length-set}
+use borrow.Author.Needs.{needs}
 use Rattle.laws.specs.Buffer.{lay}
 use Rattle.model.specs.Run.{decimalIn, decimal}
-use Rattle.text.specs.Digits.{places-one, places-more, one-laid, digits-start, digits-laid, length-lay}
+use Rattle.text.specs.Digits.{places-more, digits-start, digits-laid}
 use Rattle.text.proofs.put_number.Statement.{statement}
 use Rattle.text.proofs.put_number.Tie as tie
 
@@ -20,44 +21,24 @@ Inv-loop out₀ at n count left₀ rest₀ out left rest =
 abbrev μ-loop : tie.MeasureT-loop
 μ-loop out₀ at n count left₀ rest₀ out left rest = left
 
-digit-requires : tie.Need-digit-requires Inv-loop μ-loop
-digit-requires c κs = tt
-
-slice-write-out : tie.Need-slice-write-out Inv-loop μ-loop
-slice-write-out c = omega (arith, places-one (c .before .before .before .args .n) (c .before .if1 .taken))
-
-add-result : tie.Need-add-result Inv-loop μ-loop
-add-result c = omega (arith, places-one (c .before .before .before .args .n) (c .before .if1 .taken))
-
-same-length : tie.Need-same-length Inv-loop μ-loop
-same-length c = simp length-set
-
-returns : tie.Need-returns Inv-loop μ-loop
-returns c =
-    let a = c .before .before .before .args in
-    let w = one-laid (a .out .now) (a .at) (a .n) (c .before .if1 .taken) (omega (arith, places-one (a .n) (c .before .if1 .taken))) in
-    (w .0, ap (set (a .out .now) (a .at)) (c .digit .ensures) ∙ w .1)
-
 put-ten-requires : tie.Need-put-ten-requires Inv-loop μ-loop
 put-ten-requires c κs =
-    let n = c .before .before .before .before .args .n in
+    let n = c .before .before .before .args .n in
     let k = places-more 9 n (omega arith) (omega arith) (omega arith) in
     (omega arith, omega arith)
 
-add-result-2 : tie.Need-add-result-2 Inv-loop μ-loop
-add-result-2 c =
-    let n = c .before .before .before .before .before .before .before .args .n in
+add-result : tie.Need-add-result Inv-loop μ-loop
+add-result c =
+    let n = c .before .before .before .before .before .before .args .n in
     let k = places-more 9 n (omega arith) (omega arith) (omega arith) in
     omega arith
 
-same-length-2 : tie.Need-same-length-2 Inv-loop μ-loop
-same-length-2 c =
-    let a = c .before .before .before .before .before .before .before .args in
-    ap length (c .before .before .put-ten .ensures) ∙ length-lay (a .out .now) (a .at) (decimal (a .n)) (omega arith)
+same-length : tie.Need-same-length Inv-loop μ-loop
+same-length c = search needs
 
-returns-2 : tie.Need-returns-2 Inv-loop μ-loop
-returns-2 c =
-    let n = c .before .before .before .before .before .before .before .args .n in
+returns : tie.Need-returns Inv-loop μ-loop
+returns c =
+    let n = c .before .before .before .before .before .before .args .n in
     let k = places-more 9 n (omega arith) (omega arith) (omega arith) in
     (omega arith, c .before .before .put-ten .ensures)
 
@@ -66,46 +47,45 @@ places-requires c κs = tt
 
 loop-holds : tie.Need-loop-holds Inv-loop μ-loop
 loop-holds c =
-    let a = c .before .before .before .before .args in
+    let a = c .before .before .before .args in
     let s = digits-start (a .n) (a .out .now) (a .at) (c .places .result) (omega arith) (c .places .ensures) in
     (omega arith, refl, s .0, s .1)
 
 sub-left : tie.Need-sub-left Inv-loop μ-loop
 sub-left c = omega arith
 
-digit-requires-2 : tie.Need-digit-requires-2 Inv-loop μ-loop
-digit-requires-2 c κs = tt
-
 add-out : tie.Need-add-out Inv-loop μ-loop
 add-out c = omega arith
 
-slice-write-out-2 : tie.Need-slice-write-out-2 Inv-loop μ-loop
-slice-write-out-2 c = omega arith
+cast-out : tie.Need-cast-out Inv-loop μ-loop
+cast-out c = omega arith
+
+add-out-2 : tie.Need-add-out-2 Inv-loop μ-loop
+add-out-2 c = omega arith
+
+slice-write-out : tie.Need-slice-write-out Inv-loop μ-loop
+slice-write-out c = omega arith
 
 loop-less : tie.Need-loop-less Inv-loop μ-loop
 loop-less c = omega arith
 
 loop-again : tie.Need-loop-again Inv-loop μ-loop
 loop-again c =
-    let a = c .before .before .before .before .before .before .before .args in
-    let l = c .before .before .loop in
+    let a = c .before .before .before .before .before .args in
+    let l = c .before .loop in
     let k : l .left - 1 + 1 ≡ l .left = omega arith in
-    let t = digits-laid (a .n) (a .out .now) (l .out) (a .at) (l .left - 1) (l .rest) (omega arith) (omega arith) (rw k (l .inv .2)) (rw k (l .inv .3)) in (
-      omega arith,
-      length-set (l .out) (a .at + (l .left - 1)) (c .digit2 .result) ∙ l .inv .1,
-      t .0,
-      ap (set (l .out) (a .at + (l .left - 1))) (c .digit2 .ensures) ∙ t .1,
-    )
+    let t = digits-laid (a .n) (a .out .now) (l .out) (a .at) (l .left - 1) (l .rest) (omega arith) (omega arith) (rw k (l .inv .2)) (rw k (l .inv .3)) in
+    (omega arith, length-set (l .out) (a .at + (l .left - 1)) (48 + l .rest % 10) ∙ l .inv .1, t .0, t .1)
 
-add-result-3 : tie.Need-add-result-3 Inv-loop μ-loop
-add-result-3 c = omega arith
+add-result-2 : tie.Need-add-result-2 Inv-loop μ-loop
+add-result-2 c = omega arith
 
-same-length-3 : tie.Need-same-length-3 Inv-loop μ-loop
-same-length-3 c = c .before .loop .inv .1
+same-length-2 : tie.Need-same-length-2 Inv-loop μ-loop
+same-length-2 c = c .before .loop .inv .1
 
-returns-3 : tie.Need-returns-3 Inv-loop μ-loop
-returns-3 c =
-    let a = c .before .before .before .before .before .before .args in
+returns-2 : tie.Need-returns-2 Inv-loop μ-loop
+returns-2 c =
+    let a = c .before .before .before .before .before .args in
     let l = c .before .loop in
     let z : l .left ≡ 0 = omega arith in (
       ap (λ (k : ℕ). a .at + k) (c .before .before .places .ensures),
@@ -118,23 +98,19 @@ put-number-spec =
     (tie.spec
     Inv-loop
     μ-loop
-    digit-requires
-    slice-write-out
+    put-ten-requires
     add-result
     same-length
     returns
-    put-ten-requires
-    add-result-2
-    same-length-2
-    returns-2
     places-requires
     loop-holds
     sub-left
-    digit-requires-2
     add-out
-    slice-write-out-2
+    cast-out
+    add-out-2
+    slice-write-out
     loop-less
     loop-again
-    add-result-3
-    same-length-3
-    returns-3)
+    add-result-2
+    same-length-2
+    returns-2)

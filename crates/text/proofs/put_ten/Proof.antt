@@ -1,144 +1,58 @@
--- `text::put_ten` meets its contract: the ten digits, laid one behind the other.
-use Prim.Native.Nat.{_+_, _/_, _%_}
-use mathlib.Core.Path.{sym, ap, _∙_}
+-- `text::put_ten` meets its contract: five times two digits, laid one behind the other.
 use native.Mathlib.Omega.{arith}
-use lib.ListN.{length-set}
-use Rattle.laws.specs.Buffer.{lay}
-use Rattle.text.specs.Digits.{ten-digits, ten-laid}
+use Rattle.text.specs.Digits.{ten-laid}
 use borrow.Author.Needs.{needs}
 use Rattle.text.proofs.put_ten.Statement.{statement}
 use Rattle.text.proofs.put_ten.Tie as tie
 
-digit-requires : tie.Need-digit-requires
-digit-requires c κs = search needs
+put-two-requires : tie.Need-put-two-requires
+put-two-requires c κs = search needs
 
-slice-write-out : tie.Need-slice-write-out
-slice-write-out c = search needs
+add-put-two : tie.Need-add-put-two
+add-put-two c = search needs
 
-digit-requires-2 : tie.Need-digit-requires-2
-digit-requires-2 c κs = search needs
+put-two-requires-2 : tie.Need-put-two-requires-2
+put-two-requires-2 c κs = search needs
 
-add-out : tie.Need-add-out
-add-out c = search needs
+add-put-two-2 : tie.Need-add-put-two-2
+add-put-two-2 c = search needs
 
-slice-write-out-2 : tie.Need-slice-write-out-2
-slice-write-out-2 c = simp length-set (omega arith)
+put-two-requires-3 : tie.Need-put-two-requires-3
+put-two-requires-3 c κs = search needs
 
-digit-requires-3 : tie.Need-digit-requires-3
-digit-requires-3 c κs = search needs
+add-put-two-3 : tie.Need-add-put-two-3
+add-put-two-3 c = search needs
 
-add-out-2 : tie.Need-add-out-2
-add-out-2 c = search needs
+put-two-requires-4 : tie.Need-put-two-requires-4
+put-two-requires-4 c κs = search needs
 
-slice-write-out-3 : tie.Need-slice-write-out-3
-slice-write-out-3 c = simp length-set (omega arith)
+add-put-two-4 : tie.Need-add-put-two-4
+add-put-two-4 c = search needs
 
-digit-requires-4 : tie.Need-digit-requires-4
-digit-requires-4 c κs = search needs
-
-add-out-3 : tie.Need-add-out-3
-add-out-3 c = search needs
-
-slice-write-out-4 : tie.Need-slice-write-out-4
-slice-write-out-4 c = simp length-set (omega arith)
-
-digit-requires-5 : tie.Need-digit-requires-5
-digit-requires-5 c κs = search needs
-
-add-out-4 : tie.Need-add-out-4
-add-out-4 c = search needs
-
-slice-write-out-5 : tie.Need-slice-write-out-5
-slice-write-out-5 c = simp length-set (omega arith)
-
-digit-requires-6 : tie.Need-digit-requires-6
-digit-requires-6 c κs = search needs
-
-add-out-5 : tie.Need-add-out-5
-add-out-5 c = search needs
-
-slice-write-out-6 : tie.Need-slice-write-out-6
-slice-write-out-6 c = simp length-set (omega arith)
-
-digit-requires-7 : tie.Need-digit-requires-7
-digit-requires-7 c κs = search needs
-
-add-out-6 : tie.Need-add-out-6
-add-out-6 c = search needs
-
-slice-write-out-7 : tie.Need-slice-write-out-7
-slice-write-out-7 c = simp length-set (omega arith)
-
-digit-requires-8 : tie.Need-digit-requires-8
-digit-requires-8 c κs = search needs
-
-add-out-7 : tie.Need-add-out-7
-add-out-7 c = search needs
-
-slice-write-out-8 : tie.Need-slice-write-out-8
-slice-write-out-8 c = simp length-set (omega arith)
-
-digit-requires-9 : tie.Need-digit-requires-9
-digit-requires-9 c κs = search needs
-
-add-out-8 : tie.Need-add-out-8
-add-out-8 c = search needs
-
-slice-write-out-9 : tie.Need-slice-write-out-9
-slice-write-out-9 c = simp length-set (omega arith)
-
-digit-requires-10 : tie.Need-digit-requires-10
-digit-requires-10 c κs = search needs
-
-add-out-9 : tie.Need-add-out-9
-add-out-9 c = search needs
-
-slice-write-out-10 : tie.Need-slice-write-out-10
-slice-write-out-10 c = simp length-set (omega arith)
+put-two-requires-5 : tie.Need-put-two-requires-5
+put-two-requires-5 c κs = search needs
 
 same-length : tie.Need-same-length
-same-length c = simp length-set
+same-length c = search needs
 
 returns : tie.Need-returns
 returns c =
-    let a = c .before .before .before .before .before .before .before .before .before .before .before .args in
-    let l = a .out .now in
-    rw (c .before .before .before .before .before .before .before .before .before .digit .ensures, c .before .before .before .before .before .before .before .before .digit2 .ensures, c .before .before .before .before .before .before .before .digit3 .ensures, c .before .before .before .before .before .before .digit4 .ensures, c .before .before .before .before .before .digit5 .ensures, c .before .before .before .before .digit6 .ensures, c .before .before .before .digit7 .ensures, c .before .before .digit8 .ensures, c .before .digit9 .ensures, c .digit10 .ensures)
-    (ten-laid l (a .at) (48 + a .n / 10 / 10 / 10 / 10 / 10 / 10 / 10 / 10 / 10 % 10) (48 + a .n / 10 / 10 / 10 / 10 / 10 / 10 / 10 / 10 % 10) (48 + a .n / 10 / 10 / 10 / 10 / 10 / 10 / 10 % 10) (48 + a .n / 10 / 10 / 10 / 10 / 10 / 10 % 10) (48 + a .n / 10 / 10 / 10 / 10 / 10 % 10) (48 + a .n / 10 / 10 / 10 / 10 % 10) (48 + a .n / 10 / 10 / 10 % 10) (48 + a .n / 10 / 10 % 10) (48 + a .n / 10 % 10) (48 + a .n % 10) (omega arith)
-    ∙ ap (lay l (a .at)) (sym (ten-digits (a .n) (omega arith) (omega arith))))
+    let a = c .before .before .before .before .before .before .before .before .before .before .before .before .before .before .before .before .before .before .before .before .before .args in
+    rw (c .before .before .put-two5 .ensures, c .before .before .before .before .before .before .put-two4 .ensures, c .before .before .before .before .before .before .before .before .before .before .put-two3 .ensures, c .before .before .before .before .before .before .before .before .before .before .before .before .before .before .put-two2 .ensures, c .before .before .before .before .before .before .before .before .before .before .before .before .before .before .before .before .before .before .put-two .ensures)
+    (ten-laid (a .out .now) (a .at) (a .n) (omega arith) (omega arith) (omega arith))
 
 pub put-ten-spec : {M : Type 1} → statement M
 put-ten-spec =
     tie.close
     (tie.spec
-    digit-requires
-    slice-write-out
-    digit-requires-2
-    add-out
-    slice-write-out-2
-    digit-requires-3
-    add-out-2
-    slice-write-out-3
-    digit-requires-4
-    add-out-3
-    slice-write-out-4
-    digit-requires-5
-    add-out-4
-    slice-write-out-5
-    digit-requires-6
-    add-out-5
-    slice-write-out-6
-    digit-requires-7
-    add-out-6
-    slice-write-out-7
-    digit-requires-8
-    add-out-7
-    slice-write-out-8
-    digit-requires-9
-    add-out-8
-    slice-write-out-9
-    digit-requires-10
-    add-out-9
-    slice-write-out-10
+    put-two-requires
+    add-put-two
+    put-two-requires-2
+    add-put-two-2
+    put-two-requires-3
+    add-put-two-3
+    put-two-requires-4
+    add-put-two-4
+    put-two-requires-5
     same-length
     returns)
