@@ -18,7 +18,9 @@ use Rattle.rules.specs.declared.Rank.{Rank}
 use Rattle.rules.specs.Rules.{asRank}
 use Rattle.choose.specs.declared.Best.{Best}
 use Rattle.choose.specs.Best.{considered, rankNumbers}
+use Rattle.book.specs.Blank.{noEntry}
 use Rattle.rows.specs.declared.Row.{Row}
+use Rattle.rows.specs.Mapped.{mapped-at, mapped-set}
 
 -- a flagged count is used up, or the seconds are
 unfoldable pub spent : Limits → Meters → Bool
@@ -161,14 +163,10 @@ row-considered asset parent kind t i l m best h = rw (window-grants t l m h) ref
 -- ## Rows are a map over the entries
 
 pub row-at : (es : List Entry) (k : ℕ) → k < length es → getD (map rowOfEntry es) k noRow ≡ rowOf (limitsAt es k) (metersAt es k)
-row-at [] k h = absurd (omega arith)
-row-at (e ∷ es) zero h = refl
-row-at (e ∷ es) (suc k) h = row-at es k (omega arith)
+row-at es k h = mapped-at rowOfEntry es k noEntry noRow h
 
 pub rows-set : (es : List Entry) (k : ℕ) (y : Entry) → map rowOfEntry (set es k y) ≡ set (map rowOfEntry es) k (rowOfEntry y)
-rows-set [] k y = refl
-rows-set (e ∷ es) zero y = refl
-rows-set (e ∷ es) (suc k) y = ap (λ (rows : List Row). rowOfEntry e ∷ rows) (rows-set es k y)
+rows-set es k y = mapped-set rowOfEntry es k y
 
 pub rows-length : (es : List Entry) → length (map rowOfEntry es) ≡ length es
 rows-length es = length-map es rowOfEntry

@@ -4,15 +4,19 @@ ghost use mathlib.Core.Path.{_≡_};
 ghost use mathlib.Core.Bool.{cond};
 ghost use mathlib.Core.List.{map};
 ghost use Rattle.model.specs.Events.{noEnd};
+ghost use Rattle.rows.specs.Ends.{endOf, endOfPlayer};
 ghost use Rattle.rows.specs.Rows.{windowOf, rowOf, rowOfEntry, rowConsidered};
 use book::Entry;
 use book::Limits;
 use book::Meters;
+use book::Open;
+use book::Player;
 use choose::Best;
 use rules::Rank;
 use rules::flags_of;
 use rules::least;
 use rules::one;
+use rules::pick32;
 use rules::rank_of;
 use rules::ranks_before;
 use rules::when;
@@ -141,4 +145,25 @@ pub fn consider_row(
         at: i,
         rank: rank,
     }
+}
+
+// When a use ends, if there is one; else later than any time.
+pub fn end_of(o: Open) -> u32
+    ensures { λ r. ⌜ r ≡ endOf o ⌝ }
+{
+    pick32(o.on == 1, o.until, 4294967295)
+}
+
+pub fn ends_of(players: [Player; 16]) -> [u32; 16]
+    ensures { λ r. ⌜ r ≡ map endOfPlayer players ⌝ }
+{
+    let mut ends = [0u32; 16];
+    let mut i: usize = 0;
+    while i < 16 {
+        let p = players[i];
+        let o = p.current;
+        ends[i] = end_of(o);
+        i = i + 1;
+    }
+    ends
 }

@@ -5,26 +5,25 @@ use mathlib.Core.Logic.{⊎-elim}
 use mathlib.Core.Bool.{Bool, true, false, not, _&&_, _||_, cond, false≢true}
 use mathlib.Core.List.{List, map}
 use lib.ListN.{length, getD, set, length-map, List·getD-map, List·getD-eq-default}
-use lib.Seq.{getD-set-same, getD-set-other}
+use lib.Seq.{getD-set-same, getD-set-other, map-set-same}
 use lib.Dec.{leb, ltb}
 use native.Mathlib.Numerals.{add-one}
 use native.Mathlib.Nat.{min-le-left, min-le-right}
 use native.Mathlib.Omega.{arith}
-use borrow.Author.Tests.{lt-leb, lt-ltb, le-leb}
+use borrow.Author.Tests.{lt-leb, lt-ltb, le-leb, le-ltb, leb-true, leb-false}
 use Rattle.book.specs.declared.Open.{Open}
 use Rattle.book.specs.declared.Player.{Player}
 use Rattle.book.specs.declared.Book.{Book}
 use Rattle.book.specs.Blank.{noPlayer}
-use Rattle.model.specs.Book.{playerAt}
+use Rattle.model.specs.Book.{playerAt, latestTime}
 use Rattle.model.specs.Events.{isOn, expired, shut, openAt, anyOf}
+use Rattle.model.specs.Proof.Facts.{on-test, and-left, and-right}
 use Rattle.uses.specs.Due.{dueAt, anyDue}
+use Rattle.rows.specs.Mapped.{mapped-at, mapped-set}
+use Rattle.rows.specs.Ends.{never, endOf, endOfPlayer, end-reached}
 use Rattle.text.specs.Digits.{below}
 use Rattle.events.specs.Settle.{settledBook, settledTo, settle-all, settled-length, player-next}
 use Rattle.events.specs.Step.{settled-none}
-
--- later than any until
-abbrev pub never : ℕ
-never = 4294967295
 
 -- no use of these players ends before n
 abbrev Late : ℕ → Player → Type 0
@@ -32,10 +31,6 @@ Late n p = isOn (p .current) ≡ true → n ≤ p .current .until
 
 abbrev pub Quiet : ℕ → List Player → Type 0
 Quiet n ps = (i : ℕ) → Late n (playerAt ps i)
-
--- when a use ends, if there is one
-abbrev pub endOf : Open → ℕ
-endOf o = cond (isOn o) (o .until) never
 
 -- when a use ends that settling at t leaves open
 unfoldable pub runsUntil : ℕ → Open → ℕ
@@ -171,7 +166,7 @@ module _ (t : ℕ) (b m : Book) (entries : length (b .entries) ≡ 64) (players 
       }
 
 -- the bound, one player further
-pub end-turn : (t p : ℕ) (b n : Book) (next : ℕ) → n ≡ settledTo t p b → p < length (b .players) → next ≡ leastEnd t (b .players) p
+end-turn : (t p : ℕ) (b n : Book) (next : ℕ) → n ≡ settledTo t p b → p < length (b .players) → next ≡ leastEnd t (b .players) p
     → min next (runsUntil t (openAt (n .players) p)) ≡ leastEnd t (b .players) (p + 1)
 unfolding settledTo
 end-turn t p b n next e h k =
@@ -179,3 +174,54 @@ end-turn t p b n next e h k =
     ap (λ (x : ℕ). min x (runsUntil t (openAt (n .players) p))) k
     ∙ ap (λ (x : Open). min (leastEnd t (b .players) p) (runsUntil t x)) o
     ∙ sym (end-next t (b .players) p)
+
+-- ## The ends kept beside the book
+
+least-never : (t : ℕ) (ps : List Player) (n : ℕ) → leastEnd t ps n ≤ never
+unfolding leastEnd
+least-never t ps zero = omega arith
+least-never t ps (suc n) = let h = min-le-left (leastEnd t ps n) (runsUntil t (openAt ps n)) in omega (arith, least-never t ps n)
+
+-- a use that is due does not run on, another one runs until its end
+runs-due : (t : ℕ) (o : Open) → expired t o ≡ true → runsUntil t o ≡ never
+unfolding runsUntil expired
+runs-due t o h = rw (and-left (isOn o) (leb (o .until) t) h, le-ltb t (o .until) (leb-true (o .until) t (and-right (isOn o) (leb (o .until) t) h)))
+
+runs-on : (t : ℕ) (o : Open) → expired t o ≡ false → runsUntil t o ≡ endOf o
+unfolding runsUntil expired
+runs-on t o h =
+    on-test (isOn o)
+    (λ on. let z : leb (o .until) t ≡ false = rw on at h in rw (on, lt-ltb t (o .until) (leb-false (o .until) t z)))
+    (λ off. rw off)
+
+module _ (t p : ℕ) (b n : Book) (next : ℕ) (is-book : n ≡ settledTo t p b) (few : p < length (b .players)) (is-next : next ≡ leastEnd t (b .players) p) where
+  -- the bound, one player further: a use that is due adds nothing, another one its end
+  pub end-due : expired t (openAt (n .players) p) ≡ true → next ≡ leastEnd t (b .players) (p + 1)
+  end-due d =
+      let h : next ≤ never = omega (arith, is-next, least-never t (b .players) p) in
+      let e : min next never ≡ next = omega arith in
+      sym e ∙ ap (min next) (sym (runs-due t (openAt (n .players) p) d)) ∙ end-turn t p b n next is-book few is-next
+
+  pub end-on : expired t (openAt (n .players) p) ≡ false → min next (endOf (openAt (n .players) p)) ≡ leastEnd t (b .players) (p + 1)
+  end-on d = ap (min next) (sym (runs-on t (openAt (n .players) p) d)) ∙ end-turn t p b n next is-book few is-next
+
+module _ (ps : List Player) (ends : List ℕ) (is-ends : ends ≡ map endOfPlayer ps) where
+  -- whether the end kept for a player is reached
+  pub reached : (t p : ℕ) → t ≤ latestTime → p < length ps → leb (getD ends p 0) t ≡ expired t (openAt ps p)
+  reached t p h l = ap (λ (x : List ℕ). leb (getD x p 0) t) is-ends ∙ ap (λ (x : ℕ). leb x t) (mapped-at endOfPlayer ps p noPlayer 0 l) ∙ end-reached t (openAt ps p) h
+
+  pub kept-end : (p : ℕ) → p < length ps → getD ends p 0 ≡ endOf (openAt ps p)
+  kept-end p l = ap (λ (x : List ℕ). getD x p 0) is-ends ∙ mapped-at endOfPlayer ps p noPlayer 0 l
+
+  -- a player and its end stored at the same place
+  pub ends-next : (p : ℕ) (q : Player) (end : ℕ) → end ≡ endOf (q .current) → set ends p end ≡ map endOfPlayer (set ps p q)
+  ends-next p q end e = ap (λ (x : List ℕ). set x p end) is-ends ∙ ap (set (map endOfPlayer ps) p) e ∙ sym (mapped-set endOfPlayer ps p q)
+
+  -- a player stored with the same use
+  pub ends-same : (p : ℕ) (q : Player) → q .current ≡ openAt ps p → ends ≡ map endOfPlayer (set ps p q)
+  ends-same p q e = is-ends ∙ sym (map-set-same endOfPlayer ps p q noPlayer (ap endOf e))
+
+-- a use that is closed has no end
+pub shut-end : (t : ℕ) (p : Player) → expired t (p .current) ≡ true → never ≡ endOf (shut t p .current)
+unfolding shut
+shut-end t p d = rw d

@@ -1,7 +1,7 @@
 // A block of event records answered one after the other, each by one line of text.
 // The loop over the records owns the book: no function on the way of one event takes or returns it, and what an event changes is stored in place.
-// Beside the book stand a lower bound of the next until, so that settling costs one comparison where nothing is due, a row for each entry with what
-// the choice asks of it, and the assets by number.
+// Beside the book stand what an event would else work out anew: a lower bound of the next until, so that settling costs one comparison where nothing is
+// due, the end of each player's use, a row for each entry with what the choice asks of it, and the assets by number.
 ghost use mathlib.Core.Path.{_≡_};
 ghost use mathlib.Core.Bool.{cond};
 ghost use Prim.Native.Nat.{_+_, _*_, _≤_, min};
@@ -9,7 +9,6 @@ ghost use lib.ListN.{length};
 ghost use lib.Dec.{eqb, ltb};
 ghost use Rattle.model.specs.Events.{refusal, isOn};
 ghost use Rattle.runner.specs.Block.{blockBook, blockWritten, blockBuffer};
-ghost use Rattle.runner.specs.Quiet.{endOf, runsUntil};
 ghost use Rattle.runner.specs.Ways.{earlyAnswer, beginCode, looked, actOn};
 use book::Answer;
 use book::Book;
@@ -26,16 +25,16 @@ use places::reach_at;
 use records::gate_code;
 use records::read_record;
 use rows::consider_row;
+use rows::end_of;
+use rows::ends_of;
 use rows::row_of;
 use rows::rows_of;
 use rules::Rank;
 use rules::at_most_64;
-use rules::pick32;
 use text::put_line;
 use uses::Part;
 use uses::begin_on;
 use uses::continue_on;
-use uses::due;
 use uses::ended_meters;
 use uses::shut_player;
 use uses::stop_on;
@@ -56,20 +55,6 @@ fn sooner(a: u32, b: u32) -> u32
     ensures { λ r. ⌜ r ≡ min a b ⌝ }
 {
     if a < b { a } else { b }
-}
-
-// When a use ends, if there is one.
-fn end_of(o: Open) -> u32
-    ensures { λ r. ⌜ r ≡ endOf o ⌝ }
-{
-    pick32(o.on == 1, o.until, 4294967295)
-}
-
-// When a use ends that settling at t leaves open.
-fn runs_until(o: Open, t: u32) -> u32
-    ensures { λ r. ⌜ r ≡ runsUntil t o ⌝ }
-{
-    pick32((o.on == 1) & (t < o.until), o.until, 4294967295)
 }
 
 fn refused(code: u8) -> Answer
@@ -162,6 +147,8 @@ pub fn answer_block(b: Book, records: &[u8], out: &mut [u8]) -> Block
     fill_places(&mut places, &mut parents, assets, book.assetcount);
     let entries = book.entries;
     let mut rows = rows_of(entries);
+    let players = book.players;
+    let mut ends = ends_of(players);
     let mut next: u32 = 0;
     let mut at: usize = 0;
     let mut i: usize = 0;
@@ -183,9 +170,10 @@ pub fn answer_block(b: Book, records: &[u8], out: &mut [u8]) -> Block
                 next = 4294967295;
                 let mut p: usize = 0;
                 while p < 16 {
-                    let player = book.players[p];
-                    let o = player.current;
-                    if due(o, t) {
+                    let end = ends[p];
+                    if end <= t {
+                        let player = book.players[p];
+                        let o = player.current;
                         let k = o.entry as usize;
                         if k < 64 {
                             let x = book.entries[k];
@@ -203,8 +191,10 @@ pub fn answer_block(b: Book, records: &[u8], out: &mut [u8]) -> Block
                         let shutting = book.players[p];
                         let q = shut_player(shutting, t);
                         book.players[p] = q;
+                        ends[p] = 4294967295;
+                    } else {
+                        next = sooner(next, end);
                     }
-                    next = sooner(next, runs_until(o, t));
                     p = p + 1;
                 }
             }
@@ -267,7 +257,9 @@ pub fn answer_block(b: Book, records: &[u8], out: &mut [u8]) -> Block
                     current: current,
                 };
                 book.players[j] = q;
-                next = sooner(next, end_of(current));
+                let end = end_of(current);
+                ends[j] = end;
+                next = sooner(next, end);
                 at = put_line(out, at, answer);
             } else {
                 let answer = refused(code);

@@ -1,29 +1,27 @@
-use mathlib.Core.Path.{_≡_, refl, sym, ap, ap₂, _∙_}
-use mathlib.Core.List.{List, _++_, map}
+-- `rows::rows_of` meets its contract: the first i places are filled.
+use mathlib.Core.Path.{_≡_}
 use Prim.Native.Nat.{ℕ, _-_, _≤_}
 use native.Mathlib.Omega.{arith}
-use lib.ListN.{length, getD, set, replicate, List·getD-eq-default}
-use Rattle.laws.specs.Count.{listed}
-use Rattle.laws.specs.Loops.{listed-turn, length-mapped}
-use Rattle.laws.specs.TableLaws.{slots-back}
-use Rattle.rows.specs.declared.Row.{Row}
-use Rattle.rows.specs.Rows.{rowOfEntry, noRow, row-at, rows-length}
+use lib.ListN.{length}
 use borrow.Author.Needs.{needs}
+use Rattle.laws.specs.Loops.{length-mapped}
+use Rattle.book.specs.Blank.{noEntry}
+use Rattle.rows.specs.Rows.{rowOfEntry, noRow}
+use Rattle.rows.specs.Mapped.{filledTo, filled-none, filled-turn, filled-all}
 use Rattle.rows.proofs.rows_of.Statement.{statement}
 use Rattle.rows.proofs.rows_of.Tie as tie
 
 abbrev Inv-loop : tie.InvT-loop
-Inv-loop es rows₀ i₀ rows i = (i ≤ 64) × (rows ≡ listed (λ k. getD (map rowOfEntry es) k noRow) i ++ replicate (64 - i) noRow)
+Inv-loop es rows₀ i₀ rows i = (i ≤ 64) × (rows ≡ filledTo rowOfEntry es noRow 64 i)
 
 abbrev μ-loop : tie.MeasureT-loop
 μ-loop es rows₀ i₀ rows i = 64 - i
 
-entries-64 : (c : tie.Start Inv-loop μ-loop) → length (c .args .t1) ≡ 64
-entries-64 c = search length-mapped
+whole : (c : tie.Start Inv-loop μ-loop) → length (c .args .t1) ≡ 64
+whole c = search length-mapped
 
 loop-holds : tie.Need-loop-holds Inv-loop μ-loop
-unfolding listed
-loop-holds c = (omega arith, refl)
+loop-holds c = (omega arith, filled-none rowOfEntry (c .args .t1) noRow 64)
 
 mul-e : tie.Need-mul-e Inv-loop μ-loop
 mul-e c = omega arith
@@ -48,23 +46,13 @@ loop-less c = omega arith
 
 loop-again : tie.Need-loop-again Inv-loop μ-loop
 loop-again c =
-    let es = c .before .before .before .before .before .before .args .t1 in
     let l = c .before .before .before .before .before .loop in
-    let n : length es ≡ 64 = entries-64 (c .before .before .before .before .before .before) in (
-      omega arith,
-      ap₂ (λ (t : List Row) (v : Row). set t (l .i) v) (l .inv .1) (c .row-of .ensures ∙ sym (row-at es (l .i) (omega arith)))
-          ∙ listed-turn (λ k. getD (map rowOfEntry es) k noRow) noRow 64 (l .i) (omega arith),
-    )
+    (omega arith, filled-turn rowOfEntry (c .before .before .before .before .before .before .args .t1) noEntry noRow 64 (l .i) (l .rows) (c .row-of .result) (whole (c .before .before .before .before .before .before)) (omega arith) (l .inv .1) (c .row-of .ensures))
 
 returns : tie.Need-returns Inv-loop μ-loop
 returns c =
-    let es = c .before .before .args .t1 in
     let l = c .before .loop in
-    let n : length (map rowOfEntry es) ≡ 64 = rows-length es ∙ entries-64 (c .before .before) in
-    let e : l .i ≡ 64 = omega arith in
-    l .inv .1
-    ∙ ap (λ (k : ℕ). listed (λ k. getD (map rowOfEntry es) k noRow) k ++ replicate (64 - k) noRow) e
-    ∙ slots-back (map rowOfEntry es) 64 0 noRow n (λ k h. List·getD-eq-default (map rowOfEntry es) noRow (omega arith))
+    filled-all rowOfEntry (c .before .before .args .t1) noRow 64 (l .i) (l .rows) (whole (c .before .before)) (omega arith) (l .inv .1)
 
 pub rows-of-spec : {M : Type 1} → statement M
 rows-of-spec =

@@ -1,4 +1,4 @@
--- `runner::answer_block` meets its contract. The invariant: the first i records are answered, no open use ends before next, and the rows are those of the entries.
+-- `runner::answer_block` meets its contract. The invariant: the first i records are answered, no open use ends before next, and the rows and ends are those of the entries and players.
 use Prim.Native.Nat.{ℕ, _+_, _*_, _-_, _/_, _%_, _<_, _≤_, min}
 use mathlib.Core.Path.{_≡_, refl, sym, ap, ap₂, subst, _∙_}
 use mathlib.Core.Logic.{⊎-elim}
@@ -10,7 +10,7 @@ use borrow.Author.Needs.{needs}
 use borrow.Author.Tests.{le-leb, lt-leb}
 use lib.ListN.{length, getD, set, take, length-set, List·getD-eq-default}
 use lib.Seq.{set-out}
-use lib.Dec.{ltb, eqb}
+use lib.Dec.{leb, ltb, eqb}
 use Rattle.laws.specs.Loops.{length-mapped}
 use Rattle.book.specs.declared.Answer.{Answer}
 use Rattle.book.specs.declared.Last.{Last}
@@ -21,13 +21,14 @@ use Rattle.book.specs.declared.Player.{Player}
 use Rattle.book.specs.declared.Meters.{Meters}
 use Rattle.book.specs.Blank.{noEntry}
 use Rattle.model.specs.Book.{limitsAt, metersAt, playerAt, latestTime}
-use Rattle.model.specs.Events.{stepRecord, eventIn, openAt, isOn, released, shut, chooseOf, anyOf}
+use Rattle.model.specs.Events.{stepRecord, eventIn, openAt, isOn, released, shut, expired, chooseOf, anyOf}
 use Rattle.model.specs.Run.{recordCount, recordAt}
 use Rattle.records.specs.Asked.{askedIn}
 use Rattle.records.specs.Arrived.{Came, code-takes}
 use Rattle.choose.specs.declared.Best.{Best}
 use Rattle.choose.specs.Best.{bestAfter, choiceAfter, considered, best-turn}
 use Rattle.rows.specs.declared.Row.{Row}
+use Rattle.rows.specs.Ends.{endOfPlayer, never}
 use Rattle.rows.specs.Rows.{rowOf, rowOfEntry, noRow, rowConsidered, row-at, row-considered}
 use Rattle.places.specs.Places.{placesOf, parentsOf, reachAt}
 use Rattle.uses.specs.declared.Part.{Part}
@@ -35,7 +36,7 @@ use Rattle.uses.specs.Uses.{placed, stored}
 use Rattle.events.specs.Settle.{settledBook, settledTo, settle-none, settle-turn, settled-length, settleOne, with}
 use Rattle.runner.specs.Block.{fits, blockBook, blockWritten, blockBuffer}
 use Rattle.runner.specs.Upto.{Upto, upto-none, upto-length, upto-next, upto-all, record-part}
-use Rattle.runner.specs.Quiet.{Quiet, leastEnd, quiet-start, Settled, settled-by, settled-still, end-turn, quiet-store, quiet-keep}
+use Rattle.runner.specs.Quiet.{Quiet, leastEnd, quiet-start, Settled, settled-by, settled-still, quiet-store, quiet-keep, end-due, end-on, reached, kept-end, ends-next, ends-same, shut-end}
 use Rattle.runner.specs.Ways.{beginCode, looked, looked-most, actOn, closing, Planned, planned-further, planned-begin, usable-is, parent-is, way-early, way-taken, released-due, released-far, released-still, shut-not, rows-next}
 use Rattle.runner.proofs.answer_block.Statement.{statement}
 use Rattle.runner.proofs.answer_block.Tie as tie
@@ -44,23 +45,27 @@ use Rattle.runner.proofs.answer_block.Tie as tie
 abbrev rowsFor : Book → List Row
 rowsFor b = map rowOfEntry (b .entries)
 
+-- and the ends
+abbrev endsFor : Book → List ℕ
+endsFor b = map endOfPlayer (b .players)
+
 abbrev Inv-loop2 : tie.InvT-loop2
-Inv-loop2 records out size count book₀ places parents rows₀ next₀ at i from to a j early t p₀ book rows next p = (p ≤ 16) × (book ≡ settledTo t p book₀) × (next ≡ leastEnd t (book₀ .players) p) × (rows ≡ rowsFor book)
+Inv-loop2 records out size count book₀ places parents rows₀ ends₀ next₀ at i from to a j early t p₀ book rows ends next p = (p ≤ 16) × (book ≡ settledTo t p book₀) × (next ≡ leastEnd t (book₀ .players) p) × (rows ≡ rowsFor book) × (ends ≡ endsFor book) × (length (book .players) ≡ 16)
 
 abbrev μ-loop2 : tie.MeasureT-loop2
-μ-loop2 records out size count book₀ places parents rows₀ next₀ at i from to a j early t p₀ book rows next p = 16 - p
+μ-loop2 records out size count book₀ places parents rows₀ ends₀ next₀ at i from to a j early t p₀ book rows ends next p = 16 - p
 
 abbrev Inv-loop3 : tie.InvT-loop3
-Inv-loop3 records out size count book places parents rows next at i from to a j early t o k code reach n best₀ e₀ best e = (e ≤ n) × (n ≤ 64) × (best ≡ bestAfter (book .entries) (a .asset) (reach .parent) (a .kind) t e)
+Inv-loop3 records out size count book places parents rows ends next at i from to a j early t o k code reach n best₀ e₀ best e = (e ≤ n) × (n ≤ 64) × (best ≡ bestAfter (book .entries) (a .asset) (reach .parent) (a .kind) t e)
 
 abbrev μ-loop3 : tie.MeasureT-loop3
-μ-loop3 records out size count book places parents rows next at i from to a j early t o k code reach n best₀ e₀ best e = n - e
+μ-loop3 records out size count book places parents rows ends next at i from to a j early t o k code reach n best₀ e₀ best e = n - e
 
 abbrev Inv-loop : tie.InvT-loop
-Inv-loop records out₀ size count book₀ places parents rows₀ next₀ at₀ i₀ out book rows next at i = (i ≤ count) × (Upto book₀ records out₀ i book out at) × (Quiet next (book .players)) × (length (book .entries) ≡ 64) × (length (book .players) ≡ 16) × (rows ≡ rowsFor book) × (book .assets ≡ book₀ .assets) × (book .assetcount ≡ book₀ .assetcount)
+Inv-loop records out₀ size count book₀ places parents rows₀ ends₀ next₀ at₀ i₀ out book rows ends next at i = (i ≤ count) × (Upto book₀ records out₀ i book out at) × (Quiet next (book .players)) × (length (book .entries) ≡ 64) × (length (book .players) ≡ 16) × (rows ≡ rowsFor book) × (book .assets ≡ book₀ .assets) × (book .assetcount ≡ book₀ .assetcount) × (ends ≡ endsFor book)
 
 abbrev μ-loop : tie.MeasureT-loop
-μ-loop records out₀ size count book₀ places parents rows₀ next₀ at₀ i₀ out book rows next at i = count - i
+μ-loop records out₀ size count book₀ places parents rows₀ ends₀ next₀ at₀ i₀ out book rows ends next at i = count - i
 
 entries-64 : (c : tie.Start Inv-loop2 μ-loop2 Inv-loop3 μ-loop3 Inv-loop μ-loop) → length (c .args .b .entries) ≡ 64
 entries-64 c = search length-mapped
@@ -69,48 +74,50 @@ players-16 : (c : tie.Start Inv-loop2 μ-loop2 Inv-loop3 μ-loop3 Inv-loop μ-lo
 players-16 c = search length-mapped
 
 -- in a turn there is room for one line more
-in-turn : (c : tie.In-loop Inv-loop2 μ-loop2 Inv-loop3 μ-loop3 Inv-loop μ-loop) → (c .before .loop .i + 1 ≤ (length (c .before .before .before .before .before .before .before .before .before .before .before .args .records .now) + 12) / 13) × (19 * (c .before .loop .i + 1) ≤ length (c .before .before .before .before .before .before .before .before .before .before .before .args .out .now))
+in-turn : (c : tie.In-loop Inv-loop2 μ-loop2 Inv-loop3 μ-loop3 Inv-loop μ-loop) → (c .before .loop .i + 1 ≤ (length (c .before .before .before .before .before .before .before .before .before .before .before .before .before .args .records .now) + 12) / 13) × (19 * (c .before .loop .i + 1) ≤ length (c .before .before .before .before .before .before .before .before .before .before .before .before .before .args .out .now))
 in-turn c = (omega arith, omega arith)
 
 -- the numbers of the record that is answered
-is-asked : (c : tie.After-gate-code Inv-loop2 μ-loop2 Inv-loop3 μ-loop3 Inv-loop μ-loop) → c .before .before .before .before .read-record .result ≡ askedIn (recordAt (c .before .before .before .before .before .before .before .before .before .before .before .before .before .before .before .before .before .before .args .records .now) (c .before .before .before .before .before .before .before .before .loop .i))
+is-asked : (c : tie.After-gate-code Inv-loop2 μ-loop2 Inv-loop3 μ-loop3 Inv-loop μ-loop) → c .before .before .before .before .read-record .result ≡ askedIn (recordAt (c .before .before .before .before .before .before .before .before .before .before .before .before .before .before .before .before .before .before .before .before .args .records .now) (c .before .before .before .before .before .before .before .before .loop .i))
 is-asked c =
     let l = c .before .before .before .before .before .before .before .before .loop in
-    c .before .before .before .before .read-record .ensures ∙ ap askedIn (record-part (c .before .before .before .before .before .before .before .before .before .before .before .before .before .before .before .before .before .before .args .records .now) (l .i) (c .before .before .before .before .before .before .lesser .result - 13 * l .i) (omega arith))
+    c .before .before .before .before .read-record .ensures ∙ ap askedIn (record-part (c .before .before .before .before .before .before .before .before .before .before .before .before .before .before .before .before .before .before .before .before .args .records .now) (l .i) (c .before .before .before .before .before .before .lesser .result - 13 * l .i) (omega arith))
 
-is-came : (c : tie.Else2 Inv-loop2 μ-loop2 Inv-loop3 μ-loop3 Inv-loop μ-loop) → Came (c .before .before .before .before .before .before .before .before .before .loop .book) (recordAt (c .before .before .before .before .before .before .before .before .before .before .before .before .before .before .before .before .before .before .before .args .records .now) (c .before .before .before .before .before .before .before .before .before .loop .i)) (c .before .before .before .before .before .read-record .result)
-is-came c = code-takes (c .before .before .before .before .before .before .before .before .before .loop .book) (recordAt (c .before .before .before .before .before .before .before .before .before .before .before .before .before .before .before .before .before .before .before .args .records .now) (c .before .before .before .before .before .before .before .before .before .loop .i)) (c .before .before .before .before .before .read-record .result) (c .before .gate-code .result) (is-asked (c .before)) (c .before .gate-code .ensures) (c .if2 .left)
+is-came : (c : tie.Else2 Inv-loop2 μ-loop2 Inv-loop3 μ-loop3 Inv-loop μ-loop) → Came (c .before .before .before .before .before .before .before .before .before .loop .book) (recordAt (c .before .before .before .before .before .before .before .before .before .before .before .before .before .before .before .before .before .before .before .before .before .args .records .now) (c .before .before .before .before .before .before .before .before .before .loop .i)) (c .before .before .before .before .before .read-record .result)
+is-came c = code-takes (c .before .before .before .before .before .before .before .before .before .loop .book) (recordAt (c .before .before .before .before .before .before .before .before .before .before .before .before .before .before .before .before .before .before .before .before .before .args .records .now) (c .before .before .before .before .before .before .before .before .before .loop .i)) (c .before .before .before .before .before .read-record .result) (c .before .gate-code .result) (is-asked (c .before)) (c .before .gate-code .ensures) (c .if2 .left)
 
 is-player : (c : tie.Else2 Inv-loop2 μ-loop2 Inv-loop3 μ-loop3 Inv-loop μ-loop) → c .before .before .before .before .before .read-record .result .player % 16 ≡ c .before .before .before .before .before .read-record .result .player
 is-player c = let h = is-came c .few-players in omega arith
 
-after-settle : (c : tie.Joined3 Inv-loop2 μ-loop2 Inv-loop3 μ-loop3 Inv-loop μ-loop) → (Settled (c .before .before .before .before .before .before .read-record .result .time) (c .before .before .before .before .before .before .before .before .before .before .loop .book) (c .if3 .book) (c .if3 .next)) × (c .if3 .rows ≡ rowsFor (c .if3 .book))
+after-settle : (c : tie.Joined3 Inv-loop2 μ-loop2 Inv-loop3 μ-loop3 Inv-loop μ-loop) → (Settled (c .before .before .before .before .before .before .read-record .result .time) (c .before .before .before .before .before .before .before .before .before .before .loop .book) (c .if3 .book) (c .if3 .next)) × (c .if3 .rows ≡ rowsFor (c .if3 .book)) × (c .if3 .ends ≡ endsFor (c .if3 .book))
 after-settle c =
     let l = c .before .before .before .before .before .before .before .before .before .before .loop in
     let t = c .before .before .before .before .before .before .read-record .result .time in
     ⊎-elim
     (λ w. (
-      settled-by t (l .book) (c .if3 .book) (l .inv .3) (l .inv .4) (c .if3 .next) (w .1 .p) (w .1 .inv .0) (w .2 .left) (w .3 ∙ w .1 .inv .1) (w .5 ∙ w .1 .inv .2),
+      settled-by t (l .book) (c .if3 .book) (l .inv .3) (l .inv .4) (c .if3 .next) (w .1 .p) (w .1 .inv .0) (w .2 .left) (w .3 ∙ w .1 .inv .1) (w .6 ∙ w .1 .inv .2),
       w .4 ∙ w .1 .inv .3 ∙ ap rowsFor (sym (w .3)),
+      w .5 ∙ w .1 .inv .4 ∙ ap endsFor (sym (w .3)),
     ))
     (λ w. (
-      settled-still t (l .book) (c .if3 .book) (l .inv .3) (l .inv .4) (l .next) (c .if3 .next) (l .inv .2) (w .0 .left) (w .1) (w .3),
+      settled-still t (l .book) (c .if3 .book) (l .inv .3) (l .inv .4) (l .next) (c .if3 .next) (l .inv .2) (w .0 .left) (w .1) (w .4),
       w .2 ∙ l .inv .5 ∙ ap rowsFor (sym (w .1)),
+      w .3 ∙ l .inv .8 ∙ ap endsFor (sym (w .1)),
     ))
     (c .if3 .came)
 
 -- settling leaves the assets
-assets-kept : (c : tie.Joined3 Inv-loop2 μ-loop2 Inv-loop3 μ-loop3 Inv-loop μ-loop) → (c .if3 .book .assets ≡ c .before .before .before .before .before .before .before .before .before .before .before .before .before .before .before .before .before .before .before .before .args .b .assets) × (c .if3 .book .assetcount ≡ c .before .before .before .before .before .before .before .before .before .before .before .before .before .before .before .before .before .before .before .before .args .b .assetcount)
+assets-kept : (c : tie.Joined3 Inv-loop2 μ-loop2 Inv-loop3 μ-loop3 Inv-loop μ-loop) → (c .if3 .book .assets ≡ c .before .before .before .before .before .before .before .before .before .before .before .before .before .before .before .before .before .before .before .before .before .before .args .b .assets) × (c .if3 .book .assetcount ≡ c .before .before .before .before .before .before .before .before .before .before .before .before .before .before .before .before .before .before .before .before .before .before .args .b .assetcount)
 unfolding settledBook
 assets-kept c =
     let z = after-settle c .0 .is-settled in
     (ap (λ (m : Book). m .assets) z ∙ c .before .before .before .before .before .before .before .before .before .before .loop .inv .6, ap (λ (m : Book). m .assetcount) z ∙ c .before .before .before .before .before .before .before .before .before .before .loop .inv .7)
 
-planned : (c : tie.Joined6 Inv-loop2 μ-loop2 Inv-loop3 μ-loop3 Inv-loop μ-loop) → Planned (c .before .before .before .before .before .before .before .if3 .book) (eventIn (recordAt (c .before .before .before .before .before .before .before .before .before .before .before .before .before .before .before .before .before .before .before .before .before .before .before .before .before .before .before .args .records .now) (c .before .before .before .before .before .before .before .before .before .before .before .before .before .before .before .before .before .loop .i))) (openAt (c .before .before .before .before .before .before .before .if3 .book .players) (c .before .before .before .before .before .before .before .before .before .before .before .before .before .read-record .result .player % 16)) (c .before .before .before .before .before .before .before .before .before .before .before .before .before .read-record .result .operation) (c .if6 .k) (c .if6 .code)
+planned : (c : tie.Joined6 Inv-loop2 μ-loop2 Inv-loop3 μ-loop3 Inv-loop μ-loop) → Planned (c .before .before .before .before .before .before .before .if3 .book) (eventIn (recordAt (c .before .before .before .before .before .before .before .before .before .before .before .before .before .before .before .before .before .before .before .before .before .before .before .before .before .before .before .before .before .args .records .now) (c .before .before .before .before .before .before .before .before .before .before .before .before .before .before .before .before .before .loop .i))) (openAt (c .before .before .before .before .before .before .before .if3 .book .players) (c .before .before .before .before .before .before .before .before .before .before .before .before .before .read-record .result .player % 16)) (c .before .before .before .before .before .before .before .before .before .before .before .before .before .read-record .result .operation) (c .if6 .k) (c .if6 .code)
 planned c =
     let n = c .before .before .before .before .before .before .before .if3 .book in
     let a = c .before .before .before .before .before .before .before .before .before .before .before .before .before .read-record .result in
-    let e = eventIn (recordAt (c .before .before .before .before .before .before .before .before .before .before .before .before .before .before .before .before .before .before .before .before .before .before .before .before .before .before .before .args .records .now) (c .before .before .before .before .before .before .before .before .before .before .before .before .before .before .before .before .before .loop .i)) in
+    let e = eventIn (recordAt (c .before .before .before .before .before .before .before .before .before .before .before .before .before .before .before .before .before .before .before .before .before .before .before .before .before .before .before .before .before .args .records .now) (c .before .before .before .before .before .before .before .before .before .before .before .before .before .before .before .before .before .loop .i)) in
     let came = is-came (c .before .before .before .before .before .before .before .before) in
     let kept = assets-kept (c .before .before .before .before .before .before .before) in
     let o = openAt (n .players) (a .player % 16) in
@@ -119,13 +126,13 @@ planned c =
     ⊎-elim
     (λ w.
     let r = w .3 .result in
-    let tables = c .before .before .before .before .before .before .before .before .before .before .before .before .before .before .before .before .before .before .before .before .fill-places .ensures in
+    let tables = c .before .before .before .before .before .before .before .before .before .before .before .before .before .before .before .before .before .before .before .before .before .before .fill-places .ensures in
     let hr = w .3 .ensures ∙ ap₂ (λ (x y : List ℕ). reachAt x y (a .asset)) (tables .0) (tables .1) in
     let end : w .7 .e ≡ w .6 .result = omega (arith, w .7 .inv .0, w .8 .left) in
     planned-begin n e o (a .operation) (a .asset) (a .kind) (c .if6 .k) (c .if6 .code) (w .6 .result) r (w .7 .best)
     ho (came .operation) (w .0 .taken) (came .asset) (came .kind)
-    (usable-is n (c .before .before .before .before .before .before .before .before .before .before .before .before .before .before .before .before .before .before .before .before .before .before .before .before .before .before .before .args .b .assets) (c .before .before .before .before .before .before .before .before .before .before .before .before .before .before .before .before .before .before .before .before .before .before .before .before .before .before .before .args .b .assetcount) (a .asset) r (kept .0) (kept .1) (omega arith) hr)
-    (parent-is n (c .before .before .before .before .before .before .before .before .before .before .before .before .before .before .before .before .before .before .before .before .before .before .before .before .before .before .before .args .b .assets) (c .before .before .before .before .before .before .before .before .before .before .before .before .before .before .before .before .before .before .before .before .before .before .before .before .before .before .before .args .b .assetcount) (a .asset) r (kept .0) (kept .1) (omega arith) hr)
+    (usable-is n (c .before .before .before .before .before .before .before .before .before .before .before .before .before .before .before .before .before .before .before .before .before .before .before .before .before .before .before .before .before .args .b .assets) (c .before .before .before .before .before .before .before .before .before .before .before .before .before .before .before .before .before .before .before .before .before .before .before .before .before .before .before .before .before .args .b .assetcount) (a .asset) r (kept .0) (kept .1) (omega arith) hr)
+    (parent-is n (c .before .before .before .before .before .before .before .before .before .before .before .before .before .before .before .before .before .before .before .before .before .before .before .before .before .before .before .before .before .args .b .assets) (c .before .before .before .before .before .before .before .before .before .before .before .before .before .before .before .before .before .before .before .before .before .before .before .before .before .before .before .before .before .args .b .assetcount) (a .asset) r (kept .0) (kept .1) (omega arith) hr)
     (w .6 .ensures ∙ ap (looked (isOn o) (r .usable)) (w .5 .ensures))
     (w .7 .inv .2 ∙ ap (bestAfter (n .entries) (a .asset) (r .parent) (a .kind) (a .time)) end ∙ ap (λ (t : ℕ). bestAfter (n .entries) (a .asset) (r .parent) (a .kind) t (w .6 .result)) (came .time))
     ht (w .11) (w .12 ∙ w .10 .ensures ∙ ap (λ (k : ℕ). beginCode (isOn o) (r .usable) (w .7 .best .suits) (ltb k 64)) (sym (w .11))))
@@ -149,17 +156,21 @@ fill-places-requires c κs = tt
 rows-of-requires : tie.Need-rows-of-requires Inv-loop2 μ-loop2 Inv-loop3 μ-loop3 Inv-loop μ-loop
 rows-of-requires c κs = tt
 
+ends-of-requires : tie.Need-ends-of-requires Inv-loop2 μ-loop2 Inv-loop3 μ-loop3 Inv-loop μ-loop
+ends-of-requires c κs = tt
+
 loop-holds : tie.Need-loop-holds Inv-loop2 μ-loop2 Inv-loop3 μ-loop3 Inv-loop μ-loop
 loop-holds c =
-    let a = c .before .before .before .before .before .before .before .before .before .args in (
+    let a = c .before .before .before .before .before .before .before .before .before .before .before .args in (
       omega arith,
       upto-none (a .b) (a .records .now) (a .out .now),
       quiet-start (a .b .players),
-      entries-64 (c .before .before .before .before .before .before .before .before .before),
-      players-16 (c .before .before .before .before .before .before .before .before .before),
-      c .rows-of .ensures,
+      entries-64 (c .before .before .before .before .before .before .before .before .before .before .before),
+      players-16 (c .before .before .before .before .before .before .before .before .before .before .before),
+      c .before .before .rows-of .ensures,
       refl,
       refl,
+      c .ends-of .ensures,
     )
 
 mul-from : tie.Need-mul-from Inv-loop2 μ-loop2 Inv-loop3 μ-loop3 Inv-loop μ-loop
@@ -215,7 +226,7 @@ loop-less c = omega arith
 
 loop-again : tie.Need-loop-again Inv-loop2 μ-loop2 Inv-loop3 μ-loop3 Inv-loop μ-loop
 loop-again c =
-    let a = c .before .before .before .before .before .before .before .before .before .before .before .before .before .before .before .before .before .before .before .before .before .before .before .before .before .args in
+    let a = c .before .before .before .before .before .before .before .before .before .before .before .before .before .before .before .before .before .before .before .before .before .before .before .before .before .before .before .args in
     let l = c .before .before .before .before .before .before .before .before .before .before .before .before .before .before .before .loop in
     let p = c .before .before .put-line in
     let s = a .records .now in
@@ -231,12 +242,19 @@ loop-again c =
       l .inv .5,
       l .inv .6,
       l .inv .7,
+      l .inv .8,
     )
 
 loop2-holds : tie.Need-loop2-holds Inv-loop2 μ-loop2 Inv-loop3 μ-loop3 Inv-loop μ-loop
 unfolding leastEnd
 loop2-holds c =
-    (omega arith, settle-none _ _, refl, c .before .before .before .before .before .before .before .before .before .before .loop .inv .5)
+    (omega arith, settle-none _ _, refl, c .before .before .before .before .before .before .before .before .before .before .loop .inv .5, c .before .before .before .before .before .before .before .before .before .before .loop .inv .8, c .before .before .before .before .before .before .before .before .before .before .loop .inv .4)
+
+mul-end : tie.Need-mul-end Inv-loop2 μ-loop2 Inv-loop3 μ-loop3 Inv-loop μ-loop
+mul-end c = search needs
+
+array-read-end : tie.Need-array-read-end Inv-loop2 μ-loop2 Inv-loop3 μ-loop3 Inv-loop μ-loop
+array-read-end c = search needs
 
 mul-player : tie.Need-mul-player Inv-loop2 μ-loop2 Inv-loop3 μ-loop3 Inv-loop μ-loop
 mul-player c = search needs
@@ -244,9 +262,6 @@ mul-player c = search needs
 element-copy-out-player :
     tie.Need-element-copy-out-player Inv-loop2 μ-loop2 Inv-loop3 μ-loop3 Inv-loop μ-loop
 element-copy-out-player c = search needs
-
-due-requires : tie.Need-due-requires Inv-loop2 μ-loop2 Inv-loop3 μ-loop3 Inv-loop μ-loop
-due-requires c κs = tt
 
 cast-k : tie.Need-cast-k Inv-loop2 μ-loop2 Inv-loop3 μ-loop3 Inv-loop μ-loop
 cast-k c = search needs
@@ -297,9 +312,11 @@ element-set-from-q :
     tie.Need-element-set-from-q Inv-loop2 μ-loop2 Inv-loop3 μ-loop3 Inv-loop μ-loop
 element-set-from-q c = search needs
 
-runs-until-requires :
-    tie.Need-runs-until-requires Inv-loop2 μ-loop2 Inv-loop3 μ-loop3 Inv-loop μ-loop
-runs-until-requires c κs = tt
+mul-ends : tie.Need-mul-ends Inv-loop2 μ-loop2 Inv-loop3 μ-loop3 Inv-loop μ-loop
+mul-ends c = search needs
+
+array-write-ends : tie.Need-array-write-ends Inv-loop2 μ-loop2 Inv-loop3 μ-loop3 Inv-loop μ-loop
+array-write-ends c = search needs
 
 sooner-requires : tie.Need-sooner-requires Inv-loop2 μ-loop2 Inv-loop3 μ-loop3 Inv-loop μ-loop
 sooner-requires c κs = tt
@@ -313,48 +330,60 @@ loop2-less c = omega arith
 loop2-again : tie.Need-loop2-again Inv-loop2 μ-loop2 Inv-loop3 μ-loop3 Inv-loop μ-loop
 unfolding settledTo
 loop2-again c =
-    let l = c .before .before .before .before .before .before .before .loop2 in
-    let b = c .before .before .before .before .before .before .before .before .before .before .before .before .before .before .before .before .before .before .loop .book in
-    let t = c .before .before .before .before .before .before .before .before .before .before .before .before .before .before .read-record .result .time in
+    let l = c .before .before .loop2 in
+    let b = c .before .before .before .before .before .before .before .before .before .before .before .before .before .loop .book in
+    let t = c .before .before .before .before .before .before .before .before .before .read-record .result .time in
     let ps = l .book .players in
     let es = l .book .entries in
     let o = openAt ps (l .p) in
-    let d = c .before .before .before .due .ensures in
-    let len : length es ≡ 64 = ap (λ (m : Book). length (m .entries)) (l .inv .1) ∙ settled-length t (take (l .p) (b .players)) (b .entries) ∙ c .before .before .before .before .before .before .before .before .before .before .before .before .before .before .before .before .before .before .loop .inv .3 in
-    let few : l .p < length (b .players) = omega (arith, c .before .before .before .before .before .before .before .before .before .before .before .before .before .before .before .before .before .before .loop .inv .4) in
-    let one : (c .before .before .if4 .book ≡ settleOne t (l .p) (l .book)) × (c .before .before .if4 .rows ≡ rowsFor (c .before .before .if4 .book)) =
+    let ht = is-came (c .before .before .before .before) .early in
+    let len : length es ≡ 64 = ap (λ (m : Book). length (m .entries)) (l .inv .1) ∙ settled-length t (take (l .p) (b .players)) (b .entries) ∙ c .before .before .before .before .before .before .before .before .before .before .before .before .before .loop .inv .3 in
+    let few : l .p < length (b .players) = omega (arith, c .before .before .before .before .before .before .before .before .before .before .before .before .before .loop .inv .4) in
+    let here : l .p < length ps = omega (arith, l .inv .5) in
+    let due : leb (getD (l .ends) (l .p) 0) t ≡ expired t o = reached ps (l .ends) (l .inv .4) t (l .p) ht here in
+    let one : (c .if4 .book ≡ settleOne t (l .p) (l .book)) × (c .if4 .rows ≡ rowsFor (c .if4 .book)) × (c .if4 .ends ≡ endsFor (c .if4 .book)) × (c .if4 .next ≡ leastEnd t (b .players) (l .p + 1)) =
     ⊎-elim
     (λ w.
-    let inner : (w .2 .book ≡ with (l .book) (released t o es) ps) × (w .2 .rows ≡ rowsFor (w .2 .book)) =
+    let d : expired t o ≡ true = sym due ∙ le-leb (getD (l .ends) (l .p) 0) t (w .0 .taken) in
+    let inner : (w .4 .book ≡ with (l .book) (released t o es) ps) × (w .4 .rows ≡ rowsFor (w .4 .book)) =
     ⊎-elim
     (λ v.
     let y : Entry = record { limits = limitsAt es (o .entry); meters = v .4 .result } in (
       v .6
           ∙ ap (λ (x : Meters). with (l .book) (set es (o .entry) (record { limits = limitsAt es (o .entry); meters = x })) ps) (v .4 .ensures)
-          ∙ ap (λ (x : List Entry). with (l .book) x ps) (released-due t o es (sym d ∙ w .0 .taken)),
+          ∙ ap (λ (x : List Entry). with (l .book) x ps) (released-due t o es d),
       v .7 ∙ rows-next es (l .rows) (o .entry) y (v .5 .result) (l .inv .3) (v .5 .ensures) ∙ ap rowsFor (sym (v .6)),
     ))
     (λ v. (
       v .1 ∙ ap (λ (x : List Entry). with (l .book) x ps) (released-far t o es (omega (arith, v .0 .left, len))),
       v .2 ∙ l .inv .3 ∙ ap rowsFor (sym (v .1)),
     ))
-    (w .2 .came) in (
-      w .5
-          ∙ ap (λ (x : Player). with (w .2 .book) (w .2 .book .entries) (set (w .2 .book .players) (l .p) x)) (w .4 .ensures)
-          ∙ ap (λ (x : Book). with x (x .entries) (set (x .players) (l .p) (shut t (playerAt (x .players) (l .p))))) (inner .0),
-      w .6 ∙ inner .1 ∙ ap rowsFor (sym (w .5)),
+    (w .4 .came) in
+    let settles : c .if4 .book ≡ settleOne t (l .p) (l .book) =
+    w .7
+    ∙ ap (λ (x : Player). with (w .4 .book) (w .4 .book .entries) (set (w .4 .book .players) (l .p) x)) (w .6 .ensures)
+    ∙ ap (λ (x : Book). with x (x .entries) (set (x .players) (l .p) (shut t (playerAt (x .players) (l .p))))) (inner .0) in (
+      settles,
+      w .8 ∙ inner .1 ∙ ap rowsFor (sym (w .7)),
+      w .9 ∙ ends-next ps (l .ends) (l .inv .4) (l .p) (shut t (playerAt ps (l .p))) never (shut-end t (playerAt ps (l .p)) d) ∙ ap endsFor (sym settles),
+      w .10 ∙ end-due t (l .p) b (l .book) (l .next) (l .inv .1) few (l .inv .2) d,
     ))
-    (λ w. (
-      w .1
-          ∙ ap (λ (x : List Entry). with (l .book) x ps) (released-still t o es (sym d ∙ w .0 .left))
-          ∙ ap (with (l .book) (released t o es)) (shut-not t (l .p) ps (sym d ∙ w .0 .left)),
-      w .2 ∙ l .inv .3 ∙ ap rowsFor (sym (w .1)),
+    (λ w.
+    let d : expired t o ≡ false = sym due ∙ lt-leb (getD (l .ends) (l .p) 0) t (w .0 .left) in (
+      w .2
+          ∙ ap (λ (x : List Entry). with (l .book) x ps) (released-still t o es d)
+          ∙ ap (with (l .book) (released t o es)) (shut-not t (l .p) ps d),
+      w .3 ∙ l .inv .3 ∙ ap rowsFor (sym (w .2)),
+      w .4 ∙ l .inv .4 ∙ ap endsFor (sym (w .2)),
+      w .5 ∙ w .1 .ensures ∙ ap (min (l .next)) (kept-end ps (l .ends) (l .inv .4) (l .p) here) ∙ end-on t (l .p) b (l .book) (l .next) (l .inv .1) few (l .inv .2) d,
     ))
-    (c .before .before .if4 .came) in (
+    (c .if4 .came) in (
       omega arith,
       one .0 ∙ ap (settleOne t (l .p)) (l .inv .1) ∙ settle-turn t (l .p) b few,
-      c .sooner .ensures ∙ ap (min (l .next)) (c .before .runs-until .ensures) ∙ end-turn t (l .p) b (l .book) (l .next) (l .inv .1) few (l .inv .2),
+      one .3,
       one .1,
+      one .2,
+      ap (λ (m : Book). length (m .players)) (one .0) ∙ length-set ps (l .p) _ ∙ l .inv .5,
     )
 
 mul-player-2 : tie.Need-mul-player-2 Inv-loop2 μ-loop2 Inv-loop3 μ-loop3 Inv-loop μ-loop
@@ -472,6 +501,13 @@ element-set-from-q-2 c = search needs
 end-of-requires : tie.Need-end-of-requires Inv-loop2 μ-loop2 Inv-loop3 μ-loop3 Inv-loop μ-loop
 end-of-requires c κs = tt
 
+mul-ends-2 : tie.Need-mul-ends-2 Inv-loop2 μ-loop2 Inv-loop3 μ-loop3 Inv-loop μ-loop
+mul-ends-2 c = search needs
+
+array-write-ends-2 :
+    tie.Need-array-write-ends-2 Inv-loop2 μ-loop2 Inv-loop3 μ-loop3 Inv-loop μ-loop
+array-write-ends-2 c = search needs
+
 sooner-requires-2 : tie.Need-sooner-requires-2 Inv-loop2 μ-loop2 Inv-loop3 μ-loop3 Inv-loop μ-loop
 sooner-requires-2 c κs = tt
 
@@ -485,7 +521,7 @@ loop-less-2 c = omega (arith, c .before .before .before .before .before .before 
 loop-again-2 : tie.Need-loop-again-2 Inv-loop2 μ-loop2 Inv-loop3 μ-loop3 Inv-loop μ-loop
 unfolding placed stored
 loop-again-2 c =
-    let a = c .before .before .before .before .before .before .before .before .before .before .before .before .before .before .before .before .before .before .before .before .before .before .before .before .before .before .before .before .before .before .before .before .before .before .before .before .before .before .before .before .before .before .before .args in
+    let a = c .before .before .before .before .before .before .before .before .before .before .before .before .before .before .before .before .before .before .before .before .before .before .before .before .before .before .before .before .before .before .before .before .before .before .before .before .before .before .before .before .before .before .before .before .before .args in
     let l = c .before .before .before .before .before .before .before .before .before .before .before .before .before .before .before .before .before .before .before .before .before .before .before .before .before .before .before .before .before .before .before .before .before .loop in
     let p = c .before .before .put-line2 in
     let s = recordAt (a .records .now) (l .i) in
@@ -545,6 +581,7 @@ loop-again-2 c =
       done .1 ∙ ap rowsFor (sym is-book),
       ap (λ (m : Book). m .assets) is-book ∙ kept .0,
       ap (λ (m : Book). m .assetcount) is-book ∙ kept .1,
+      ends-next ps (c .before .before .before .before .before .before .before .before .before .before .before .before .before .before .before .before .before .before .before .before .before .before .before .if3 .ends) (z .2) j q (c .before .before .before .before .before .end-of .result) (c .before .before .before .before .before .end-of .ensures) ∙ ap endsFor (sym is-book),
     )
 
 refused-requires : tie.Need-refused-requires Inv-loop2 μ-loop2 Inv-loop3 μ-loop3 Inv-loop μ-loop
@@ -566,7 +603,7 @@ loop-less-3 c = omega arith
 
 loop-again-3 : tie.Need-loop-again-3 Inv-loop2 μ-loop2 Inv-loop3 μ-loop3 Inv-loop μ-loop
 loop-again-3 c =
-    let a = c .before .before .before .before .before .before .before .before .before .before .before .before .before .before .before .before .before .before .before .before .before .before .before .before .before .before .before .before .before .before .before .before .before .args in
+    let a = c .before .before .before .before .before .before .before .before .before .before .before .before .before .before .before .before .before .before .before .before .before .before .before .before .before .before .before .before .before .before .before .before .before .before .before .args in
     let l = c .before .before .before .before .before .before .before .before .before .before .before .before .before .before .before .before .before .before .before .before .before .before .before .loop in
     let p = c .before .before .put-line3 in
     let s = recordAt (a .records .now) (l .i) in
@@ -596,18 +633,19 @@ loop-again-3 c =
       z .1,
       kept .0,
       kept .1,
+      ends-same ps (c .before .before .before .before .before .before .before .before .before .before .before .before .before .if3 .ends) (z .2) j q refl,
     )
 
 same-length : tie.Need-same-length Inv-loop2 μ-loop2 Inv-loop3 μ-loop3 Inv-loop μ-loop
 same-length c =
-    let a = c .before .before .before .before .before .before .before .before .before .before .before .args in
+    let a = c .before .before .before .before .before .before .before .before .before .before .before .before .before .args in
     let l = c .before .loop in
     upto-length (a .b) (a .records .now) (a .out .now) (l .i) (l .book) (l .out) (l .at) (l .inv .1) (omega arith)
 
 returns-2 : tie.Need-returns-2 Inv-loop2 μ-loop2 Inv-loop3 μ-loop3 Inv-loop μ-loop
 unfolding fits blockBook blockWritten blockBuffer recordCount
 returns-2 c =
-    let a = c .before .before .before .before .before .before .before .before .before .before .before .args in
+    let a = c .before .before .before .before .before .before .before .before .before .before .before .before .before .args in
     let l = c .before .loop in
     let h : 19 * recordCount (a .records .now) ≤ length (a .out .now) = omega arith in
     rw (le-leb (19 * recordCount (a .records .now)) (length (a .out .now)) h)
@@ -627,6 +665,7 @@ answer-block-spec =
     returns
     fill-places-requires
     rows-of-requires
+    ends-of-requires
     loop-holds
     mul-from
     add-lesser
@@ -645,9 +684,10 @@ answer-block-spec =
     loop-less
     loop-again
     loop2-holds
+    mul-end
+    array-read-end
     mul-player
     element-copy-out-player
-    due-requires
     cast-k
     mul-x
     element-copy-out-x
@@ -662,7 +702,8 @@ answer-block-spec =
     shut-player-requires
     mul-q
     element-set-from-q
-    runs-until-requires
+    mul-ends
+    array-write-ends
     sooner-requires
     add-p
     loop2-less
@@ -695,6 +736,8 @@ answer-block-spec =
     mul-q-2
     element-set-from-q-2
     end-of-requires
+    mul-ends-2
+    array-write-ends-2
     sooner-requires-2
     put-line-requires-2
     loop-less-2
