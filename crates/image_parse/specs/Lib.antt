@@ -1,1 +1,2 @@
+-- What a header that stands says of the bytes.
 pub mod Header

@@ -1,3 +1,4 @@
+-- `book::blank_book` meets its contract: each table is its blank value, repeated.
 use borrow.Author.Needs.{needs}
 use Rattle.book.proofs.blank_book.Statement.{statement}
 use Rattle.book.proofs.blank_book.Tie as tie

@@ -1,3 +1,4 @@
+-- `decode::request_legal` meets its contract: its test is the definition's.
 use mathlib.Core.Path.{refl}
 use Rattle.model.specs.Book.{requestLegal}
 use Rattle.decode.proofs.request_legal.Statement.{statement}

@@ -1,3 +1,4 @@
+-- `events::entry_at` meets its contract: past the table's end the default is read.
 use mathlib.Core.Path.{_≡_, sym, _∙_}
 use native.Mathlib.Omega.{arith}
 use lib.ListN.{length, List·getD-eq-default}

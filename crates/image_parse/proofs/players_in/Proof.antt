@@ -1,3 +1,4 @@
+-- `image_parse::players_in` meets its contract. The invariant: the first i slots are read, the others blank.
 use mathlib.Core.Path.{_≡_, ap, ap₂, _∙_}
 use mathlib.Core.List.{List, _++_, append-nil}
 use Prim.Native.Nat.{ℕ, _+_, _*_, _-_, _≤_}

@@ -1,3 +1,4 @@
+-- `image_players::entry_at` meets its contract: past the table's end the default is read.
 use mathlib.Core.Path.{_≡_, sym, _∙_}
 use Prim.Native.Nat.{_≤_}
 use native.Mathlib.Omega.{arith}

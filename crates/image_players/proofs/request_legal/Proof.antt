@@ -1,3 +1,4 @@
+-- `image_players::request_legal` meets its contract: its test is the definition's.
 use mathlib.Core.Path.{refl}
 use Rattle.model.specs.Book.{requestLegal}
 use Rattle.image_players.proofs.request_legal.Statement.{statement}

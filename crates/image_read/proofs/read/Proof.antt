@@ -1,3 +1,4 @@
+-- `image_read::read` meets its contract: a refusal keeps the book that was held.
 use mathlib.Core.Path.{_≡_, refl, sym, _∙_}
 use mathlib.Core.Bool.{Bool, true, false, cond}
 use mathlib.Core.List.{List}
