@@ -1,6 +1,5 @@
 // The bytes of an event record, turned into an event or into the code that refuses them: 6, then 2, then 1.
 ghost use mathlib.Core.Path.{_≡_};
-ghost use mathlib.Core.Bool.{cond};
 ghost use Rattle.model.specs.Book.{requestLegal};
 ghost use Rattle.model.specs.Events.{kindOf, requestOf, decoded};
 use book::Decoded;

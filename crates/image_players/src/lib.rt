@@ -2,7 +2,6 @@
 // Each function answers for every value of its types, whether an image can hold it or not.
 ghost use mathlib.Core.Path.{_≡_};
 ghost use mathlib.Core.Bool.{cond};
-ghost use Prim.Native.Nat.{min};
 ghost use lib.ListN.{getD};
 ghost use Rattle.book.specs.Blank.{noEntry};
 ghost use Rattle.model.specs.Book.{playerBlank, requestLegal, answerLegal, insideDates, insideInterval, useLegal, openLegal, playerLegal, playersLegal};
@@ -13,13 +12,7 @@ use book::Limits;
 use book::Meters;
 use book::Open;
 use book::Player;
-
-fn at_most_64(count: u8) -> usize
-    ensures { λ r. ⌜ r ≡ min count 64 ⌝ }
-{
-    let n = count as usize;
-    if n < 64 { n } else { 64 }
-}
+use book::at_most_64;
 
 fn pick(w: bool, a: bool, b: bool) -> bool
     ensures { λ r. ⌜ r ≡ cond w a b ⌝ }

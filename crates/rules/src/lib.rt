@@ -16,6 +16,7 @@ use book::Last;
 use book::Limits;
 use book::Meters;
 use book::Request;
+pub use book::at_most_64;
 
 // The three numbers of a request, as event records and images have them.
 pub struct Wire {
@@ -88,14 +89,6 @@ pub fn least(a: u64, b: u64) -> u64
     ensures { λ r. ⌜ r ≡ min a b ⌝ }
 {
     if a < b { a } else { b }
-}
-
-// How many slots of a table count: a count above 64, which no image has, counts as 64.
-pub fn at_most_64(count: u8) -> usize
-    ensures { λ r. ⌜ r ≡ min count 64 ⌝ }
-{
-    let n = count as usize;
-    if n < 64 { n } else { 64 }
 }
 
 pub fn kind_number(k: Kind) -> u8

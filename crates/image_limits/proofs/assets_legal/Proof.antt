@@ -56,7 +56,7 @@ returns c =
     let n = c .before .before .at-most-64 in
     let l = c .before .loop in
     let e : l .i ≡ n .result = omega arith in
-    l .inv .1 ∙ ap (all (judged assets (n .result))) e ∙ ap (λ (k : ℕ). all (judged assets k) k) (n .ensures .0)
+    l .inv .1 ∙ ap (all (judged assets (n .result))) e ∙ ap (λ (k : ℕ). all (judged assets k) k) (n .ensures)
 
 pub assets-legal-spec : {M : Type 1} → statement M
 assets-legal-spec =

@@ -69,7 +69,7 @@ returns c =
     let e : l .i ≡ m .result = omega arith in
     l .inv .1
     ∙ ap (all (judged (b .assets) (n .result) (b .entries))) e
-    ∙ ap₂ (λ (x y : ℕ). all (judged (b .assets) x (b .entries)) y) (n .ensures .0) (m .ensures .0)
+    ∙ ap₂ (λ (x y : ℕ). all (judged (b .assets) x (b .entries)) y) (n .ensures) (m .ensures)
 
 pub entries-legal-spec : {M : Type 1} → statement M
 entries-legal-spec =
