@@ -29,7 +29,8 @@ fn request_of(operation: u8, asset: u16, kind: u8) -> Request
     }
 }
 
-fn request_legal(operation: u8, asset: u16, kind: u8) -> bool
+// A stored request of a player is judged by this too.
+pub fn request_legal(operation: u8, asset: u16, kind: u8) -> bool
     ensures { λ r. ⌜ r ≡ requestLegal operation asset kind ⌝ }
 {
     (operation == 1) & ((1 <= kind) & (kind <= 5))
