@@ -5,9 +5,9 @@
 //!     rustc --edition 2021 -C opt-level=3 -o baseline baseline.rs
 //!
 //! What makes it quick: one book changed in place; the limits of missing flags set to numbers that never bind, so
-//! that no flag is tested; for each asset and kind a list of the suitable entries in the order of the choice, sorted
-//! again only when an interval starts; uses settled only when the earliest until may have passed; one read and one
-//! write for some eight thousand events, with digits written by hand.
+//! that no flag is tested; the rank of an entry in one word; the assets' numbers in a plain array; uses settled only
+//! when the earliest until may have passed; one read and one write for some eight thousand events, with digits written
+//! by hand. A begin looks at every entry, as the rules are written; `sorted.rs` beside this file does not.
 
 use std::fs::File;
 use std::io::{self, Read, Write};
@@ -280,6 +280,7 @@ struct Entry {
     interval: u32,
     asset: u16,
     flags: u8,
+    kind: u8,
 }
 
 #[derive(Clone, Copy)]
@@ -299,22 +300,16 @@ struct Player {
     until: u32,
 }
 
-/// The suitable entries of one asset and kind, in the order of the choice.
-#[derive(Clone, Copy)]
-struct Choice {
-    len: u8,
-    positions: [u8; MOST],
-}
-
 struct Server {
     time: u32,
     next_end: u32, // no open use ends before this
     open: u16,     // one bit for each player with a use open
     players: [Player; PLAYERS],
     entries: [Entry; MOST],
-    choices: Vec<Choice>,   // of asset i and kind k at 5 * i + k - 1
-    asset_at: Vec<u8>,      // by asset number, 255 for none or key 0
-    asset_numbers: Vec<u16>,
+    numbers: Vec<u16>,      // of the assets
+    parents: Vec<u16>,      // the parent's number, or the asset's own where it has none
+    usable: Vec<bool>,
+    count: usize,
 }
 
 const fn refused(code: u8) -> Answer {
@@ -330,9 +325,10 @@ impl Server {
             open: 0,
             players: [blank; PLAYERS],
             entries: [entry_for(&Limits { kind: 1, ..limits_of(&[0; ENTRY_SIZE]) }); MOST],
-            choices: vec![Choice { len: 0, positions: [0; MOST] }; 5 * image.assets.len()],
-            asset_at: vec![255; 65536],
-            asset_numbers: image.assets.iter().map(|asset| asset.number).collect(),
+            numbers: image.assets.iter().map(|asset| asset.number).collect(),
+            parents: image.assets.iter().map(|asset| parent_of(image, asset)).collect(),
+            usable: image.assets.iter().map(|asset| asset.key == 1).collect(),
+            count: image.entries.len(),
         };
         for (slot, limits) in server.entries.iter_mut().zip(&image.entries) {
             *slot = entry_for(limits);
@@ -346,39 +342,7 @@ impl Server {
                 server.next_end = server.next_end.min(until);
             }
         }
-        for (i, asset) in image.assets.iter().enumerate() {
-            if asset.key == 1 {
-                server.asset_at[asset.number as usize] = i as u8;
-                server.list_suitable(image, i);
-            }
-        }
         server
-    }
-
-    fn list_suitable(&mut self, image: &Image, i: usize) {
-        let asset = &image.assets[i];
-        let is_parent = |a: &Asset| a.number == asset.inherit && a.key == 0 && a.inherit == 0;
-        let inherits = image.assets.iter().any(is_parent);
-        for (position, entry) in image.entries.iter().enumerate() {
-            if entry.asset == asset.number || (inherits && entry.asset == asset.inherit) {
-                let choice = &mut self.choices[5 * i + entry.kind as usize - 1];
-                choice.positions[choice.len as usize] = position as u8;
-                choice.len += 1;
-            }
-        }
-        for k in 0..5 {
-            self.sort_choice(5 * i + k);
-        }
-    }
-
-    fn sort_choice(&mut self, which: usize) {
-        let asked = self.asset_numbers[which / 5];
-        let entries = &self.entries;
-        let choice = &mut self.choices[which];
-        choice.positions[..choice.len as usize].sort_unstable_by_key(|&position| {
-            let entry = &entries[position as usize];
-            (entry.flags != 0, entry.end, !entry.interval_runs(), entry.asset != asked, position)
-        });
     }
 
     #[inline(always)]
@@ -448,18 +412,29 @@ impl Server {
         if self.open >> p & 1 != 0 {
             return refused(11);
         }
-        let i = self.asset_at[number as usize];
-        if i == 255 {
+        let Some(i) = self.numbers.iter().position(|&n| n == number) else {
+            return refused(10);
+        };
+        if !self.usable[i] {
             return refused(10);
         }
-        let choice = &self.choices[5 * i as usize + kind as usize - 1];
-        let suitable = &choice.positions[..choice.len as usize];
-        if suitable.is_empty() {
-            return refused(12);
+        let parent = self.parents[i];
+        let mut suits = false;
+        let mut best = u64::MAX;
+        let mut position = 0;
+        for (at, entry) in self.entries[..self.count].iter().enumerate() {
+            if entry.kind == kind && (entry.asset == number || entry.asset == parent) {
+                suits = true;
+                let rank = entry.rank(number);
+                if rank < best && entry.is_grantable(t) {
+                    best = rank;
+                    position = at as u8;
+                }
+            }
         }
-        let Some(&position) = suitable.iter().find(|&&at| self.entries[at as usize % MOST].is_grantable(t)) else {
-            return refused(13);
-        };
+        if best == u64::MAX {
+            return refused(if suits { 13 } else { 12 });
+        }
         let entry = &mut self.entries[position as usize % MOST];
         entry.used_count += (entry.flags & COUNT) as u32;
         entry.used_timed += (entry.flags & TIMED) as u32 >> 1;
@@ -480,20 +455,7 @@ impl Server {
             self.open |= 1 << p;
             self.next_end = self.next_end.min(until);
         }
-        if starts {
-            self.interval_started(position);
-        }
         Answer { code: 0, entry: position, until }
-    }
-
-    #[cold]
-    fn interval_started(&mut self, position: u8) {
-        for which in 0..self.choices.len() {
-            let choice = &self.choices[which];
-            if choice.positions[..choice.len as usize].contains(&position) {
-                self.sort_choice(which);
-            }
-        }
     }
 
     #[inline(always)]
@@ -530,6 +492,11 @@ impl Server {
     }
 }
 
+fn parent_of(image: &Image, asset: &Asset) -> u16 {
+    let is_parent = |a: &Asset| a.number == asset.inherit && a.key == 0 && a.inherit == 0;
+    if image.assets.iter().any(is_parent) { asset.inherit } else { asset.number }
+}
+
 fn entry_for(from: &Limits) -> Entry {
     let or = |flag: u8, limit: u32, without: u32| if from.flags & flag != 0 { limit } else { without };
     Entry {
@@ -546,6 +513,7 @@ fn entry_for(from: &Limits) -> Entry {
         interval: from.interval,
         asset: from.asset,
         flags: from.flags,
+        kind: from.kind,
     }
 }
 
@@ -560,8 +528,10 @@ impl Entry {
             & (self.used_seconds < self.accumulated)
     }
 
-    fn interval_runs(&self) -> bool {
-        self.last != NEVER
+    /// The order of the choice in one number, the lesser first.
+    #[inline(always)]
+    fn rank(&self, asked: u16) -> u64 {
+        ((self.flags != 0) as u64) << 34 | (self.end as u64) << 2 | ((self.last == NEVER) as u64) << 1 | (self.asset != asked) as u64
     }
 
     /// The least of the bounds; the seconds already used reach up to `paid_to`.

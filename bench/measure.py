@@ -2,7 +2,7 @@
 
     python3 bench/measure.py PROGRAM FOLDER
 
-FOLDER holds the programs `baseline` and `days`. Two times are given, the clock's and the processor's (user and system);
+FOLDER holds the programs `baseline`, `sorted` and `days`. Two times are given, the clock's and the processor's (user and system);
 on a machine with other work the second is the steadier one. Each figure is the median of interleaved runs.
 """
 
@@ -42,12 +42,13 @@ def run_once(program, folder, output):
     return took, usage.ru_utime + usage.ru_stime
 
 
-def same_answers(program, baseline, folder):
-    outputs = [folder / "program.txt", folder / "baseline.txt"]
-    for each, output in zip((program, baseline), outputs):
+def same_answers(programs, folder):
+    outputs = [folder / f"answers{i}.txt" for i, _ in enumerate(programs)]
+    for each, output in zip(programs, outputs):
         run_once(each, folder, output)
-    if not filecmp.cmp(*outputs, shallow=False):
-        first_difference(folder, *outputs)
+    for other in outputs[1:]:
+        if not filecmp.cmp(outputs[0], other, shallow=False):
+            first_difference(folder, outputs[0], other)
     for output in outputs:
         output.unlink()
 
@@ -71,16 +72,17 @@ def interleaved(programs, folder):
     return [tuple(median(column) for column in zip(*results)) for results in found]
 
 
-def row(name, events, ours, theirs):
+def row(name, events, ours, *others):
     per = 1e9 / events
-    print(f"{name:>14} {events:>10} {ours[0] * per:>9.1f} {theirs[0] * per:>9.1f} {ours[0] / theirs[0]:>6.2f}"
-          f" {ours[1] * per:>9.1f} {theirs[1] * per:>9.1f} {ours[1] / theirs[1]:>6.2f}", flush=True)
+    for which in (0, 1):
+        print(f"{name if which == 0 else '':>14} {events if which == 0 else '':>10} {('clock', 'cpu')[which]:>6}"
+              f" {ours[which] * per:>9.1f}"
+              + "".join(f" {each[which] * per:>9.1f} {ours[which] / each[which]:>6.2f}" for each in others), flush=True)
 
 
 def heading(text):
     print(f"\n{text}")
-    print(f"{'day':>14} {'events':>10} {'clock ns':>9} {'baseline':>9} {'ratio':>6}"
-          f" {'cpu ns':>9} {'baseline':>9} {'ratio':>6}")
+    print(f"{'day':>14} {'events':>10} {'ns of':>6} {'program':>9} {'baseline':>9} {'ratio':>6} {'sorted':>9} {'ratio':>6}")
 
 
 def sqlite_figure(bench, baseline, kind):
@@ -98,12 +100,12 @@ def sqlite_figure(bench, baseline, kind):
 def main():
     program, bench = sys.argv[1], Path(sys.argv[2]).resolve()
     baseline = bench / "baseline"
-    programs = (program, baseline)
+    programs = (program, baseline, bench / "sorted")
 
     heading(f"Four kinds of days; time for each event, median of {RUNS} interleaved runs")
     for kind in ("small", "full", "worst", "expire"):
         folder = make_day(bench, kind, kind, EVENTS)
-        same_answers(program, baseline, folder)
+        same_answers(programs, folder)
         row(kind, EVENTS, *interleaved(programs, folder))
 
     if GROWTH:
@@ -111,7 +113,7 @@ def main():
         events = 10_000
         while events <= GROWTH:
             folder = make_day(bench, "growth", "small", events)
-            same_answers(program, baseline, folder)
+            same_answers(programs, folder)
             row("small", events, *interleaved(programs, folder))
             (folder / "events.bin").unlink()
             events *= 10
@@ -119,7 +121,7 @@ def main():
     heading("More entries, all suitable for every begin (worst)")
     for entries in (4, 8, 16, 32, 64):
         folder = make_day(bench, "entries", "worst", EVENTS // 4, entries)
-        same_answers(program, baseline, folder)
+        same_answers(programs, folder)
         row(f"{entries} entries", EVENTS // 4, *interleaved(programs, folder))
 
     if SQLITE:

@@ -1,5 +1,6 @@
 #!/usr/bin/env bash
-# The bench: the built program against a tuned server in ordinary Rust, on four kinds of days.
+# The bench: the built program against a tuned server in ordinary Rust, and against one that keeps sorted candidates,
+# on four kinds of days.
 #
 #     bench/run.sh [PROGRAM]        (target/bin/run if not told)
 #
@@ -9,7 +10,7 @@ set -eu
 cd "$(dirname "$0")/.."
 program=$(realpath "${1:-target/bin/run}")
 mkdir -p target/bench
-for each in baseline days; do
+for each in baseline sorted days; do
     if [ ! -x target/bench/$each ] || [ bench/$each.rs -nt target/bench/$each ]; then
         rustc --edition 2021 -C opt-level=3 -C codegen-units=1 -o target/bench/$each bench/$each.rs
     fi

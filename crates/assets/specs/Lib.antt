@@ -1,1 +1,2 @@
+-- What is found in a table of assets.
 pub mod Reach

@@ -4,7 +4,7 @@ ghost use mathlib.Core.Path.{_≡_};
 ghost use mathlib.Core.Bool.{cond};
 ghost use Rattle.assets.specs.Reach.{tableOf, foundIn, reachIn};
 use book::Asset;
-use rules::at_most_64;
+use book::at_most_64;
 
 // The asset with a number, blank if it is not there.
 pub struct Found {

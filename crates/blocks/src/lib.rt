@@ -1,0 +1,1 @@
+// No code: the laws of blocks stand in specs/.

@@ -1,8 +1,9 @@
-// The book of rights, an event and an answer: the types that every crate names, and their blank values.
+// The book of rights, an event and an answer: the types that every crate names, their blank values, and reading a table.
 // What no event changes (limits) stands apart from what events change (meters), so that a new field joins one struct.
 // Numbers that an image can hold against the rules (a kind of 9, an open mark of 2) stay numbers here: the reader judges them.
 ghost use mathlib.Core.Path.{_≡_};
-ghost use lib.ListN.{replicate};
+ghost use Prim.Native.Nat.{min};
+ghost use lib.ListN.{getD};
 ghost use Rattle.book.specs.Blank.{noAsset, noEntry, noPlayer, noBook};
 
 pub struct Asset {
@@ -178,6 +179,24 @@ pub fn blank_player() -> Player
             until: 0,
         },
     }
+}
+
+// An entry, blank at a position past the table's end.
+pub fn entry_at(entries: [Entry; 64], k: usize) -> Entry
+    ensures { λ r. ⌜ r ≡ getD entries k noEntry ⌝ }
+{
+    if k < 64 {
+        return entries[k];
+    }
+    blank_entry()
+}
+
+// How many slots of a table count: a count above 64, which no image has, counts as 64.
+pub fn at_most_64(count: u8) -> usize
+    ensures { λ r. ⌜ r ≡ min count 64 ⌝ }
+{
+    let n = count as usize;
+    if n < 64 { n } else { 64 }
 }
 
 // The book with nothing in it.

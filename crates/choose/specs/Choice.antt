@@ -7,7 +7,7 @@ use native.Mathlib.Omega.{arith}
 use Rattle.book.specs.declared.Entry.{Entry}
 use Rattle.model.specs.Book.{limitsAt, metersAt}
 use Rattle.model.specs.Events.{Catalog, Choice, nobody, chosen, prefer, chooseOf, anyOf, choose, suits, grantable, goesBefore, parentOf}
-use Rattle.model.specs.Proof.Facts.{and-right}
+use Rattle.laws.specs.Tests.{and-right}
 use Rattle.choose.specs.declared.Best.{Best}
 use Rattle.choose.specs.Best.{position, suitsAt, allowedAt, choiceAfter, bestAfter}
 

@@ -8,17 +8,13 @@ struct Head {
     length: usize,
 }
 
-fn join(a: u8, b: u8, c: u8, d: u8) -> usize {
-    a as usize * 16777216 + b as usize * 65536 + c as usize * 256 + d as usize
-}
-
 // The length in the next four bytes of the file, if there are four more.
 fn read_head(fd: i32) -> Head {
     let mut h = [0u8; 4];
     let n = io::read_full(fd, &mut h);
     Head {
         more: n == 4,
-        length: join(h[0], h[1], h[2], h[3]),
+        length: fields::join32(h[0], h[1], h[2], h[3]) as usize,
     }
 }
 

@@ -1,6 +1,5 @@
 // The bytes of an event record, turned into an event or into the code that refuses them: 6, then 2, then 1.
 ghost use mathlib.Core.Path.{_≡_};
-ghost use mathlib.Core.Bool.{cond};
 ghost use Rattle.model.specs.Book.{requestLegal};
 ghost use Rattle.model.specs.Events.{kindOf, requestOf, decoded};
 use book::Decoded;
@@ -30,11 +29,14 @@ fn request_of(operation: u8, asset: u16, kind: u8) -> Request
     }
 }
 
-fn request_legal(operation: u8, asset: u16, kind: u8) -> bool
+// A stored request of a player is judged by this too.
+pub fn request_legal(operation: u8, asset: u16, kind: u8) -> bool
     ensures { λ r. ⌜ r ≡ requestLegal operation asset kind ⌝ }
 {
-    (operation == 1) & ((1 <= kind) & (kind <= 5))
-        | (2 <= operation) & (operation <= 3) & (asset == 0) & (kind == 0)
+    if operation == 1 {
+        return (1 <= kind) & (kind <= 5);
+    }
+    (2 <= operation) & (operation <= 3) & (asset == 0) & (kind == 0)
 }
 
 // Rules out 1 before 2 (player 16, operation 9), and a continue that names an asset.

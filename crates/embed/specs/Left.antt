@@ -1,67 +1,34 @@
 -- Why the next image fits where the last one lay: no event changes the length. And what each way out of a call leaves.
-use Prim.Native.Nat.{ℕ, suc, _*_, _≤_, _<_, min}
+use Prim.Native.Nat.{ℕ, _*_, _≤_, _<_, min}
 use mathlib.Core.Path.{_≡_, refl, sym, ap, ap₂, _∙_}
-use mathlib.Core.Bool.{Bool, true, false, cond, not, _||_, true≢false}
+use mathlib.Core.Bool.{true, false}
 use mathlib.Core.List.{List, [], _∷_, _++_, append-nil}
 use native.Mathlib.Nat.{min-eq-left}
 use native.Mathlib.Omega.{arith}
 use lib.ListN.{length, drop}
 use lib.Seq.{drop-length}
-use lib.Dec.{ltb, leb, eqb}
-use borrow.Author.Tests.{ltb-false, eqb-true, ne-eqb, le-leb, lt-leb, not-false}
-use Rattle.laws.specs.Fields.{size}
+use lib.Dec.{leb, eqb}
+use borrow.Author.Tests.{ne-eqb, le-leb, lt-leb}
 use Rattle.book.specs.declared.Book.{Book}
 use Rattle.book.specs.declared.Decoded.{Decoded}
 use Rattle.book.specs.Blank.{noBook}
-use Rattle.model.specs.Book.{assetsIn, entriesIn, latestTime, ruleBroken}
-use Rattle.model.specs.Image.{headerWidths, newest, image, imageLength, lengthOf, writeBuffer, markIn, versionIn, assetCountIn, entryCountIn, timeIn, bookIn, headerBroken, readCode, readBook}
+use Rattle.model.specs.Book.{assetsIn, entriesIn}
+use Rattle.model.specs.Image.{image, imageLength, lengthOf, writeBuffer, bookIn, readCode}
 use Rattle.model.specs.Events.{decoded, arrive, stepRecord}
 use Rattle.model.specs.Demand3.{recordFinal}
 use Rattle.model.specs.Run.{recordCount, recordsIn, runBook}
 use Rattle.model.specs.Proof.Grounds.{arrive-static}
+use Rattle.model.specs.Proof.Header.{header-passed, accepted-stages, accepted-book}
 use Rattle.runner.specs.Block.{fits, blockBook, blockWritten, blockBuffer}
 use Rattle.embed.specs.Calls.{answerCode, answered, heldBook, imageAfter, outAfter, writtenAfter}
 
 -- ## The length
 
-passed : (t : Bool) (c x : ℕ) → cond t (suc c) x ≡ 0 → (t ≡ false) × (x ≡ 0)
-passed true c x e = absurd (omega arith)
-passed false c x e = (refl, e)
-
-neither : (a c : Bool) → (a || c) ≡ false → (a ≡ false) × (c ≡ false)
-neither true c e = absurd (true≢false e)
-neither false c e = (refl, e)
-
--- what the header of an accepted image tells of its length
-record Counted (s : List ℕ) : Type 0 where
-  assets : assetCountIn s ≤ 64
-  entries : entryCountIn s ≤ 64
-  whole : length s ≡ imageLength (assetCountIn s) (entryCountIn s)
-
-counted : (s : List ℕ) → headerBroken s ≡ 0 → Counted s
-unfolding headerBroken
-counted s e =
-    let short = passed (ltb (length s) (size headerWidths)) 19 _ e in
-    let mark = passed (not (markIn s)) 20 _ (short .1) in
-    let version = passed (not (eqb (versionIn s) newest)) 21 _ (mark .1) in
-    let large = passed (ltb 64 (assetCountIn s) || ltb 64 (entryCountIn s) || ltb latestTime (timeIn s)) 22 _ (version .1) in
-    let wrong = passed (not (eqb (length s) (imageLength (assetCountIn s) (entryCountIn s)))) 19 _ (large .1) in
-    let counts = neither (ltb 64 (assetCountIn s)) (ltb 64 (entryCountIn s)) (neither _ (ltb latestTime (timeIn s)) (large .0) .0) in
-    record {
-      assets = ltb-false 64 (assetCountIn s) (counts .0);
-      entries = ltb-false 64 (entryCountIn s) (counts .1);
-      whole = eqb-true (length s) (imageLength (assetCountIn s) (entryCountIn s)) (not-false _ (wrong .0));
-    }
-
-pub header-stands : (k r : ℕ) (w : Bool) → eqb k 0 ≡ w → cond w r k ≡ 0 → k ≡ 0
-header-stands k r true e z = eqb-true k 0 e
-header-stands k r false e z = z
-
 held-length : (s : List ℕ) → readCode s ≡ 0 → lengthOf (heldBook s) ≡ length s
-unfolding heldBook readBook readCode bookIn lengthOf assetsIn entriesIn
+unfolding heldBook bookIn lengthOf assetsIn entriesIn
 held-length s e =
-    let n = counted s (header-stands (headerBroken s) (ruleBroken (bookIn s)) (eqb (headerBroken s) 0) refl e) in
-    ap (λ (k : ℕ). lengthOf (cond (eqb k 0) (bookIn s) noBook)) e
+    let n = header-passed s (accepted-stages s e .0) in
+    ap lengthOf (accepted-book noBook s e)
     ∙ ap₂ imageLength (min-eq-left (n .assets)) (min-eq-left (n .entries))
     ∙ sym (n .whole)
 

@@ -1,3 +1,4 @@
+-- What a call leaves, why it does, and that calls follow on from each other.
 pub mod Calls
 pub mod Left
 pub mod Pieces

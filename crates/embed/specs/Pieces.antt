@@ -6,9 +6,9 @@ use mathlib.Core.Bool.{cond}
 use mathlib.Core.List.{List, [], _∷_, _++_}
 use native.Mathlib.Omega.{arith}
 use lib.ListN.{length, take, drop}
-use lib.Dec.{eqb}
 use Rattle.laws.specs.Count.{listed}
 use Rattle.laws.specs.FieldLaws.{drop-bytes}
+use Rattle.laws.specs.Tests.{both-zero}
 use Rattle.book.specs.declared.Book.{Book}
 use Rattle.book.specs.Blank.{noBook}
 use Rattle.model.specs.Book.{Legal}
@@ -21,7 +21,6 @@ use Rattle.model.specs.Proof.Kept.{saved, arrive-typed}
 use Rattle.runner.specs.Block.{fits}
 use Rattle.blocks.specs.Blocks.{block-book, block-text}
 use Rattle.embed.specs.Calls.{answerCode, heldBook, imageAfter}
-use Rattle.embed.specs.Left.{header-stands}
 
 -- ## A book stays legal over a block of records
 
@@ -59,7 +58,7 @@ run-kept b s l y h = final-kept b (recordsIn s) l y (records-bytes s h (recordCo
 module _ (s records : List ℕ) (room : ℕ) (bytes : Bytes s) (bytes′ : Bytes records) (answered : answerCode s records room ≡ 0) where
   accepted : readCode s ≡ 0
   unfolding answerCode
-  accepted = header-stands (readCode s) (cond (fits records room) 0 30) (eqb (readCode s) 0) refl answered
+  accepted = both-zero (readCode s) (cond (fits records room) 0 30) answered .0
 
   next-is : imageAfter s records room ≡ image (runBook (heldBook s) records)
   unfolding imageAfter

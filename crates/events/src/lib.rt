@@ -2,8 +2,6 @@
 // The rules are those of the crates below, on one entry and one player; this crate reads them out of the book and stores what they leave.
 ghost use mathlib.Core.Path.{_≡_};
 ghost use Prim.Native.Nat.{_≤_};
-ghost use lib.ListN.{getD};
-ghost use Rattle.book.specs.Blank.{noEntry};
 ghost use Rattle.model.specs.Book.{latestTime};
 ghost use Rattle.model.specs.Events.{refusal, catalogOf, doBegin, doContinue, doStop, done, takenStep, step, stepRecord};
 ghost use Rattle.uses.specs.Uses.{placed};
@@ -82,16 +80,6 @@ fn refused_act(code: u8, o: Open) -> Act
     }
 }
 
-// An entry, blank at a position that no book has.
-fn entry_at(b: Book, k: usize) -> Entry
-    ensures { λ r. ⌜ r ≡ getD (b .entries) k noEntry ⌝ }
-{
-    if k < 64 {
-        return b.entries[k];
-    }
-    book::blank_entry()
-}
-
 fn begin(b: Book, o: Open, asset: u16, kind: u8, t: u32) -> Act
     requires { ⌜ t ≤ latestTime ⌝ }
     ensures { λ r. ⌜ placed (r .at) (r .part) (b .entries) ≡ doBegin (catalogOf b) (b .entries) o t asset kind ⌝ }
@@ -127,7 +115,8 @@ fn go_on(b: Book, o: Open, t: u32) -> Act
     ensures { λ r. ⌜ placed (r .at) (r .part) (b .entries) ≡ doContinue (b .entries) o t ⌝ }
 {
     let k = o.entry as usize;
-    let x = entry_at(b, k);
+    let entries = b.entries;
+    let x = book::entry_at(entries, k);
     let l = x.limits;
     let m = x.meters;
     Act {
@@ -140,7 +129,8 @@ fn stop(b: Book, o: Open, t: u32) -> Act
     ensures { λ r. ⌜ placed (r .at) (r .part) (b .entries) ≡ doStop (b .entries) o t ⌝ }
 {
     let k = o.entry as usize;
-    let x = entry_at(b, k);
+    let entries = b.entries;
+    let x = book::entry_at(entries, k);
     let l = x.limits;
     let m = x.meters;
     Act {

@@ -1,6 +1,6 @@
 // Numbers out of bytes, the most significant first.
 ghost use mathlib.Core.Path.{_≡_};
-ghost use mathlib.Core.List.{List, [], _∷_};
+ghost use mathlib.Core.List.{[], _∷_};
 ghost use Rattle.laws.specs.Fields.{bits16, bits32, numberAt};
 
 // Rules out the bytes in another order, and a byte left out.

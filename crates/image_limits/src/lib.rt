@@ -1,18 +1,12 @@
 // Reading an image, stages 24 and 25: the rules of assets, and of what entries allow.
 // Each function answers for every value of its types, whether an image can hold it or not.
 ghost use mathlib.Core.Path.{_≡_};
-ghost use Prim.Native.Nat.{_≤_, min};
+ghost use Prim.Native.Nat.{_≤_};
 ghost use Rattle.model.specs.Book.{assetPosition, assetLegal, assetsLegal, limit, rangesLegal, limitsLegal, entriesLegal};
 use book::Asset;
 use book::Book;
 use book::Limits;
-
-fn at_most_64(count: u8) -> usize
-    ensures { λ r. ⌜ (r ≡ min count 64) × (r ≤ 64) ⌝ }
-{
-    let n = count as usize;
-    if n < 64 { n } else { 64 }
-}
+use book::at_most_64;
 
 // Where among the first n assets the one with that number stands; n where there is none.
 fn asset_position(assets: [Asset; 64], n: usize, number: u16) -> usize

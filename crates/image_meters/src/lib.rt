@@ -2,7 +2,7 @@
 // Each function answers for every value of its types, whether an image can hold it or not.
 ghost use mathlib.Core.Path.{_≡_};
 ghost use mathlib.Core.Bool.{cond};
-ghost use Prim.Native.Nat.{_≤_, _-_, min};
+ghost use Prim.Native.Nat.{_≤_};
 ghost use Rattle.laws.specs.Count.{one};
 ghost use Rattle.model.specs.Book.{meterLegal, startLegal, opens, openUses, lasts, openSeconds, metersCover, entryMetersLegal, metersLegal};
 use book::Book;
@@ -11,13 +11,7 @@ use book::Limits;
 use book::Meters;
 use book::Open;
 use book::Player;
-
-fn at_most_64(count: u8) -> usize
-    ensures { λ r. ⌜ (r ≡ min count 64) × (r ≤ 64) ⌝ }
-{
-    let n = count as usize;
-    if n < 64 { n } else { 64 }
-}
+use book::at_most_64;
 
 fn meter_legal(flag: bool, most: u32, used: u32) -> bool
     ensures { λ r. ⌜ r ≡ meterLegal flag most used ⌝ }

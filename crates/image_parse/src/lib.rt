@@ -24,30 +24,18 @@ pub struct Parsed {
     pub book: Book,
 }
 
-fn join16(a: u8, b: u8) -> u16
-    ensures { λ r. ⌜ r ≡ a * 256 + b ⌝ }
-{
-    (a as u16) * 256 + (b as u16)
-}
-
-fn join32(a: u8, b: u8, c: u8, d: u8) -> u32
-    ensures { λ r. ⌜ r ≡ a * 16777216 + b * 65536 + c * 256 + d ⌝ }
-{
-    (a as u32) * 16777216 + (b as u32) * 65536 + (c as u32) * 256 + (d as u32)
-}
-
 fn read16(s: &[u8], at: usize) -> u16
     requires { ⌜ at + 2 ≤ length (now s) ⌝ }
     ensures { λ r. ⌜ r ≡ numberAt bits16 at (now (s .entry)) ⌝ }
 {
-    join16(s[at], s[at + 1])
+    fields::join16(s[at], s[at + 1])
 }
 
 fn read32(s: &[u8], at: usize) -> u32
     requires { ⌜ at + 4 ≤ length (now s) ⌝ }
     ensures { λ r. ⌜ r ≡ numberAt bits32 at (now (s .entry)) ⌝ }
 {
-    join32(s[at], s[at + 1], s[at + 2], s[at + 3])
+    fields::join32(s[at], s[at + 1], s[at + 2], s[at + 3])
 }
 
 fn asset_in(s: &[u8]) -> Asset

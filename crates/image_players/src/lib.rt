@@ -2,10 +2,7 @@
 // Each function answers for every value of its types, whether an image can hold it or not.
 ghost use mathlib.Core.Path.{_≡_};
 ghost use mathlib.Core.Bool.{cond};
-ghost use Prim.Native.Nat.{min};
-ghost use lib.ListN.{getD};
-ghost use Rattle.book.specs.Blank.{noEntry};
-ghost use Rattle.model.specs.Book.{playerBlank, requestLegal, answerLegal, insideDates, insideInterval, useLegal, openLegal, playerLegal, playersLegal};
+ghost use Rattle.model.specs.Book.{playerBlank, answerLegal, insideDates, insideInterval, useLegal, openLegal, playerLegal, playersLegal};
 use book::Answer;
 use book::Book;
 use book::Entry;
@@ -13,28 +10,12 @@ use book::Limits;
 use book::Meters;
 use book::Open;
 use book::Player;
-
-fn at_most_64(count: u8) -> usize
-    ensures { λ r. ⌜ r ≡ min count 64 ⌝ }
-{
-    let n = count as usize;
-    if n < 64 { n } else { 64 }
-}
+use book::at_most_64;
 
 fn pick(w: bool, a: bool, b: bool) -> bool
     ensures { λ r. ⌜ r ≡ cond w a b ⌝ }
 {
     if w { a } else { b }
-}
-
-// A position past the table's end reads as blank.
-fn entry_at(entries: [Entry; 64], k: usize) -> Entry
-    ensures { λ r. ⌜ r ≡ getD entries k noEntry ⌝ }
-{
-    if k < 64 {
-        return entries[k];
-    }
-    book::blank_entry()
 }
 
 fn player_blank(p: Player) -> bool
@@ -54,13 +35,6 @@ fn player_blank(p: Player) -> bool
         & (o.entry == 0)
         & (o.begin == 0)
         & (o.until == 0)
-}
-
-fn request_legal(operation: u8, asset: u16, kind: u8) -> bool
-    ensures { λ r. ⌜ r ≡ requestLegal operation asset kind ⌝ }
-{
-    ((operation == 1) & ((1 <= kind) & (kind <= 5)))
-        | (((2 <= operation) & (operation <= 3)) & (asset == 0) & (kind == 0))
 }
 
 fn answer_legal(n: usize, a: Answer) -> bool
@@ -121,7 +95,7 @@ fn player_legal(time: u32, n: usize, e: Entry, p: Player) -> bool
     let l = p.last;
     let a = l.answer;
     let o = p.current;
-    let judged = request_legal(l.operation, l.asset, l.kind)
+    let judged = decode::request_legal(l.operation, l.asset, l.kind)
         & answer_legal(n, a)
         & open_legal(time, n, e, o);
     pick(l.number == 0, player_blank(p), judged)
@@ -140,7 +114,7 @@ pub fn players_legal(b: Book) -> bool
     while i < 16 {
         let p = players[i];
         let o = p.current;
-        let e = entry_at(entries, o.entry as usize);
+        let e = book::entry_at(entries, o.entry as usize);
         let w = player_legal(time, n, e, p);
         legal = legal & w;
         i = i + 1;

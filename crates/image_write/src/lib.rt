@@ -1,7 +1,7 @@
 // Writes the image of a book into a lent buffer: the header, then the assets, the entries and the players, record by record.
 // A buffer that is too short is left as it was.
 ghost use mathlib.Core.Path.{_≡_};
-ghost use Prim.Native.Nat.{_+_, _*_, _≤_, min};
+ghost use Prim.Native.Nat.{_+_, _*_, _≤_};
 ghost use lib.ListN.{length, getD};
 ghost use Rattle.laws.specs.Count.{joined};
 ghost use Rattle.laws.specs.Buffer.{lay};
@@ -12,6 +12,7 @@ use book::Asset;
 use book::Book;
 use book::Entry;
 use book::Player;
+use book::at_most_64;
 
 // Lays src into buf from at on, and returns the place behind it.
 fn put(buf: &mut [u8], at: usize, src: &[u8]) -> usize
@@ -72,26 +73,18 @@ fn put_players(buf: &mut [u8], at: usize, table: [Player; 16]) -> usize
     o
 }
 
-fn at_most_64(n: u8) -> u8
-    ensures { λ r. ⌜ r ≡ min n 64 ⌝ }
-{
-    if n < 64 { n } else { 64 }
-}
-
 // The length of the image, or 30 where the buffer has no room for it. The contract rules out a writer that returns 30 but
 // has begun to write, and one that writes the image and a byte more behind it.
 pub fn write(b: Book, buf: &mut [u8]) -> usize
     ensures { λ r. ⌜ (r ≡ writeAnswer b (length (now (buf .entry)))) × (now (buf .exit) ≡ writeBuffer b (now (buf .entry))) ⌝ }
 {
-    let assets = at_most_64(b.assetcount);
-    let entries = at_most_64(b.entrycount);
-    let a = assets as usize;
-    let n = entries as usize;
+    let a = at_most_64(b.assetcount);
+    let n = at_most_64(b.entrycount);
     let len = 11 + 5 * a + 51 * n + 384;
     if buf.len() < len {
         return 30;
     }
-    let head = image_records::header_bytes(assets, entries, b.time);
+    let head = image_records::header_bytes(a as u8, n as u8, b.time);
     let o = put(buf, 0, &head);
     let ats = b.assets;
     let o = put_assets(buf, o, ats, a);

@@ -94,10 +94,6 @@ fn judge(held: Book, n: usize, buf: &[u8]) -> Book {
     held
 }
 
-fn join(high: u8, low: u8) -> usize {
-    high as usize * 256 + low as usize
-}
-
 // One case: its length in two bytes, then the image.
 fn one_case(fd: i32, held: Book) -> Turn {
     let mut head = [0u8; 2];
@@ -107,7 +103,7 @@ fn one_case(fd: i32, held: Book) -> Turn {
             book: held,
         };
     }
-    let n = join(head[0], head[1]);
+    let n = fields::join16(head[0], head[1]) as usize;
     let mut buf = io::large_buffer();
     fill(fd, n, &mut buf);
     let next = judge(held, n, &buf);

@@ -86,7 +86,7 @@ decoded s =
 
 -- ## The checks on the number and the time
 
--- the last number of a player that has one follows it
+-- "nothing follows 4,294,967,295"
 abbrev pub lastNumber : ℕ
 lastNumber = 4294967295
 

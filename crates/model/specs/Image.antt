@@ -1,6 +1,5 @@
 -- The image of a book: document 01, section "Image": the layout, the writer's bytes, the reader's answer for every byte string.
 -- "Big-endian." A layout is a list of widths with the values in the same order; a new field is a row in each.
-use mathlib.Core.Path.{_≡_}
 use Prim.Native.Nat.{ℕ, _+_, _*_, _-_, _<_}
 use mathlib.Core.Bool.{Bool, cond, _&&_, _||_, not}
 use mathlib.Core.List.{List, [], _∷_, _++_}
@@ -12,7 +11,7 @@ use Rattle.book.specs.declared.Asset.{Asset}
 use Rattle.book.specs.declared.Entry.{Entry}
 use Rattle.book.specs.declared.Player.{Player}
 use Rattle.book.specs.declared.Book.{Book}
-use Rattle.book.specs.Blank.{noAsset, noEntry, noPlayer}
+use Rattle.book.specs.Blank.{noAsset, noEntry}
 use Rattle.model.specs.Book.{assetAt, playerAt, assetsIn, entriesIn, latestTime, ruleBroken}
 
 -- ## The layout

@@ -1,6 +1,6 @@
 -- The ledger: document 01, section "The ledger". It is built from events and answers alone; nothing here looks at a book's meters or players.
 -- Written from that section, apart from the rules of events. Quotations are that document's.
-use Prim.Native.Nat.{ℕ, zero, suc, _+_, _-_, min}
+use Prim.Native.Nat.{ℕ, _+_, _-_, min}
 use mathlib.Core.Bool.{Bool, true, false, not, _&&_, _||_, cond}
 use mathlib.Core.List.{List, [], _∷_}
 use mathlib.Core.Option.{Option, none, some}

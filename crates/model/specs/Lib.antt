@@ -1,3 +1,4 @@
+-- What a reader must believe, and under `Proof` the theorems about it.
 pub mod Book
 pub mod Image
 pub mod Events

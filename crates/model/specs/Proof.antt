@@ -1,6 +1,7 @@
 -- Lemmas and proofs about the definitions above: nothing here has to be believed. Afternoon and Cases are closed runs.
 pub mod Afternoon
 pub mod Cases
+pub mod Header
 pub mod RoundTrip
 pub mod BookExamples
 pub mod Facts

@@ -1,1 +1,2 @@
+-- The assets by number.
 pub mod Places

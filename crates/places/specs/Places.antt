@@ -13,7 +13,7 @@ use Rattle.laws.specs.Count.{first}
 use Rattle.book.specs.declared.Asset.{Asset}
 use Rattle.model.specs.Book.{assetAt, assetPosition}
 use Rattle.model.specs.Events.{holds, usable}
-use Rattle.model.specs.Proof.Facts.{on-test, on-same, and-left}
+use Rattle.laws.specs.Tests.{on-test, on-same, and-left}
 use Rattle.assets.specs.declared.Reach.{Reach}
 use Rattle.assets.specs.Reach.{tableOf, reachIn, numbered}
 

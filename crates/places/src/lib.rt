@@ -7,7 +7,7 @@ ghost use Rattle.places.specs.Places.{placesOf, parentsOf, reachAt};
 use assets::Reach;
 use assets::reach_of;
 use book::Asset;
-use rules::at_most_64;
+use book::at_most_64;
 
 // The place that the table holds for an asset at a position: 64 if it cannot be used.
 fn place_of(usable: bool, i: usize) -> u8

@@ -1,7 +1,7 @@
 -- What a record's code says of its step: refused, answered as before, or taken as an event with these numbers.
 use Prim.Native.Nat.{ℕ, _+_, _%_, _<_, _≤_}
 use mathlib.Core.Path.{_≡_, refl, sym, ap, subst, _∙_}
-use mathlib.Core.Bool.{Bool, true, false, not, _&&_, _||_, cond, true≢false, false≢true}
+use mathlib.Core.Bool.{Bool, true, false, not, _&&_, _||_, cond, or-false, true≢false, false≢true}
 use mathlib.Core.List.{List}
 use native.Mathlib.Omega.{arith}
 use borrow.Author.Tests.{ltb-false, leb-true, ne-eqb, eq-eqb, eqb-true, le-ltb}
@@ -17,7 +17,7 @@ use Rattle.book.specs.declared.Gate.the-variants.{Refuse, Resend, Take}
 use Rattle.book.specs.declared.Decoded.the-variants.{Invalid, Valid}
 use Rattle.model.specs.Book.{between, requestLegal, latestTime}
 use Rattle.model.specs.Events.{operationNumber, requestAsset, requestKind, kindNumber, kindOf, requestOf, recordField, eventIn, decoded, sameRequest, sameNumber, inLine, timely, gate, refusal, noted, lastAt, stepBy, step, arrive, stepRecord}
-use Rattle.model.specs.Proof.Facts.{on-test, on-same, and-left, and-right, eqb-self}
+use Rattle.laws.specs.Tests.{on-test, on-same, and-left, and-right, eqb-self}
 use Rattle.records.specs.declared.Asked.{Asked}
 use Rattle.records.specs.Asked.{askedIn, sameNumbers, unlike, gateCode}
 
@@ -36,13 +36,9 @@ record Numbers (operation asset kind : ℕ) : Type 0 where
   pub same-asset : requestAsset (requestOf operation asset kind) ≡ asset
   pub same-kind : requestKind (requestOf operation asset kind) ≡ kind
 
-or-off : (w : Bool) → (w || false) ≡ true → w ≡ true
-or-off true e = refl
-or-off false e = e
-
 legal-begin : (asset kind : ℕ) → requestLegal 1 asset kind ≡ true → between 1 5 kind ≡ true
 unfolding requestLegal
-legal-begin asset kind h = or-off (between 1 5 kind) h
+legal-begin asset kind h = sym (or-false (between 1 5 kind)) ∙ h
 
 legal-other : (operation asset kind : ℕ) → (operation ≡ 1 → ⊥) → requestLegal operation asset kind ≡ true → (between 2 3 operation && eqb asset 0 && eqb kind 0) ≡ true
 unfolding requestLegal

@@ -1,7 +1,7 @@
 -- A record's numbers, and what becomes of it before the book is touched, as the quick loop has them.
 use Prim.Native.Nat.{ℕ, _+_, _≤_}
 use mathlib.Core.Path.{_≡_, refl}
-use mathlib.Core.Bool.{Bool, true, false, not, _&&_, cond}
+use mathlib.Core.Bool.{Bool, true, false, not, _&&_, cond, and-false}
 use mathlib.Core.List.{List}
 use native.Mathlib.Omega.{arith}
 use borrow.Author.Tests.{lt-ltb, eq-eqb, ne-eqb}
@@ -48,10 +48,6 @@ gateCode now l a =
 pub in-line : (l : Last) (number : ℕ) → number ≤ lastNumber → number ≡ l .number + 1 → inLine l number ≡ true
 unfolding inLine
 in-line l number h e = rw (lt-ltb (l .number) lastNumber (omega arith)) (eq-eqb number (l .number + 1) e)
-
-and-false : (w : Bool) → (w && false) ≡ false
-and-false true = refl
-and-false false = refl
 
 pub not-in-line : (l : Last) (number : ℕ) → (number ≡ l .number + 1 → ⊥) → inLine l number ≡ false
 unfolding inLine

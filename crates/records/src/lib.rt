@@ -1,10 +1,9 @@
 // An event record's numbers as they stand, and what becomes of it before the book is touched, as one number.
 // The loop that answers many records asks this way: no event is built for a record that is refused or resent.
 ghost use mathlib.Core.Path.{_≡_};
-ghost use mathlib.Core.Bool.{cond};
-ghost use Rattle.model.specs.Book.{requestLegal};
 ghost use Rattle.records.specs.Asked.{askedIn, unlike, gateCode};
 use book::Last;
+use decode::request_legal;
 
 // What 13 bytes hold. Not whole: any other number of bytes, and the rest is 0.
 pub struct Asked {
@@ -41,15 +40,6 @@ pub fn read_record(s: &[u8]) -> Asked
         kind: s[8],
         time: fields::join32(s[9], s[10], s[11], s[12]),
     }
-}
-
-fn request_legal(operation: u8, asset: u16, kind: u8) -> bool
-    ensures { λ r. ⌜ r ≡ requestLegal operation asset kind ⌝ }
-{
-    if operation == 1 {
-        return (1 <= kind) & (kind <= 5);
-    }
-    (2 <= operation) & (operation <= 3) & (asset == 0) & (kind == 0)
 }
 
 // 255 or 4 where the number is the player's last, else 3.

@@ -13,7 +13,7 @@ use Rattle.book.specs.declared.Meters.{Meters}
 use Rattle.book.specs.declared.Entry.{Entry}
 use Rattle.model.specs.Book.{limitsAt, metersAt, latestTime, flagged}
 use Rattle.model.specs.Events.{where-flagged, isStarted, noEnd, own, asked, suitable, grantable, countLeft, timedLeft, inDates, intervalLeft, secondsLeft, rankOf, ranksBefore}
-use Rattle.model.specs.Proof.Facts.{on-test}
+use Rattle.laws.specs.Tests.{on-test}
 use Rattle.rules.specs.declared.Rank.{Rank}
 use Rattle.rules.specs.Rules.{asRank}
 use Rattle.choose.specs.declared.Best.{Best}

@@ -90,14 +90,6 @@ pub fn least(a: u64, b: u64) -> u64
     if a < b { a } else { b }
 }
 
-// How many slots of a table count: a count above 64, which no image has, counts as 64.
-pub fn at_most_64(count: u8) -> usize
-    ensures { λ r. ⌜ r ≡ min count 64 ⌝ }
-{
-    let n = count as usize;
-    if n < 64 { n } else { 64 }
-}
-
 pub fn kind_number(k: Kind) -> u8
     ensures { λ r. ⌜ r ≡ kindNumber k ⌝ }
 {

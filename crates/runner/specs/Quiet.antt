@@ -17,7 +17,7 @@ use Rattle.book.specs.declared.Book.{Book}
 use Rattle.book.specs.Blank.{noPlayer}
 use Rattle.model.specs.Book.{playerAt, latestTime}
 use Rattle.model.specs.Events.{isOn, expired, shut, openAt, anyOf}
-use Rattle.model.specs.Proof.Facts.{on-test, and-left, and-right}
+use Rattle.laws.specs.Tests.{on-test, and-left, and-right}
 use Rattle.uses.specs.Due.{dueAt, anyDue}
 use Rattle.rows.specs.Mapped.{mapped-at, mapped-set}
 use Rattle.rows.specs.Ends.{never, endOf, endOfPlayer, end-reached}

@@ -24,7 +24,7 @@ use Rattle.book.specs.declared.Gate.{Gate}
 use Rattle.book.specs.Blank.{noPlayer}
 use Rattle.model.specs.Book.{limitsAt, metersAt, playerAt, latestTime, entriesIn}
 use Rattle.model.specs.Events.{Catalog, Done, unchanged, refusal, eventIn, stepBy, step, arrive, stepRecord, catalogOf, done, doBegin, doContinue, doStop, lastAt, openAt, isOn, usable, parentOf, suits, anyOf, expired, shut, released, amend, ended, operationNumber, requestAsset, requestKind}
-use Rattle.model.specs.Proof.Facts.{on-test, on-same}
+use Rattle.laws.specs.Tests.{on-test, on-same}
 use Rattle.records.specs.declared.Asked.{Asked}
 use Rattle.records.specs.Asked.{askedIn, gateCode}
 use Rattle.records.specs.Arrived.{Came, code-refuses, code-resends, noted-numbers}

@@ -1,11 +1,12 @@
 -- Whether any player's use is due, and that settling changes nothing where none is.
 use Prim.Native.Nat.{ℕ, zero, suc, _+_, _≤_}
 use mathlib.Core.Path.{_≡_, refl, sym, ap₂, ap, _∙_}
-use mathlib.Core.Bool.{Bool, true, false, _||_}
+use mathlib.Core.Bool.{Bool, false, _||_, or-false, or-assoc}
 use mathlib.Core.List.{List, [], _∷_, map}
 use lib.ListN.{length}
 use native.Mathlib.Omega.{arith}
 use native.Mathlib.Numerals.{add-one}
+use Rattle.laws.specs.Tests.{neither}
 use Rattle.book.specs.declared.Entry.{Entry}
 use Rattle.book.specs.declared.Player.{Player}
 use Rattle.book.specs.declared.Open.{Open}
@@ -24,27 +25,10 @@ pub any-of-next : (f : ℕ → Bool) (n : ℕ) → anyOf f (n + 1) ≡ (anyOf f 
 unfolding anyOf
 any-of-next f n = rw add-one
 
-or-left : (a b : Bool) → (a || b) ≡ false → a ≡ false
-or-left false b h = refl
-or-left true b h = h
-
-or-right : (a b : Bool) → (a || b) ≡ false → b ≡ false
-or-right false b h = h
-or-right true false h = refl
-or-right true true h = h
-
-or-assoc : (a b c : Bool) → (a || b || c) ≡ (a || (b || c))
-or-assoc true b c = refl
-or-assoc false b c = refl
-
-or-none : (a : Bool) → a ≡ (a || false)
-or-none true = refl
-or-none false = refl
-
 -- the first apart from the others
 any-of-first : (f : ℕ → Bool) (n : ℕ) → anyOf f (suc n) ≡ (f 0 || anyOf (λ i. f (suc i)) n)
 unfolding anyOf
-any-of-first f zero = or-none (f 0)
+any-of-first f zero = sym (or-false (f 0))
 any-of-first f (suc n) =
     ap (λ (a : Bool). a || f (suc n)) (any-of-first f n) ∙ or-assoc (f 0) (anyOf (λ i. f (suc i)) n) (f (suc n))
 
@@ -65,11 +49,10 @@ unfolding dueAt settled
 none-from t [] es n h e = (refl, refl)
 none-from t (p ∷ ps) es zero h e = absurd (omega arith)
 none-from t (p ∷ ps) es (suc n) h e =
-    let d = sym (any-of-first (dueAt t (p ∷ ps)) n) ∙ e in
-    let here = or-left (expired t (p .current)) (anyOf (dueAt t ps) n) d in
-    let rest = none-from t ps es n (omega arith) (or-right (expired t (p .current)) (anyOf (dueAt t ps) n) d) in (
-      ap₂ (λ (q : Player) (qs : List Player). q ∷ qs) (shut-same t p here) (rest .0),
-      ap (λ (l : List Entry). settled t ps l) (released-same t (p .current) es here) ∙ rest .1,
+    let d = neither (expired t (p .current)) (anyOf (dueAt t ps) n) (sym (any-of-first (dueAt t (p ∷ ps)) n) ∙ e) in
+    let rest = none-from t ps es n (omega arith) (d .1) in (
+      ap₂ (λ (q : Player) (qs : List Player). q ∷ qs) (shut-same t p (d .0)) (rest .0),
+      ap (λ (l : List Entry). settled t ps l) (released-same t (p .current) es (d .0)) ∙ rest .1,
     )
 
 -- "each open use of any player with until ≤ t ends": none, so settling leaves players and entries as they are

@@ -1,16 +1,17 @@
 -- What a grant adds to the meters, and its until, fit 32 bits.
 use Prim.Native.Nat.{ℕ, _+_, _-_, _<_, _≤_}
 use mathlib.Core.Path.{_≡_, refl}
-use mathlib.Core.Bool.{Bool, true, false, _&&_, cond, false≢true}
+use mathlib.Core.Bool.{Bool, true, false, cond}
+use mathlib.Core.List.{[], _∷_}
 use lib.Dec.{ltb}
-use native.Mathlib.Nat.{min-le-left, min-le-right}
 use native.Mathlib.Omega.{arith}
 use borrow.Author.Tests.{ltb-true}
+use Rattle.laws.specs.Tests.{row-passed}
 use Rattle.book.specs.declared.Limits.{Limits}
 use Rattle.book.specs.declared.Meters.{Meters}
 use Rattle.model.specs.Book.{latestTime, grantLength, flagged, momentary}
 use Rattle.model.specs.Events.{asked, where-flagged, cap, intervalFrom, leastUntil, grantUntil, grantable, countLeft, timedLeft, inDates, intervalLeft, secondsLeft}
-use Rattle.model.specs.Proof.Facts.{and-left, and-right}
+use Rattle.model.specs.Proof.Facts.{cap-le, cap-at}
 
 -- what begun adds, for a begin at t until u, fits
 pub record Room (t u : ℕ) (l : Limits) (m : Meters) : Type 0 where
@@ -31,27 +32,19 @@ pub record Narrow (l : Limits) (m : Meters) : Type 0 where
   pub timed : m .timed < 4294967296
   pub seconds : m .seconds < 4294967296
 
-cap-under : (w : Bool) (v x : ℕ) → cap w v x ≤ x
-cap-under true v x = min-le-right v x
-cap-under false v x = omega arith
-
-cap-flagged : (w : Bool) (v x : ℕ) → w ≡ true → cap w v x ≤ v
-cap-flagged true v x h = min-le-left v x
-cap-flagged false v x h = absurd (false≢true h)
-
 least-length : (t from : ℕ) (l : Limits) (m : Meters) → leastUntil t from l m ≤ t + 60
 unfolding leastUntil grantLength
 least-length t from l m =
     let paid = cap (flagged 32 l) (from + (l .accumulated - m .seconds)) (t + 60) in
     let due = cap (flagged 16 l) (intervalFrom t m + l .interval) paid in
-    omega (arith, cap-under (flagged 8 l) (l .end + 1) due, cap-under (flagged 16 l) (intervalFrom t m + l .interval) paid, cap-under (flagged 32 l) (from + (l .accumulated - m .seconds)) (t + 60))
+    omega (arith, cap-le (flagged 8 l) (l .end + 1) due, cap-le (flagged 16 l) (intervalFrom t m + l .interval) paid, cap-le (flagged 32 l) (from + (l .accumulated - m .seconds)) (t + 60))
 
 least-paid : (t from : ℕ) (l : Limits) (m : Meters) → flagged 32 l ≡ true → leastUntil t from l m ≤ from + (l .accumulated - m .seconds)
 unfolding leastUntil grantLength
 least-paid t from l m h =
     let paid = cap (flagged 32 l) (from + (l .accumulated - m .seconds)) (t + 60) in
     let due = cap (flagged 16 l) (intervalFrom t m + l .interval) paid in
-    omega (arith, cap-under (flagged 8 l) (l .end + 1) due, cap-under (flagged 16 l) (intervalFrom t m + l .interval) paid, cap-flagged (flagged 32 l) (from + (l .accumulated - m .seconds)) (t + 60) h)
+    omega (arith, cap-le (flagged 8 l) (l .end + 1) due, cap-le (flagged 16 l) (intervalFrom t m + l .interval) paid, cap-at (flagged 32 l) (from + (l .accumulated - m .seconds)) (t + 60) h)
 
 -- a continue's until, at a time that an event may have
 pub more-fits : (t from : ℕ) (l : Limits) (m : Meters) → t ≤ latestTime → leastUntil t from l m < 4294967296
@@ -94,12 +87,10 @@ momentary-paid false t v x h = h
 pub grant-room : (t : ℕ) (l : Limits) (m : Meters) → grantable t l m ≡ true → Narrow l m → Room t (grantUntil t l m) l m
 unfolding grantable countLeft timedLeft grantUntil
 grant-room t l m g n =
-    let counts = countLeft l m && timedLeft l m in
-    let early = counts && inDates t l in
-    let both = and-left counts (inDates t l) (and-left early (intervalLeft t l m) (and-left (early && intervalLeft t l m) (secondsLeft l m) g)) in
+    let tests = row-passed (countLeft l m) (timedLeft l m ∷ inDates t l ∷ intervalLeft t l m ∷ secondsLeft l m ∷ []) g in
     record {
-      count = count-room (flagged 1 l) (m .count) (l .count) 4294967296 (and-left (countLeft l m) (timedLeft l m) both) (n .count) (n .countLimit);
-      timed = count-room (flagged 2 l) (m .timed) (l .timed) 4294967296 (and-right (countLeft l m) (timedLeft l m) both) (n .timed) (n .timedLimit);
+      count = count-room (flagged 1 l) (m .count) (l .count) 4294967296 (tests .0) (n .count) (n .countLimit);
+      timed = count-room (flagged 2 l) (m .timed) (l .timed) 4294967296 (tests .1 .0) (n .timed) (n .timedLimit);
       seconds = seconds-room (flagged 32 l) (m .seconds) (l .accumulated) (cond (momentary (l .kind)) t (leastUntil t t l m)) t 4294967296
           (λ h. momentary-paid (momentary (l .kind)) t (leastUntil t t l m) (l .accumulated - m .seconds) (least-paid t t l m h)) (n .seconds) (n .secondsLimit);
     }

@@ -1,3 +1,4 @@
+-- `assets::asset_named` meets its contract. The invariant: none of the first i assets has the number.
 use Rattle.assets.specs.Reach.{numbered, found-at, found-none}
 use Rattle.laws.specs.Loops.{first-on}
 use Rattle.laws.specs.Count.{first}

@@ -1,3 +1,4 @@
+-- `decode::decode` meets its contract: a return for each of 6, 2 and 1, and one for the event.
 use mathlib.Core.Path.{_≡_, sym, _∙_}
 use mathlib.Core.Bool.{false, true}
 use denote.Ref.{now}

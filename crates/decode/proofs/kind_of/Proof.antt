@@ -1,3 +1,4 @@
+-- `decode::kind_of` meets its contract: a return for each kind.
 use borrow.Author.Tests.{ne-eqb}
 use Rattle.model.specs.Events.{kindOf}
 use Rattle.decode.proofs.kind_of.Statement.{statement}

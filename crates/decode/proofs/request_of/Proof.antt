@@ -1,3 +1,4 @@
+-- `decode::request_of` meets its contract: a return for each operation.
 use borrow.Author.Tests.{ne-eqb}
 use Rattle.model.specs.Events.{requestOf}
 use borrow.Author.Needs.{needs}

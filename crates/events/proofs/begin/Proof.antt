@@ -1,3 +1,4 @@
+-- `events::begin` meets its contract: a return for each of 11, 10, 12 and 13, and one for the grant.
 use Prim.Native.Nat.{ℕ, min, _≤_}
 use mathlib.Core.Path.{_≡_, sym, ap, _∙_}
 use lib.ListN.{length}

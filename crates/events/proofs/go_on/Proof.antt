@@ -1,3 +1,4 @@
+-- `events::go_on` meets its contract: what `continue_on` leaves of the entry stands where the entry stood.
 use mathlib.Core.Path.{ap, _∙_}
 use Rattle.book.specs.declared.Entry.{Entry}
 use Rattle.uses.specs.declared.Part.{Part}
@@ -17,8 +18,8 @@ continue-on-requires c κs = search needs
 
 returns : tie.Need-returns
 returns c =
-    let a = c .before .before .before .before .before .args in
-    ap (λ (p : Part). placed (a .o .entry) p (a .b .entries)) (c .continue-on .ensures ∙ ap (λ (x : Entry). continueOn (a .t) (x .limits) (x .meters) (a .o)) (c .before .before .before .entry-at .ensures)) ∙ continue-placed (a .t) (a .b .entries) (a .o) (c .before .before .before .before .before .pre)
+    let a = c .before .before .before .before .before .before .args in
+    ap (λ (p : Part). placed (a .o .entry) p (a .b .entries)) (c .continue-on .ensures ∙ ap (λ (x : Entry). continueOn (a .t) (x .limits) (x .meters) (a .o)) (c .before .before .before .entry-at .ensures)) ∙ continue-placed (a .t) (a .b .entries) (a .o) (c .before .before .before .before .before .before .pre)
 
 pub go-on-spec : {M : Type 1} → statement M
 go-on-spec = tie.close (tie.spec cast-k entry-at-requires continue-on-requires returns)

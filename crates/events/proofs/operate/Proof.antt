@@ -1,3 +1,4 @@
+-- `events::operate` meets its contract: a return for each operation.
 use Rattle.model.specs.Events.{done}
 use borrow.Author.Needs.{needs}
 use Rattle.events.proofs.operate.Statement.{statement}

@@ -1,3 +1,4 @@
+-- `events::refused_act` meets its contract.
 use borrow.Author.Needs.{needs}
 use Rattle.events.proofs.refused_act.Statement.{statement}
 use Rattle.events.proofs.refused_act.Tie as tie

@@ -1,3 +1,4 @@
+-- `events::settle_all` meets its contract. The invariant: the first i players are settled.
 use Prim.Native.Nat.{_≤_, _-_}
 use lib.ListN.{length, set}
 use mathlib.Core.List.{List}

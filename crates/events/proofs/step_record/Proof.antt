@@ -1,3 +1,4 @@
+-- `events::step_record` meets its contract: a return for bytes that are no event, and one for an event.
 use mathlib.Core.Path.{sym, ap, _∙_}
 use Rattle.book.specs.declared.Decoded.{Decoded}
 use Rattle.model.specs.Events.{arrive, stepRecord}

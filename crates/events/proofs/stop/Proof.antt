@@ -1,3 +1,4 @@
+-- `events::stop` meets its contract: what `stop_on` leaves of the entry stands where the entry stood.
 use mathlib.Core.Path.{ap, _∙_}
 use Rattle.book.specs.declared.Entry.{Entry}
 use Rattle.uses.specs.declared.Part.{Part}
@@ -17,7 +18,7 @@ stop-on-requires c κs = search needs
 
 returns : tie.Need-returns
 returns c =
-    let a = c .before .before .before .before .before .args in
+    let a = c .before .before .before .before .before .before .args in
     ap (λ (p : Part). placed (a .o .entry) p (a .b .entries)) (c .stop-on .ensures ∙ ap (λ (x : Entry). stopOn (a .t) (x .limits) (x .meters) (a .o)) (c .before .before .before .entry-at .ensures)) ∙ stop-placed (a .t) (a .b .entries) (a .o)
 
 pub stop-spec : {M : Type 1} → statement M

@@ -1,3 +1,4 @@
+-- `events::stored_book` meets its contract. At position 64 no entry is stored, and the definition's store past the end changes nothing either.
 use mathlib.Core.Logic.{⊎-elim}
 use mathlib.Core.Path.{_≡_, sym, ap, _∙_}
 use mathlib.Core.List.{List}

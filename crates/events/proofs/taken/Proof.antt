@@ -1,3 +1,4 @@
+-- `events::taken` meets its contract: settled, then operated on, then stored.
 use mathlib.Core.Path.{ap, _∙_}
 use Rattle.book.specs.declared.Book.{Book}
 use Rattle.model.specs.Events.{done, catalogOf, openAt}

@@ -1,3 +1,4 @@
+-- `image_limits::asset_legal` meets its contract: its tests are the definition's.
 use Rattle.model.specs.Book.{assetLegal}
 use borrow.Author.Needs.{needs}
 use Rattle.image_limits.proofs.asset_legal.Statement.{statement}

@@ -1,3 +1,4 @@
+-- `image_limits::asset_position` meets its contract. The invariant: none of the first i assets has the number.
 use mathlib.Core.Path.{_≡_, refl, sym, ap, _∙_}
 use mathlib.Core.Bool.{Bool}
 use mathlib.Core.List.{List}

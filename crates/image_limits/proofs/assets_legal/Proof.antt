@@ -1,3 +1,4 @@
+-- `image_limits::assets_legal` meets its contract. The invariant: `legal` tells whether the first i assets are legal.
 use mathlib.Core.Path.{_≡_, refl, sym, ap, ap₂, _∙_}
 use mathlib.Core.Bool.{Bool, _&&_}
 use mathlib.Core.List.{List}
@@ -55,7 +56,7 @@ returns c =
     let n = c .before .before .at-most-64 in
     let l = c .before .loop in
     let e : l .i ≡ n .result = omega arith in
-    l .inv .1 ∙ ap (all (judged assets (n .result))) e ∙ ap (λ (k : ℕ). all (judged assets k) k) (n .ensures .0)
+    l .inv .1 ∙ ap (all (judged assets (n .result))) e ∙ ap (λ (k : ℕ). all (judged assets k) k) (n .ensures)
 
 pub assets-legal-spec : {M : Type 1} → statement M
 assets-legal-spec =

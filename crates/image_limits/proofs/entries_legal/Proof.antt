@@ -1,3 +1,4 @@
+-- `image_limits::entries_legal` meets its contract. The invariant: `legal` tells whether the first i entries are legal.
 use mathlib.Core.Path.{_≡_, refl, sym, ap, ap₂, _∙_}
 use mathlib.Core.Bool.{Bool, _&&_}
 use mathlib.Core.List.{List}
@@ -68,7 +69,7 @@ returns c =
     let e : l .i ≡ m .result = omega arith in
     l .inv .1
     ∙ ap (all (judged (b .assets) (n .result) (b .entries))) e
-    ∙ ap₂ (λ (x y : ℕ). all (judged (b .assets) x (b .entries)) y) (n .ensures .0) (m .ensures .0)
+    ∙ ap₂ (λ (x y : ℕ). all (judged (b .assets) x (b .entries)) y) (n .ensures) (m .ensures)
 
 pub entries-legal-spec : {M : Type 1} → statement M
 entries-legal-spec =

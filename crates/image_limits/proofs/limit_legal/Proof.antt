@@ -1,3 +1,4 @@
+-- `image_limits::limit_legal` meets its contract, with the flag and without it.
 use Rattle.model.specs.Book.{limit}
 use Rattle.image_limits.proofs.limit_legal.Statement.{statement}
 use Rattle.image_limits.proofs.limit_legal.Tie as tie

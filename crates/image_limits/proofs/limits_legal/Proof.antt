@@ -1,3 +1,4 @@
+-- `image_limits::limits_legal` meets its contract: its tests are the definition's.
 use Rattle.model.specs.Book.{flagged, momentary, limitsLegal}
 use borrow.Author.Needs.{needs}
 use Rattle.image_limits.proofs.limits_legal.Statement.{statement}

@@ -1,3 +1,4 @@
+-- `image_meters::entry_meters_legal` meets its contract: its tests are the definition's, and flag 1 is read without dividing by 1.
 use native.Mathlib.Nat.{div-one}
 use Rattle.model.specs.Book.{flagged, entryMetersLegal}
 use borrow.Author.Needs.{needs}

@@ -1,3 +1,4 @@
+-- `image_meters::meter_legal` meets its contract, with the flag and without it.
 use Rattle.model.specs.Book.{meterLegal}
 use Rattle.image_meters.proofs.meter_legal.Statement.{statement}
 use Rattle.image_meters.proofs.meter_legal.Tie as tie

@@ -1,3 +1,4 @@
+-- `image_meters::meters_legal` meets its contract. The invariant: `legal` tells whether the meters of the first i entries are legal.
 use mathlib.Core.Path.{_≡_, refl, sym, ap, ap₂, _∙_}
 use mathlib.Core.Bool.{Bool, _&&_}
 use mathlib.Core.List.{List}
@@ -58,7 +59,7 @@ returns c =
     let n = c .before .before .at-most-64 in
     let l = c .before .loop in
     let e : l .i ≡ n .result = omega arith in
-    l .inv .1 ∙ ap (all (judged (b .time) (b .players) (b .entries))) (e ∙ n .ensures .0)
+    l .inv .1 ∙ ap (all (judged (b .time) (b .players) (b .entries))) (e ∙ n .ensures)
 
 pub meters-legal-spec : {M : Type 1} → statement M
 meters-legal-spec =

@@ -1,3 +1,4 @@
+-- `image_meters::open_seconds` meets its contract. The invariant: `seconds` is the sum over the first p players; each adds less than 2^32, so it fits.
 use mathlib.Core.Path.{_≡_, refl, sym, ap, ap₂, _∙_}
 use mathlib.Core.Bool.{Bool, cond}
 use mathlib.Core.List.{List}

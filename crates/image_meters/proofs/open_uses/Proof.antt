@@ -1,3 +1,4 @@
+-- `image_meters::open_uses` meets its contract. The invariant: `uses` is the number of the first p players that have the entry open.
 use mathlib.Core.Path.{_≡_, refl, sym, ap, ap₂, _∙_}
 use mathlib.Core.List.{List}
 use Prim.Native.Nat.{ℕ, _+_, _-_, _≤_}

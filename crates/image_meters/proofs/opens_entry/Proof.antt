@@ -1,3 +1,4 @@
+-- `image_meters::opens_entry` meets its contract: its test is the definition's.
 use mathlib.Core.Path.{refl}
 use Rattle.model.specs.Book.{opens}
 use borrow.Author.Needs.{needs}

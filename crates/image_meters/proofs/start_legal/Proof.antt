@@ -1,3 +1,4 @@
+-- `image_meters::start_legal` meets its contract: its tests are the definition's.
 use mathlib.Core.Path.{refl}
 use Rattle.model.specs.Book.{flagged, startLegal}
 use Rattle.image_meters.proofs.start_legal.Statement.{statement}

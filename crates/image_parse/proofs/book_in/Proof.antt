@@ -1,3 +1,4 @@
+-- `image_parse::book_in` meets its contract: each table is read where the counts of the header put it.
 use native.Mathlib.Omega.{arith}
 use lib.ListN.{getD}
 use denote.Ref.{now}

@@ -1,21 +1,19 @@
-use mathlib.Core.Path.{_≡_, ap, ap₂, _∙_}
-use mathlib.Core.List.{List, _++_}
-use Prim.Native.Nat.{ℕ, _+_, _*_, _-_, _≤_}
+-- `image_parse::entries_in` meets its contract. The invariant: the first i slots are read, the others blank.
+use mathlib.Core.Path.{_≡_, ap, _∙_}
+use Prim.Native.Nat.{_-_, _≤_}
 use native.Mathlib.Omega.{arith}
-use lib.ListN.{length, set, drop, replicate, length-drop}
-use lib.Seq.{take-all}
+use lib.ListN.{replicate}
 use denote.Ref.{now}
 use Rattle.laws.specs.Count.{listed}
-use Rattle.laws.specs.Loops.{listed-turn}
-use Rattle.book.specs.declared.Entry.{Entry}
 use Rattle.book.specs.Blank.{noEntry}
 use Rattle.model.specs.Image.{entryIn, entryTable}
 use borrow.Author.Needs.{needs}
+use Rattle.image_parse.specs.Tables.{readTo, read-turn}
 use Rattle.image_parse.proofs.entries_in.Statement.{statement}
 use Rattle.image_parse.proofs.entries_in.Tie as tie
 
 abbrev Inv-loop : tie.InvT-loop
-Inv-loop s at n table₀ i₀ table i = (i ≤ n) × (table ≡ listed (λ k. entryIn (drop (at + 51 * k) s)) i ++ replicate (64 - i) noEntry)
+Inv-loop s at n table₀ i₀ table i = (i ≤ n) × (table ≡ readTo entryIn noEntry 64 51 at s i)
 
 abbrev μ-loop : tie.MeasureT-loop
 μ-loop s at n table₀ i₀ table i = n - i
@@ -61,12 +59,7 @@ loop-again : tie.Need-loop-again Inv-loop μ-loop
 loop-again c =
     let a = c .before .before .before .before .before .before .args in
     let l = c .before .before .before .loop in
-    let o = a .at + 51 * l .i in
-    let e : length (drop o (now (a .s))) ≤ length (now (a .s)) - o = simp length-drop (omega arith) in (
-      omega arith,
-      ap₂ (λ (t : List Entry) (v : Entry). set t (l .i) v) (l .inv .1) (c .entry-in .ensures ∙ ap entryIn (take-all (length (now (a .s)) - o) (drop o (now (a .s))) e))
-          ∙ listed-turn (λ k. entryIn (drop (a .at + 51 * k) (now (a .s)))) noEntry 64 (l .i) (omega arith),
-    )
+    (omega arith, read-turn entryIn noEntry 64 51 (a .at) (now (a .s)) (l .table) _ (l .i) (omega arith) (l .inv .1) (c .entry-in .ensures))
 
 returns : tie.Need-returns Inv-loop μ-loop
 unfolding entryTable
@@ -74,7 +67,7 @@ returns c =
     let a = c .before .before .before .before .args in
     let l = c .before .loop in
     let e : l .i ≡ a .n = omega arith in
-    l .inv .1 ∙ ap (λ (k : ℕ). listed (λ k. entryIn (drop (a .at + 51 * k) (now (a .s)))) k ++ replicate (64 - k) noEntry) e
+    l .inv .1 ∙ ap (readTo entryIn noEntry 64 51 (a .at) (now (a .s))) e
 
 pub entries-in-spec : {M : Type 1} → statement M
 entries-in-spec =

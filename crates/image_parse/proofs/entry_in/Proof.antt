@@ -1,3 +1,4 @@
+-- `image_parse::entry_in` meets its contract: its limits and its meters are those of the same bytes.
 use Rattle.model.specs.Image.{entryIn}
 use borrow.Author.Needs.{needs}
 use Rattle.image_parse.proofs.entry_in.Statement.{statement}

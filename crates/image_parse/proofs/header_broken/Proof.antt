@@ -1,3 +1,4 @@
+-- `image_parse::header_broken` meets its contract: at each return the stages before it have passed.
 use mathlib.Core.Path.{_≡_, sym, ap, _∙_}
 use mathlib.Core.Bool.{true, false, _||_}
 use Prim.Native.Nat.{ℕ}

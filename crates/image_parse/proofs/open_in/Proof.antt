@@ -1,3 +1,4 @@
+-- `image_parse::open_in` meets its contract: each field is read at its offset.
 use lib.ListN.{getD}
 use denote.Ref.{now}
 use Rattle.model.specs.Image.{playerIn}

@@ -1,3 +1,4 @@
+-- `image_parse::player_in` meets its contract: its last event and its open use are those of the same bytes.
 use Rattle.model.specs.Image.{playerIn}
 use borrow.Author.Needs.{needs}
 use Rattle.image_parse.proofs.player_in.Statement.{statement}

@@ -1,21 +1,20 @@
-use mathlib.Core.Path.{_≡_, ap, ap₂, _∙_}
-use mathlib.Core.List.{List, _++_, append-nil}
-use Prim.Native.Nat.{ℕ, _+_, _*_, _-_, _≤_}
+-- `image_parse::players_in` meets its contract. The invariant: the first i slots are read, the others blank.
+use mathlib.Core.Path.{_≡_, ap, _∙_}
+use mathlib.Core.List.{append-nil}
+use Prim.Native.Nat.{_+_, _*_, _-_, _≤_}
 use native.Mathlib.Omega.{arith}
-use lib.ListN.{length, set, drop, replicate, length-drop}
-use lib.Seq.{take-all}
+use lib.ListN.{drop, replicate}
 use denote.Ref.{now}
 use Rattle.laws.specs.Count.{listed}
-use Rattle.laws.specs.Loops.{listed-turn}
-use Rattle.book.specs.declared.Player.{Player}
 use Rattle.book.specs.Blank.{noPlayer}
 use Rattle.model.specs.Image.{playerIn, playerTable}
 use borrow.Author.Needs.{needs}
+use Rattle.image_parse.specs.Tables.{readTo, read-turn}
 use Rattle.image_parse.proofs.players_in.Statement.{statement}
 use Rattle.image_parse.proofs.players_in.Tie as tie
 
 abbrev Inv-loop : tie.InvT-loop
-Inv-loop s at table₀ i₀ table i = (i ≤ 16) × (table ≡ listed (λ k. playerIn (drop (at + 24 * k) s)) i ++ replicate (16 - i) noPlayer)
+Inv-loop s at table₀ i₀ table i = (i ≤ 16) × (table ≡ readTo playerIn noPlayer 16 24 at s i)
 
 abbrev μ-loop : tie.MeasureT-loop
 μ-loop s at table₀ i₀ table i = 16 - i
@@ -61,12 +60,7 @@ loop-again : tie.Need-loop-again Inv-loop μ-loop
 loop-again c =
     let a = c .before .before .before .before .before .before .args in
     let l = c .before .before .before .loop in
-    let o = a .at + 24 * l .i in
-    let e : length (drop o (now (a .s))) ≤ length (now (a .s)) - o = simp length-drop (omega arith) in (
-      omega arith,
-      ap₂ (λ (t : List Player) (v : Player). set t (l .i) v) (l .inv .1) (c .player-in .ensures ∙ ap playerIn (take-all (length (now (a .s)) - o) (drop o (now (a .s))) e))
-          ∙ listed-turn (λ k. playerIn (drop (a .at + 24 * k) (now (a .s)))) noPlayer 16 (l .i) (omega arith),
-    )
+    (omega arith, read-turn playerIn noPlayer 16 24 (a .at) (now (a .s)) (l .table) _ (l .i) (omega arith) (l .inv .1) (c .player-in .ensures))
 
 returns : tie.Need-returns Inv-loop μ-loop
 unfolding playerTable
@@ -74,7 +68,7 @@ returns c =
     let a = c .before .before .before .before .args in
     let l = c .before .loop in
     let e : l .i ≡ 16 = omega arith in
-    l .inv .1 ∙ ap (λ (k : ℕ). listed (λ k. playerIn (drop (a .at + 24 * k) (now (a .s)))) k ++ replicate (16 - k) noPlayer) e ∙ append-nil (listed (λ k. playerIn (drop (a .at + 24 * k) (now (a .s)))) 16)
+    l .inv .1 ∙ ap (readTo playerIn noPlayer 16 24 (a .at) (now (a .s))) e ∙ append-nil (listed (λ k. playerIn (drop (a .at + 24 * k) (now (a .s)))) 16)
 
 pub players-in-spec : {M : Type 1} → statement M
 players-in-spec =

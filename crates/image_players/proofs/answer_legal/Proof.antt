@@ -1,3 +1,4 @@
+-- `image_players::answer_legal` meets its contract: its tests are the definition's.
 use Rattle.model.specs.Book.{takenCode, answerLegal}
 use borrow.Author.Needs.{needs}
 use Rattle.image_players.proofs.answer_legal.Statement.{statement}

@@ -1,3 +1,4 @@
+-- `image_players::inside_interval` meets its contract: in 64 bits no sum is cut, and its tests are the definition's.
 use mathlib.Core.Path.{refl}
 use Rattle.model.specs.Book.{flagged, insideInterval}
 use borrow.Author.Needs.{needs}

@@ -1,3 +1,4 @@
+-- `image_players::open_legal` meets its contract: its tests are the definition's.
 use Rattle.model.specs.Book.{openLegal}
 use borrow.Author.Needs.{needs}
 use Rattle.image_players.proofs.open_legal.Statement.{statement}

@@ -1,3 +1,4 @@
+-- `image_players::player_blank` meets its contract: its tests are the definition's.
 use mathlib.Core.Path.{refl}
 use Rattle.model.specs.Book.{playerBlank}
 use Rattle.image_players.proofs.player_blank.Statement.{statement}

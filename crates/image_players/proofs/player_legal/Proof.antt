@@ -1,3 +1,4 @@
+-- `image_players::player_legal` meets its contract: its tests are the definition's.
 use Rattle.model.specs.Book.{playerLegal}
 use borrow.Author.Needs.{needs}
 use Rattle.image_players.proofs.player_legal.Statement.{statement}

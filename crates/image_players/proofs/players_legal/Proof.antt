@@ -1,3 +1,4 @@
+-- `image_players::players_legal` meets its contract. The invariant: `legal` tells whether the first i players are legal.
 use mathlib.Core.Path.{_≡_, refl, sym, ap, ap₂, _∙_}
 use mathlib.Core.Bool.{Bool, _&&_}
 use mathlib.Core.List.{List}

@@ -1,3 +1,4 @@
+-- `image_players::use_legal` meets its contract: in 64 bits no sum is cut, and its tests are the definition's.
 use Rattle.model.specs.Book.{grantLength, useLegal}
 use borrow.Author.Needs.{needs}
 use Rattle.image_players.proofs.use_legal.Statement.{statement}

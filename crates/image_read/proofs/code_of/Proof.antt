@@ -1,3 +1,4 @@
+-- `image_read::code_of` meets its contract: the rules are judged only where the header stands.
 use borrow.Author.Tests.{eq-eqb, ne-eqb}
 use borrow.Author.Needs.{needs}
 use Rattle.image_read.proofs.code_of.Statement.{statement}

@@ -1,14 +1,15 @@
+-- `image_read::read` meets its contract: a refusal keeps the book that was held.
 use mathlib.Core.Path.{_≡_, refl, sym, _∙_}
 use mathlib.Core.Bool.{Bool, true, false, cond}
 use mathlib.Core.List.{List}
 use Prim.Native.Nat.{ℕ}
 use lib.Dec.{eqb}
-use borrow.Author.Tests.{eqb-true, ne-eqb}
 use denote.Ref.{now}
 use Rattle.book.specs.declared.Book.{Book}
 use Rattle.book.specs.Blank.{noBook}
 use Rattle.model.specs.Book.{ruleBroken}
 use Rattle.model.specs.Image.{bookIn, headerBroken, readCode, readBook}
+use Rattle.model.specs.Proof.Header.{accepted-stages, accepted-book, refused-book}
 use borrow.Author.Needs.{needs}
 use Rattle.image_read.proofs.read.Statement.{statement}
 use Rattle.image_read.proofs.read.Tie as tie
@@ -23,21 +24,8 @@ told : (s : List ℕ) {k : ℕ} {x : Book} → k ≡ headerBroken s → x ≡ co
 unfolding readCode
 told s p q = rw (p, q) (once (eqb (headerBroken s) 0) (bookIn s) noBook (headerBroken s))
 
-refused : (held : Book) (s : List ℕ) → (readCode s ≡ 0 → ⊥) → readBook held s ≡ held
-unfolding readBook
-refused held s n = rw (ne-eqb _ _ n)
-
-stands : (k r : ℕ) (w : Bool) → eqb k 0 ≡ w → cond w r k ≡ 0 → k ≡ 0
-stands k r true e z = eqb-true k 0 e
-stands k r false e z = z
-
-header : (s : List ℕ) → readCode s ≡ 0 → headerBroken s ≡ 0
-unfolding readCode
-header s z = stands (headerBroken s) (ruleBroken (bookIn s)) (eqb (headerBroken s) 0) refl z
-
 accepted : (held : Book) (s : List ℕ) → readCode s ≡ 0 → cond (eqb (headerBroken s) 0) (bookIn s) noBook ≡ readBook held s
-unfolding readBook
-accepted held s z = rw (z, header s z)
+accepted held s z = rw (accepted-stages s z .0, accepted-book held s z)
 
 parse-requires : tie.Need-parse-requires
 parse-requires c κs = search needs
@@ -50,7 +38,7 @@ returns c =
     let a = c .before .before .before .before .before .args in
     let p = c .before .before .before .parse .ensures in
     let code = c .before .code-of .ensures ∙ told (now (a .s)) (p .0) (p .1) in
-    (code, sym (refused (a .held) (now (a .s)) (λ e. c .if1 .taken (code ∙ e))))
+    (code, sym (refused-book (a .held) (now (a .s)) (λ e. c .if1 .taken (code ∙ e))))
 
 returns-2 : tie.Need-returns-2
 returns-2 c =

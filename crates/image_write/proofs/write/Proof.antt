@@ -19,12 +19,6 @@ at-most-64-requires c κs = search needs
 at-most-64-requires-2 : tie.Need-at-most-64-requires-2
 at-most-64-requires-2 c κs = search needs
 
-cast-a : tie.Need-cast-a
-cast-a c = search needs
-
-cast-n : tie.Need-cast-n
-cast-n c = search needs
-
 mul-len : tie.Need-mul-len
 mul-len c = search needs
 
@@ -46,6 +40,12 @@ returns c =
     let a = c .before .before .before .before .args in
     let short : length (now (a .buf)) < lengthOf (a .b) = omega arith in
     (rw (lt-leb _ _ short), rw (lt-leb _ _ short))
+
+cast-header-bytes : tie.Need-cast-header-bytes
+cast-header-bytes c = search needs
+
+cast-header-bytes-2 : tie.Need-cast-header-bytes-2
+cast-header-bytes-2 c = search needs
 
 header-bytes-requires : tie.Need-header-bytes-requires
 header-bytes-requires c κs = search needs
@@ -101,14 +101,14 @@ write-spec =
     (tie.spec
     at-most-64-requires
     at-most-64-requires-2
-    cast-a
-    cast-n
     mul-len
     add-len
     mul-len-2
     add-len-2
     add-len-3
     returns
+    cast-header-bytes
+    cast-header-bytes-2
     header-bytes-requires
     slice-aggregate-put
     put-requires

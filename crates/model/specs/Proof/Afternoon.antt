@@ -22,9 +22,9 @@ use Rattle.model.specs.Demand3.{answers}
 abbrev pub asset : ℕ → ℕ → ℕ → Asset
 asset number key inherit = record { number = number; inherit = inherit; key = key }
 
--- an entry of rights object 1, with flags, count, timed count, timer and accumulated
-abbrev entry : ℕ → ℕ → ℕ → ℕ → ℕ → ℕ → ℕ → Entry
-entry asset kind flags count timed timer accumulated = record {
+-- an unused entry of rights object 1
+abbrev pub entry : ℕ → ℕ → ℕ → ℕ → ℕ → ℕ → ℕ → ℕ → ℕ → ℕ → Entry
+entry asset kind flags count timed timer start end interval accumulated = record {
   limits = record {
     object = 1;
     asset = asset;
@@ -33,9 +33,9 @@ entry asset kind flags count timed timer accumulated = record {
     count = count;
     timed = timed;
     timer = timer;
-    start = 0;
-    end = 0;
-    interval = 0;
+    start = start;
+    end = end;
+    interval = interval;
     accumulated = accumulated;
   };
   meters = noMeters;
@@ -49,7 +49,7 @@ start = record {
   assetcount = 4;
   entrycount = 3;
   assets = asset 1 1 9 ∷ asset 2 1 9 ∷ asset 9 0 0 ∷ asset 7 0 9 ∷ replicate 60 noAsset;
-  entries = entry 9 1 1 2 0 0 0 ∷ entry 9 1 32 0 0 0 100 ∷ entry 1 2 2 0 1 30 0 ∷ replicate 61 noEntry;
+  entries = entry 9 1 1 2 0 0 0 0 0 0 ∷ entry 9 1 32 0 0 0 0 0 0 100 ∷ entry 1 2 2 0 1 30 0 0 0 0 ∷ replicate 61 noEntry;
   players = replicate 16 noPlayer;
 }
 

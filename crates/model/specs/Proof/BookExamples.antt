@@ -3,7 +3,7 @@
 -- not tell two fields that stand in each other's place.
 use Prim.Native.Nat.{ℕ, _+_, _-_, _%_, _<_}
 use mathlib.Core.Path.{_≡_, refl, sym, ap, subst, _∙_}
-use mathlib.Core.List.{List, [], _∷_, _++_, append-nil}
+use mathlib.Core.List.{[], _∷_, _++_, append-nil}
 use native.Mathlib.Omega.{arith}
 use lib.ListN.{getD, set, take, replicate, List·getD-eq-default}
 use Rattle.laws.specs.Count.{all, first, sum, joined, listed}

@@ -16,29 +16,11 @@ use Rattle.book.specs.declared.Decoded.{Decoded}
 use Rattle.book.specs.declared.Decoded.the-variants.{Invalid, Valid}
 use Rattle.book.specs.declared.Gate.{Gate}
 use Rattle.book.specs.declared.Gate.the-variants.{Refuse, Resend, Take}
-use Rattle.book.specs.Blank.{noMeters, noAnswer, noPlayer}
+use Rattle.book.specs.Blank.{noAnswer, noPlayer}
 use Rattle.model.specs.Book.{assetsIn, entriesIn, grantLength, isParent, assetPosition, flagged, momentary, requestLegal}
 use Rattle.model.specs.Events.{kindOf, requestOf, eventIn, decoded, sameRequest, sameNumber, inLine, timely, gate, amend, begun, continued, ended, expired, shut, released, settled, catalogOf, holds, assetNamed, usable, parentOf, own, suitable, countLeft, timedLeft, inDates, intervalLeft, secondsLeft, grantable, rankOf, ranksBefore, chooseOf, anyOf, choose, leastUntil, grantUntil, moreUntil, refusal, doBegin, doContinue, doStop, done, takenStep, stepBy, step, arrive}
 use Rattle.model.specs.Demand3.{answers}
-use Rattle.model.specs.Proof.Afternoon.{asset, event, granted}
-
-abbrev entry : ℕ → ℕ → ℕ → ℕ → ℕ → ℕ → ℕ → ℕ → ℕ → ℕ → Entry
-entry asset kind flags count timed timer start end interval accumulated = record {
-  limits = record {
-    object = 1;
-    asset = asset;
-    kind = kind;
-    flags = flags;
-    count = count;
-    timed = timed;
-    timer = timer;
-    start = start;
-    end = end;
-    interval = interval;
-    accumulated = accumulated;
-  };
-  meters = noMeters;
-}
+use Rattle.model.specs.Proof.Afternoon.{asset, entry, event, granted}
 
 abbrev free : ℕ → ℕ → Entry
 free asset kind = entry asset kind 0 0 0 0 0 0 0 0

@@ -2,7 +2,7 @@
 -- What is left for this file are the begins: which of them reach the choice, and what these are answered.
 use mathlib.Core.Path.{_≡_, refl, sym, ap, _∙_, subst, fun-ext}
 use Prim.Native.Nat.{ℕ, _+_}
-use mathlib.Core.Bool.{Bool, true, false, not, _&&_, _||_, and-false}
+use mathlib.Core.Bool.{Bool, true, false, not, _&&_, _||_, and-false, and-comm}
 use mathlib.Core.List.{List}
 use mathlib.Core.Option.{Option, none, some}
 use lib.Dec.{leb, ltb, eqb}
@@ -54,14 +54,8 @@ not-or : (a b : Bool) → not (a || b) ≡ (not a && not b)
 not-or true b = refl
 not-or false b = refl
 
-and-swap : (a b : Bool) → (a && b) ≡ (b && a)
-and-swap true true = refl
-and-swap true false = refl
-and-swap false true = refl
-and-swap false false = refl
-
 regroup : (a b x d c : Bool) → (a && b && x && d && c) ≡ (x && (a && b && c && d))
-regroup true true true d c = and-swap d c
+regroup true true true d c = and-comm d c
 regroup true true false d c = refl
 regroup true false x d c = sym (and-false x)
 regroup false b x d c = sym (and-false x)

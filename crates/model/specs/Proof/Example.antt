@@ -1,11 +1,12 @@
 -- The afternoon's book is legal, fresh and typed, so demand 3 and saving hold of it: the theorems' premises can be met.
 use mathlib.Core.Path.{_≡_, refl, sym, ap, subst}
 use Prim.Native.Nat.{ℕ, zero, suc, _≤_}
-use lib.ListN.{replicate, getD}
+use lib.ListN.{getD}
 use native.Mathlib.Omega.{arith}
 use Rattle.laws.specs.Count.{all, first, sum}
 use Rattle.laws.specs.Fields.{Fit}
 use Rattle.laws.specs.FieldLaws.{zeros-fit}
+use Rattle.laws.specs.TableLaws.{blanks}
 use Rattle.book.specs.declared.Asset.{Asset}
 use Rattle.book.specs.declared.Entry.{Entry}
 use Rattle.book.specs.declared.Player.{Player}
@@ -20,23 +21,18 @@ use Rattle.model.specs.Proof.Afternoon.{start}
 use Rattle.model.specs.Proof.Demand3.{demand3}
 use Rattle.model.specs.Proof.Kept.{saved}
 
-blank-at : {A : Type 0} (n : ℕ) (a : A) (i : ℕ) → getD (replicate n a) i a ≡ a
-blank-at zero a i = refl
-blank-at (suc n) a zero = refl
-blank-at (suc n) a (suc i) = blank-at n a i
-
 assets-blank : (i : ℕ) → 4 ≤ i → assetAt (start .assets) i ≡ noAsset
 assets-blank zero h = absurd (omega arith)
 assets-blank (suc zero) h = absurd (omega arith)
 assets-blank (suc (suc zero)) h = absurd (omega arith)
 assets-blank (suc (suc (suc zero))) h = absurd (omega arith)
-assets-blank (suc (suc (suc (suc i)))) h = blank-at 60 noAsset i
+assets-blank (suc (suc (suc (suc i)))) h = blanks 60 i noAsset
 
 entries-blank : (i : ℕ) → 3 ≤ i → getD (start .entries) i noEntry ≡ noEntry
 entries-blank zero h = absurd (omega arith)
 entries-blank (suc zero) h = absurd (omega arith)
 entries-blank (suc (suc zero)) h = absurd (omega arith)
-entries-blank (suc (suc (suc i))) h = blank-at 61 noEntry i
+entries-blank (suc (suc (suc i))) h = blanks 61 i noEntry
 
 rules-kept : ruleBroken start ≡ 0
 unfolding all first sum assetsIn entriesIn assetPosition inBook flagged momentary limit assetLegal assetsLegal rangesLegal limitsLegal entriesLegal playerBlank playerLegal playersLegal meterLegal startLegal opens openUses openSeconds metersCover entryMetersLegal metersLegal ruleBroken
@@ -59,10 +55,10 @@ unused : (i : ℕ) → metersAt (start .entries) i ≡ noMeters
 unused zero = refl
 unused (suc zero) = refl
 unused (suc (suc zero)) = refl
-unused (suc (suc (suc i))) = ap (λ (e : Entry). e .meters) (blank-at 61 noEntry i)
+unused (suc (suc (suc i))) = ap (λ (e : Entry). e .meters) (blanks 61 i noEntry)
 
 pub start-fresh : Fresh start
-start-fresh = record { time = refl; meters = unused; players = λ p. blank-at 16 noPlayer p }
+start-fresh = record { time = refl; meters = unused; players = λ p. blanks 16 p noPlayer }
 
 pub afternoon : Demand3 start
 afternoon = demand3 start start-legal start-fresh
@@ -72,19 +68,19 @@ assets-fit zero = omega arith
 assets-fit (suc zero) = omega arith
 assets-fit (suc (suc zero)) = omega arith
 assets-fit (suc (suc (suc zero))) = omega arith
-assets-fit (suc (suc (suc (suc i)))) = subst (λ (x : Asset). Fit assetWidths (assetValues x)) (sym (blank-at 60 noAsset i)) (zeros-fit assetWidths)
+assets-fit (suc (suc (suc (suc i)))) = subst (λ (x : Asset). Fit assetWidths (assetValues x)) (sym (blanks 60 i noAsset)) (zeros-fit assetWidths)
 
 entries-fit : (i : ℕ) → Fit entryWidths (entryValues (getD (start .entries) i noEntry))
 entries-fit zero = omega arith
 entries-fit (suc zero) = omega arith
 entries-fit (suc (suc zero)) = omega arith
-entries-fit (suc (suc (suc i))) = subst (λ (x : Entry). Fit entryWidths (entryValues x)) (sym (blank-at 61 noEntry i)) (zeros-fit entryWidths)
+entries-fit (suc (suc (suc i))) = subst (λ (x : Entry). Fit entryWidths (entryValues x)) (sym (blanks 61 i noEntry)) (zeros-fit entryWidths)
 
 pub start-typed : Typed start
 start-typed = record {
   assets = assets-fit;
   entries = entries-fit;
-  players = λ p. subst (λ (x : Player). Fit playerWidths (playerValues x)) (sym (blank-at 16 noPlayer p)) (zeros-fit playerWidths);
+  players = λ p. subst (λ (x : Player). Fit playerWidths (playerValues x)) (sym (blanks 16 p noPlayer)) (zeros-fit playerWidths);
 }
 
 -- saved after any first event, the afternoon's book comes back

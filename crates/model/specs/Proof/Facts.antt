@@ -1,48 +1,18 @@
--- Tests, flags, caps and updates by position: the small facts that the other files cite.
-use mathlib.Core.Path.{_≡_, refl, sym, _∙_}
+-- Flags, caps and updates by position: the small facts that the other files cite. The laws of tests are passed on from crate `laws`.
+use mathlib.Core.Path.{_≡_, refl}
 use Prim.Native.Nat.{ℕ, _+_, _≤_}
-use mathlib.Core.Bool.{Bool, true, false, _&&_, cond, true≢false, false≢true}
+use mathlib.Core.Bool.{Bool, true, false, cond, false≢true}
 use lib.Dec.{eqb}
 use native.Mathlib.Omega.{arith}
-use borrow.Author.Tests.{eqb-true, eqb-false, eq-eqb, ne-eqb}
+use borrow.Author.Tests.{ne-eqb}
 use Rattle.laws.specs.Count.{one}
+pub use Rattle.laws.specs.Tests.{on-test, on-same, eqb-self, clash, cond-on, cond-off, and-left, and-right, and-both}
 use Rattle.book.specs.declared.Meters.{Meters}
 use Rattle.model.specs.Events.{where-flagged, cap, asked}
-
--- a test passes or fails
-pub on-test : {P : Type 0} (b : Bool) → (b ≡ true → P) → (b ≡ false → P) → P
-on-test true f g = f refl
-on-test false f g = g refl
-
-pub on-same : {P : Type 0} (a b : ℕ) → (a ≡ b → P) → ((a ≡ b → ⊥) → P) → P
-on-same a b f g = on-test (eqb a b) (λ e. f (eqb-true a b e)) (λ e. g (eqb-false a b e))
-
-pub eqb-self : (n : ℕ) → eqb n n ≡ true
-eqb-self n = eq-eqb n n refl
-
-pub clash : {P : Type 0} {b : Bool} → b ≡ true → b ≡ false → P
-clash p q = absurd (true≢false (sym p ∙ q))
-
-pub and-left : (a b : Bool) → (a && b) ≡ true → a ≡ true
-and-left true b e = refl
-and-left false b e = absurd (false≢true e)
-
-pub and-right : (a b : Bool) → (a && b) ≡ true → b ≡ true
-and-right true b e = e
-and-right false b e = absurd (false≢true e)
-
-pub and-both : {a b : Bool} → a ≡ true → b ≡ true → (a && b) ≡ true
-and-both {a} {b} p q = rw (p, q)
 
 pub asked-on : (f b : Bool) → asked f b ≡ true → f ≡ true → b ≡ true
 asked-on true b e h = e
 asked-on false b e h = absurd (false≢true h)
-
-pub cond-on : {A : Type 0} (b : Bool) (x y : A) → b ≡ true → cond b x y ≡ x
-cond-on b x y e = rw e
-
-pub cond-off : {A : Type 0} (b : Bool) (x y : A) → b ≡ false → cond b x y ≡ y
-cond-off b x y e = rw e
 
 -- where-flagged
 pub flag-on : (f : Bool) (v : ℕ) → f ≡ true → where-flagged f v ≡ v

@@ -2,13 +2,14 @@
 -- No event changes any of it.
 use mathlib.Core.Path.{_≡_, refl, sym, ap, _∙_, subst}
 use Prim.Native.Nat.{ℕ, zero, suc, _≤_, _<_, min}
-use mathlib.Core.Bool.{Bool, true, false, not, _&&_, _||_, false≢true}
-use mathlib.Core.List.{List, map}
+use mathlib.Core.Bool.{Bool, true, not, _&&_, _||_, false≢true}
+use mathlib.Core.List.{List, [], _∷_, map}
 use lib.ListN.{length, length-set, length-map}
 use lib.Dec.{leb, ltb, eqb}
 use native.Mathlib.Omega.{arith}
-use borrow.Author.Tests.{eqb-true, ltb-true, ltb-false, leb-true}
+use borrow.Author.Tests.{eqb-true, ltb-true, ltb-false, leb-true, not-false}
 use Rattle.laws.specs.Count.{all}
+use Rattle.laws.specs.Tests.{Pass, row-passed, passed}
 use Rattle.book.specs.declared.Limits.{Limits}
 use Rattle.book.specs.declared.Entry.{Entry}
 use Rattle.book.specs.declared.Open.{Open}
@@ -48,45 +49,28 @@ limit-on : (f : Bool) (a z v : ℕ) → limit f a z v ≡ true → f ≡ true �
 unfolding limit
 limit-on f a z v e q = rw q at e
 
--- seven tests that pass
-record Seven (p q r s t u v : Bool) : Type 0 where
-  a : p ≡ true
-  b : q ≡ true
-  c : r ≡ true
-  d : s ≡ true
-  e : t ≡ true
-  f : u ≡ true
-  g : v ≡ true
-
-seven : (a b c d e f g : Bool) → (a && b && c && d && e && f && g) ≡ true → Seven a b c d e f g
-seven true true true true true true true h = record { a = refl; b = refl; c = refl; d = refl; e = refl; f = refl; g = refl }
-seven true true true true true true false h = absurd (false≢true h)
-seven true true true true true false g h = absurd (false≢true h)
-seven true true true true false f g h = absurd (false≢true h)
-seven true true true false e f g h = absurd (false≢true h)
-seven true true false d e f g h = absurd (false≢true h)
-seven true false c d e f g h = absurd (false≢true h)
-seven false b c d e f g h = absurd (false≢true h)
-
-ranges-tests : (l : Limits) → rangesLegal l ≡ true → Seven (limit (flagged 1 l) 1 1000000 (l .count)) (limit (flagged 2 l) 1 1000000 (l .timed)) (limit (flagged 2 l) 0 1000000 (l .timer))
-    (limit (flagged 4 l) 0 latestTime (l .start)) (limit (flagged 8 l) 0 latestTime (l .end)) (limit (flagged 16 l) 1 100000000 (l .interval)) (limit (flagged 32 l) 1 100000000 (l .accumulated))
+ranges-tests : (l : Limits) → rangesLegal l ≡ true → (limit (flagged 1 l) 1 1000000 (l .count) ≡ true)
+    × Pass (limit (flagged 2 l) 1 1000000 (l .timed) ∷ limit (flagged 2 l) 0 1000000 (l .timer) ∷ limit (flagged 4 l) 0 latestTime (l .start)
+    ∷ limit (flagged 8 l) 0 latestTime (l .end) ∷ limit (flagged 16 l) 1 100000000 (l .interval) ∷ limit (flagged 32 l) 1 100000000 (l .accumulated) ∷ [])
 unfolding rangesLegal
-ranges-tests l e = seven _ _ _ _ _ _ _ e
+ranges-tests l e = row-passed _ (_ ∷ _ ∷ _ ∷ _ ∷ _ ∷ _ ∷ []) e
 
-limits-tests : (known : Bool) (l : Limits) → limitsLegal known l ≡ true → Seven (between 1 65535 (l .object)) known (between 1 5 (l .kind)) (leb (l .flags) 63) (rangesLegal l)
-    (not (flagged 4 l && flagged 8 l) || leb (l .start) (l .end)) (not (momentary (l .kind)) || (not (flagged 32 l) && eqb (l .timer) 0))
+limits-tests : (known : Bool) (l : Limits) → limitsLegal known l ≡ true → (between 1 65535 (l .object) ≡ true)
+    × Pass (known ∷ between 1 5 (l .kind) ∷ leb (l .flags) 63 ∷ rangesLegal l
+    ∷ (not (flagged 4 l && flagged 8 l) || leb (l .start) (l .end)) ∷ (not (momentary (l .kind)) || (not (flagged 32 l) && eqb (l .timer) 0)) ∷ [])
 unfolding limitsLegal
-limits-tests known l e = seven _ _ _ _ _ _ _ e
+limits-tests known l e = row-passed _ (_ ∷ _ ∷ _ ∷ _ ∷ _ ∷ _ ∷ []) e
 
 limits-lawful : (known : Bool) (l : Limits) → limitsLegal known l ≡ true → Lawful l
 limits-lawful known l e =
-    let ranges = ranges-tests l (limits-tests known l e .e) in
+    let behind = limits-tests known l e .1 .1 .1 .1 in
+    let later = ranges-tests l (behind .0) .1 .1 .1 .1 in
     record {
-      timer = λ m. eqb-true (l .timer) 0 (and-right (not (flagged 32 l)) (eqb (l .timer) 0) (rw m at (limits-tests known l e .g)));
+      timer = λ m. eqb-true (l .timer) 0 (and-right (not (flagged 32 l)) (eqb (l .timer) 0) (rw m at (behind .1 .1 .0)));
       interval = λ f.
-          omega (arith, leb-true 1 (l .interval) (and-left (leb 1 (l .interval)) (leb (l .interval) 100000000) (limit-on (flagged 16 l) 1 100000000 (l .interval) (ranges .f) f)));
+          omega (arith, leb-true 1 (l .interval) (and-left (leb 1 (l .interval)) (leb (l .interval) 100000000) (limit-on (flagged 16 l) 1 100000000 (l .interval) (later .1 .0) f)));
       end = λ f.
-          omega (arith, leb-true (l .end) latestTime (and-right (leb 0 (l .end)) (leb (l .end) latestTime) (limit-on (flagged 8 l) 0 latestTime (l .end) (ranges .e) f)));
+          omega (arith, leb-true (l .end) latestTime (and-right (leb 0 (l .end)) (leb (l .end) latestTime) (limit-on (flagged 8 l) 0 latestTime (l .end) (later .0) f)));
     }
 
 blank-lawful : Lawful noLimits
@@ -95,31 +79,17 @@ blank-lawful = record { timer = λ m. refl; interval = λ f. absurd (false≢tru
 
 broken-24 : (b : Book) → ruleBroken b ≡ 0 → assetsLegal b ≡ true
 unfolding ruleBroken
-broken-24 b e = on-test (assetsLegal b) (λ q. q) (λ q. let z : _≡_ {A = ℕ} 24 0 = rw q at e in absurd (omega arith))
+broken-24 b e = not-false _ (passed (not (assetsLegal b)) 23 _ e .0)
 
 broken-25 : (b : Book) → ruleBroken b ≡ 0 → entriesLegal b ≡ true
 unfolding ruleBroken
-broken-25 b e =
-    on-test (entriesLegal b)
-    (λ q. q)
-    (λ q. let z : _≡_ {A = ℕ} 25 0 = rw (broken-24 b e, q) at e in absurd (omega arith))
+broken-25 b e = not-false _ (passed (not (entriesLegal b)) 24 _ (passed (not (assetsLegal b)) 23 _ e .1) .0)
 
--- three tests that pass
-record Three (p q r : Bool) : Type 0 where
-  a : p ≡ true
-  b : q ≡ true
-  c : r ≡ true
-
-three : (a b c : Bool) → (a && b && c) ≡ true → Three a b c
-three true true true h = record { a = refl; b = refl; c = refl }
-three true true false h = absurd (false≢true h)
-three true false c h = absurd (false≢true h)
-three false b c h = absurd (false≢true h)
-
-asset-tests : (b : Book) → Legal b → (i : ℕ) → i < assetsIn b → Three (between 1 65535 (assetAt (b .assets) i .number))
-    (eqb (assetPosition (b .assets) (assetsIn b) (assetAt (b .assets) i .number)) i) (leb (assetAt (b .assets) i .key) 1)
+asset-tests : (b : Book) → Legal b → (i : ℕ) → i < assetsIn b → (between 1 65535 (assetAt (b .assets) i .number) ≡ true)
+    × Pass (eqb (assetPosition (b .assets) (assetsIn b) (assetAt (b .assets) i .number)) i ∷ leb (assetAt (b .assets) i .key) 1 ∷ [])
 unfolding assetsLegal assetLegal
-asset-tests b g i h = three _ _ _ (all-below (λ j. assetLegal (b .assets) (assetsIn b) j (assetAt (b .assets) j)) (assetsIn b) (broken-24 b (g .rules)) i h)
+asset-tests b g i h =
+    row-passed _ (_ ∷ _ ∷ []) (all-below (λ j. assetLegal (b .assets) (assetsIn b) j (assetAt (b .assets) j)) (assetsIn b) (broken-24 b (g .rules)) i h)
 
 pub legal-grounds : (b : Book) → Legal b → Grounds b
 unfolding entriesIn entriesLegal
@@ -132,9 +102,9 @@ legal-grounds b g = record {
       (all-below (λ j. limitsLegal (inBook b (limitsAt (b .entries) j .asset)) (limitsAt (b .entries) j)) (entriesIn b) (broken-25 b (g .rules)) i
       (omega (arith, ltb-true i (b .entrycount) q, g .entryCount))))
       (λ q. subst (λ (x : Entry). Lawful (x .limits)) (sym (g .entriesBlank i (ltb-false i (b .entrycount) q))) blank-lawful);
-  once = λ i h. eqb-true _ i (asset-tests b g i h .b);
+  once = λ i h. eqb-true _ i (asset-tests b g i h .1 .0);
   numbered = λ i h.
-      omega (arith, leb-true 1 (assetAt (b .assets) i .number) (and-left (leb 1 (assetAt (b .assets) i .number)) (leb (assetAt (b .assets) i .number) 65535) (asset-tests b g i h .a)));
+      omega (arith, leb-true 1 (assetAt (b .assets) i .number) (and-left (leb 1 (assetAt (b .assets) i .number)) (leb (assetAt (b .assets) i .number) 65535) (asset-tests b g i h .0)));
 }
 
 -- ## What no event changes

@@ -2,12 +2,13 @@
 -- A grant, a continue, a stop and the settling of one player each keep it.
 use mathlib.Core.Path.{_≡_, refl, sym, ap, _∙_}
 use Prim.Native.Nat.{ℕ, suc, _+_, _-_, _≤_, _<_}
-use mathlib.Core.Bool.{Bool, true, false, not, _&&_, _||_, cond, and-false, or-true, false≢true}
+use mathlib.Core.Bool.{Bool, true, false, not, _||_, cond, and-false, or-true}
 use mathlib.Core.List.{List, [], _∷_}
 use mathlib.Core.Option.{Option, none, some, Option·none-ne-some}
 use lib.Dec.{leb, ltb, eqb}
 use native.Mathlib.Omega.{arith}
 use borrow.Author.Tests.{ltb-true, lt-ltb, le-ltb, leb-true, leb-false, le-leb}
+use Rattle.laws.specs.Tests.{Pass, row-passed}
 use Rattle.book.specs.declared.Limits.{Limits}
 use Rattle.book.specs.declared.Meters.{Meters}
 use Rattle.book.specs.declared.Open.{Open}
@@ -314,46 +315,30 @@ pub length-pos : (kind : ℕ) → 0 < grantLength kind
 unfolding grantLength
 length-pos kind = omega arith
 
--- five tests that pass
-record Five (p q r s t : Bool) : Type 0 where
-  a : p ≡ true
-  b : q ≡ true
-  c : r ≡ true
-  d : s ≡ true
-  e : t ≡ true
-
-five : (a b c d e : Bool) → (a && b && c && d && e) ≡ true → Five a b c d e
-five true true true true true h = record { a = refl; b = refl; c = refl; d = refl; e = refl }
-five true true true true false h = absurd (false≢true h)
-five true true true false e h = absurd (false≢true h)
-five true true false d e h = absurd (false≢true h)
-five true false c d e h = absurd (false≢true h)
-five false b c d e h = absurd (false≢true h)
-
 module _ (T : ℕ) (l : Limits) (m : Meters) (ok : grantable T l m ≡ true) (lawful : Lawful l) where
-  tests : Five (countLeft l m) (timedLeft l m) (inDates T l) (intervalLeft T l m) (secondsLeft l m)
+  tests : (countLeft l m ≡ true) × Pass (timedLeft l m ∷ inDates T l ∷ intervalLeft T l m ∷ secondsLeft l m ∷ [])
   unfolding grantable
-  tests = five _ _ _ _ _ ok
+  tests = row-passed _ (_ ∷ _ ∷ _ ∷ _ ∷ []) ok
 
   pub grant-count : flagged 1 l ≡ true → m .count < l .count
   unfolding countLeft
-  grant-count f = ltb-true (m .count) (l .count) (asked-on (flagged 1 l) _ (tests .a) f)
+  grant-count f = ltb-true (m .count) (l .count) (asked-on (flagged 1 l) _ (tests .0) f)
 
   pub grant-timed : flagged 2 l ≡ true → m .timed < l .timed
   unfolding timedLeft
-  grant-timed f = ltb-true (m .timed) (l .timed) (asked-on (flagged 2 l) _ (tests .b) f)
+  grant-timed f = ltb-true (m .timed) (l .timed) (asked-on (flagged 2 l) _ (tests .1 .0) f)
 
   pub grant-start : flagged 4 l ≡ true → l .start ≤ T
   unfolding inDates
-  grant-start f = leb-true (l .start) T (asked-on (flagged 4 l) _ (and-left (asked (flagged 4 l) (leb (l .start) T)) _ (tests .c)) f)
+  grant-start f = leb-true (l .start) T (asked-on (flagged 4 l) _ (and-left (asked (flagged 4 l) (leb (l .start) T)) _ (tests .1 .1 .0)) f)
 
   pub grant-end : flagged 8 l ≡ true → T ≤ l .end
   unfolding inDates
-  grant-end f = leb-true T (l .end) (asked-on (flagged 8 l) _ (and-right (asked (flagged 4 l) (leb (l .start) T)) _ (tests .c)) f)
+  grant-end f = leb-true T (l .end) (asked-on (flagged 8 l) _ (and-right (asked (flagged 4 l) (leb (l .start) T)) _ (tests .1 .1 .0)) f)
 
   pub grant-from : flagged 16 l ≡ true → T < intervalFrom T m + l .interval
   unfolding intervalLeft
-  grant-from f = go (isStarted m) (asked-on (flagged 16 l) _ (tests .d) f)
+  grant-from f = go (isStarted m) (asked-on (flagged 16 l) _ (tests .1 .1 .1 .0) f)
     where
       go : (s : Bool) → (not s || ltb T (m .first + l .interval)) ≡ true → T < cond s (m .first) T + l .interval
       go true e = ltb-true T (m .first + l .interval) e
@@ -361,7 +346,7 @@ module _ (T : ℕ) (l : Limits) (m : Meters) (ok : grantable T l m ≡ true) (la
 
   pub grant-seconds : flagged 32 l ≡ true → m .seconds < l .accumulated
   unfolding secondsLeft
-  grant-seconds f = ltb-true (m .seconds) (l .accumulated) (asked-on (flagged 32 l) _ (tests .e) f)
+  grant-seconds f = ltb-true (m .seconds) (l .accumulated) (asked-on (flagged 32 l) _ (tests .1 .1 .1 .1 .0) f)
 
   abbrev grantCaps : ℕ
   grantCaps = caps (flagged 8 l) (flagged 16 l) (flagged 32 l) (l .end + 1) (intervalFrom T m + l .interval) (T + (l .accumulated - m .seconds)) (T + grantLength (l .kind))

@@ -12,6 +12,7 @@ use borrow.Author.Tests.{eqb-true, eq-eqb, ltb-true, ltb-false, lt-ltb, leb-true
 use Rattle.laws.specs.Fields.{bits16, size, Fit}
 use Rattle.laws.specs.FieldLaws.{number-fits}
 use Rattle.laws.specs.TableLaws.{below-or-not}
+use Rattle.laws.specs.Tests.{row-passed, otherwise-at}
 use Rattle.book.specs.declared.Limits.{Limits}
 use Rattle.book.specs.declared.Meters.{Meters}
 use Rattle.book.specs.declared.Entry.{Entry}
@@ -39,7 +40,7 @@ use Rattle.model.specs.Proof.Facts.{on-test, on-same, clash, and-right, 
 use Rattle.model.specs.Proof.Held.{Lawful, shutO}
 use Rattle.model.specs.Proof.Concrete.{store-open, shut-at, shut-open}
 use Rattle.model.specs.Proof.Grounds.{all-below, legal-grounds}
-use Rattle.model.specs.Proof.KeptFacts.{row-passed, otherwise-at, all-of}
+use Rattle.model.specs.Proof.KeptFacts.{all-of}
 use Rattle.model.specs.Proof.KeptRules.{openPasses, playerPasses, lawfulIn, Counted, MeterOk, OpenOk, Sound, Live, open-to, blank-current, unused-from, used-from, player-to, meter-to, Stages, stages-from, stages-to, entries-counted, no-player, sound-of}
 use Rattle.model.specs.Proof.KeptMeters.{grant-most}
 use Rattle.model.specs.Proof.KeptEvents.{Part, settled-part, settled-live, AnswerOk, DoneOk, done-ok}

@@ -1,44 +1,10 @@
--- More on tests, updates by position and counting: what the proofs use that an event leaves a legal book.
+-- More on updates by position and counting: what the proofs use that an event leaves a legal book.
 use mathlib.Core.Path.{_≡_, refl, ap, fun-ext}
 use Prim.Native.Nat.{ℕ, zero, suc, _+_, _<_}
-use mathlib.Core.Bool.{Bool, true, false, not, _&&_, _||_}
-use mathlib.Core.List.{List, [], _∷_}
+use mathlib.Core.Bool.{Bool, true}
 use native.Mathlib.Omega.{arith}
 use Rattle.laws.specs.Count.{all, sum}
-use Rattle.model.specs.Proof.Facts.{on-same, clash, and-left, and-right, and-both, upd, upd-same, upd-other}
-
--- ## Tests
-
--- a row of tests `a && b && ..`, and that each of them passes
-abbrev pub row : Bool → List Bool → Bool
-row a [] = a
-row a (b ∷ bs) = row (a && b) bs
-
-abbrev pub Pass : List Bool → Type 0
-Pass [] = Unit {0}
-Pass (b ∷ bs) = (b ≡ true) × Pass bs
-
-pub row-passed : (a : Bool) (bs : List Bool) → row a bs ≡ true → (a ≡ true) × Pass bs
-row-passed a [] e = (e, tt)
-row-passed a (b ∷ bs) e = let h = row-passed (a && b) bs e in (and-left a b (h .0), (and-right a b (h .0), h .1))
-
--- a test that is asked for only where f is set
-pub implied : (f t : Bool) → (f ≡ true → t ≡ true) → (not f || t) ≡ true
-implied true t h = h refl
-implied false t h = refl
-
-pub implied-at : (f t : Bool) → (not f || t) ≡ true → f ≡ true → t ≡ true
-implied-at true t e h = e
-implied-at false t e h = clash h refl
-
--- a test that is asked for only where f is not set
-pub otherwise : (f t : Bool) → (f ≡ false → t ≡ true) → (f || t) ≡ true
-otherwise true t h = refl
-otherwise false t h = h refl
-
-pub otherwise-at : (f t : Bool) → (f || t) ≡ true → f ≡ false → t ≡ true
-otherwise-at true t e h = clash refl h
-otherwise-at false t e h = e
+use Rattle.model.specs.Proof.Facts.{on-same, and-both, upd, upd-same, upd-other}
 
 -- ## Positions
 

@@ -7,9 +7,10 @@ use mathlib.Core.List.{[], _∷_}
 use lib.ListN.{getD, List·getD-eq-default}
 use lib.Dec.{leb, ltb, eqb}
 use native.Mathlib.Omega.{arith}
-use borrow.Author.Tests.{eqb-true, eq-eqb, ltb-true, lt-ltb, leb-true, le-leb}
+use borrow.Author.Tests.{eqb-true, eq-eqb, ltb-true, lt-ltb, leb-true, le-leb, not-false}
 use Rattle.laws.specs.Count.{sum, one}
 use Rattle.laws.specs.TableLaws.{below-or-not}
+use Rattle.laws.specs.Tests.{Pass, row-passed, implied, implied-at, otherwise, otherwise-at, passed}
 use Rattle.book.specs.declared.Limits.{Limits}
 use Rattle.book.specs.declared.Meters.{Meters}
 use Rattle.book.specs.declared.Entry.{Entry}
@@ -53,7 +54,7 @@ use Rattle.model.specs.Book.{
 use Rattle.model.specs.Events.{isOn, openAt}
 use Rattle.model.specs.Proof.Facts.{on-test, clash, and-both, cond-on, cond-off}
 use Rattle.model.specs.Proof.Grounds.{all-below}
-use Rattle.model.specs.Proof.KeptFacts.{Pass, row-passed, implied, implied-at, otherwise, otherwise-at, all-of}
+use Rattle.model.specs.Proof.KeptFacts.{all-of}
 
 -- ## The facts
 
@@ -336,18 +337,19 @@ pub record Stages (b : Book) : Type 0 where
   pub players : (p : ℕ) → p < 16 → playerPasses b (playerAt (b .players) p) ≡ true
   pub meters : (i : ℕ) → i < entriesIn b → metersPass b i ≡ true
 
-passed : (t : Bool) (c r : ℕ) → 0 < c → cond (not t) c r ≡ 0 → (t ≡ true) × (r ≡ 0)
-passed true c r h e = (refl, e)
-passed false c r h e = absurd (omega arith)
-
 pub stages-from : (b : Book) → ruleBroken b ≡ 0 → Stages b
 unfolding ruleBroken playersLegal metersLegal
 stages-from b e =
-    let p = passed (assetsLegal b) 24 _ (omega arith) e in
-    let q = passed (entriesLegal b) 25 _ (omega arith) (p .1) in
-    let r = passed (playersLegal b) 26 _ (omega arith) (q .1) in
-    let s = passed (metersLegal b) 27 _ (omega arith) (r .1) in
-    record { assets = p .0; entries = q .0; players = all-below _ 16 (r .0); meters = all-below _ (entriesIn b) (s .0) }
+    let p = passed (not (assetsLegal b)) 23 _ e in
+    let q = passed (not (entriesLegal b)) 24 _ (p .1) in
+    let r = passed (not (playersLegal b)) 25 _ (q .1) in
+    let s = passed (not (metersLegal b)) 26 _ (r .1) in
+    record {
+      assets = not-false _ (p .0);
+      entries = not-false _ (q .0);
+      players = all-below _ 16 (not-false _ (r .0));
+      meters = all-below _ (entriesIn b) (not-false _ (s .0));
+    }
 
 pub stages-to : (b : Book) → Stages b → ruleBroken b ≡ 0
 unfolding ruleBroken playersLegal metersLegal

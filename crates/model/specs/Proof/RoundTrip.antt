@@ -1,14 +1,14 @@
 -- Demand 2: a book that is written reads back as the same book, and an image that is accepted is written back byte for byte.
-use Prim.Native.Nat.{ℕ, suc, _+_, _*_, _-_, _<_, _≤_}
+use Prim.Native.Nat.{ℕ, _+_, _*_, _-_, _<_, _≤_}
 use mathlib.Core.Path.{_≡_, refl, sym, ap, ap₂, subst, _∙_}
-use mathlib.Core.Bool.{Bool, true, false, cond, _&&_, _||_, not, true≢false}
-use mathlib.Core.List.{List, [], _∷_, _++_, append-assoc, append-nil}
+use mathlib.Core.Bool.{Bool, true, false, cond, _&&_, _||_, not}
+use mathlib.Core.List.{List, [], _++_, append-assoc, append-nil}
 use native.Mathlib.Omega.{arith}
 use native.Mathlib.Nat.{mul-suc, mul-le-mul-left, min-eq-left}
 use lib.ListN.{length, getD, take, drop, replicate, length-append, List·getD-eq-default}
 use lib.Seq.{take-at, drop-at, take-add, take-all}
 use lib.Dec.{ltb, leb, eqb}
-use borrow.Author.Tests.{ltb-false, eqb-true, eqb-false, not-false, eq-eqb, ne-eqb, le-ltb, le-leb}
+use borrow.Author.Tests.{eq-eqb, le-ltb, le-leb}
 use Rattle.laws.specs.Count.{joined, listed}
 use Rattle.laws.specs.Fields.{Width, size, laidOut, valuesAt, Fit}
 use Rattle.laws.specs.FieldLaws.{values-back, values-from, values-fit, length-laid, laid-back, laid-bytes, append-bytes, drop-bytes}
@@ -23,10 +23,11 @@ use Rattle.book.specs.Blank.{noAsset, noEntry, noPlayer}
 use Rattle.model.specs.Book.{assetAt, playerAt, assetsIn, entriesIn, latestTime, ruleBroken, Legal}
 use Rattle.model.specs.Image.{headerWidths, headerValues, newest, assetWidths, assetValues, assetOf, entryWidths, entryValues, entryOf}
 use Rattle.model.specs.Image.{playerWidths, playerValues, playerOf, imageLength, headerBytes, assetBytes, entryBytes, playerBytes, image}
-use Rattle.model.specs.Image.{lengthOf, writeAnswer, writeBuffer, headerField, markIn, versionIn, assetCountIn, entryCountIn, timeIn}
+use Rattle.model.specs.Image.{lengthOf, writeAnswer, writeBuffer, markIn, versionIn, assetCountIn, entryCountIn, timeIn}
 use Rattle.model.specs.Image.{assetIn, entryIn, playerIn, assetTable, entryTable, playerTable, entriesFrom, playersFrom, bookIn}
 use Rattle.model.specs.Image.{headerBroken, readCode, readBook, Typed, Bytes}
 use Rattle.model.specs.Demand2.{Demand2}
+use Rattle.model.specs.Proof.Header.{HeaderPassed, header-passed, accepted-stages, accepted-book, refused-book}
 
 -- ## One table of records of any layout
 
@@ -108,10 +109,6 @@ long-enough b = rw (image-length b) (omega (arith, length-bounds b .0))
 
 passes : (t : Bool) (c x : ℕ) → t ≡ false → x ≡ 0 → cond t c x ≡ 0
 passes t c x e z = ap (λ (u : Bool). cond u c x) e ∙ z
-
-passed : (t : Bool) (c x : ℕ) → cond t (suc c) x ≡ 0 → (t ≡ false) × (x ≡ 0)
-passed true c x e = absurd (omega arith)
-passed false c x e = (refl, e)
 
 -- ## Written and read back
 
@@ -252,53 +249,6 @@ module _ (b : Book) (l : Legal b) where
 
 -- ## Read and written back
 
-both-zero : (h r : ℕ) → cond (eqb h 0) r h ≡ 0 → (h ≡ 0) × (r ≡ 0)
-both-zero h r e = go (eqb h 0) refl e
-  where
-    go : (t : Bool) → eqb h 0 ≡ t → cond t r h ≡ 0 → (h ≡ 0) × (r ≡ 0)
-    go true q z = (eqb-true h 0 q, z)
-    go false q z = (z, absurd (eqb-false h 0 q z))
-
-neither : (a c : Bool) → (a || c) ≡ false → (a ≡ false) × (c ≡ false)
-neither true c e = absurd (true≢false e)
-neither false c e = (refl, e)
-
-both : (a c : Bool) → (a && c) ≡ true → (a ≡ true) × (c ≡ true)
-both true c e = (refl, e)
-both false c e = absurd (true≢false (sym e))
-
--- what the reader's first stages tell of an image that they let pass
-record Passed (s : List ℕ) : Type 0 where
-  header : valuesAt headerWidths 0 s ≡ headerValues (assetCountIn s) (entryCountIn s) (timeIn s)
-  assets : assetCountIn s ≤ 64
-  entries : entryCountIn s ≤ 64
-  time : timeIn s ≤ latestTime
-  whole : length s ≡ imageLength (assetCountIn s) (entryCountIn s)
-
-header-passed : (s : List ℕ) → headerBroken s ≡ 0 → Passed s
-unfolding headerBroken markIn versionIn assetCountIn entryCountIn timeIn
-header-passed s e =
-    let short = passed (ltb (length s) (size headerWidths)) 19 _ e in
-    let mark = passed (not (markIn s)) 20 _ (short .1) in
-    let version = passed (not (eqb (versionIn s) newest)) 21 _ (mark .1) in
-    let large = passed (ltb 64 (assetCountIn s) || ltb 64 (entryCountIn s) || ltb latestTime (timeIn s)) 22 _ (version .1) in
-    let wrong = passed (not (eqb (length s) (imageLength (assetCountIn s) (entryCountIn s)))) 19 _ (large .1) in
-    let marks = both (eqb (headerField 0 s) 82 && eqb (headerField 1 s) 66) (eqb (headerField 2 s) 75) (not-false (markIn s) (mark .0)) in
-    let letters = both (eqb (headerField 0 s) 82) (eqb (headerField 1 s) 66) (marks .0) in
-    let r : headerField 0 s ≡ 82 = eqb-true (headerField 0 s) 82 (letters .0) in
-    let b : headerField 1 s ≡ 66 = eqb-true (headerField 1 s) 66 (letters .1) in
-    let k : headerField 2 s ≡ 75 = eqb-true (headerField 2 s) 75 (marks .1) in
-    let v : headerField 3 s ≡ newest = eqb-true (versionIn s) newest (not-false _ (version .0)) in
-    let three = neither (ltb 64 (assetCountIn s) || ltb 64 (entryCountIn s)) (ltb latestTime (timeIn s)) (large .0) in
-    let two = neither (ltb 64 (assetCountIn s)) (ltb 64 (entryCountIn s)) (three .0) in
-    record {
-      header = λ i. r i ∷ b i ∷ k i ∷ v i ∷ assetCountIn s ∷ entryCountIn s ∷ timeIn s ∷ [];
-      assets = ltb-false 64 (assetCountIn s) (two .0);
-      entries = ltb-false 64 (entryCountIn s) (two .1);
-      time = ltb-false latestTime (timeIn s) (three .1);
-      whole = eqb-true (length s) (imageLength (assetCountIn s) (entryCountIn s)) (not-false _ (wrong .0));
-    }
-
 module _ {A : Type 0} (ws : List Width) (values : A → List ℕ) (of : List ℕ → A)
     (again : (o : ℕ) (s : List ℕ) → values (of (valuesAt ws o s)) ≡ valuesAt ws o s) (d : A) (blank : Fit ws (values d)) where
   -- whatever slot of a table that was read holds fits its layout
@@ -316,7 +266,7 @@ module _ {A : Type 0} (ws : List Width) (values : A → List ℕ) (of : List ℕ
 slots-all : (n : ℕ) → n ≤ 64 → n + (64 - n) ≡ 64
 slots-all n h = omega arith
 
-module _ (s : List ℕ) (b : Bytes s) (p : Passed s) where
+module _ (s : List ℕ) (b : Bytes s) (p : HeaderPassed s) where
   assets-read : assetsIn (bookIn s) ≡ assetCountIn s
   unfolding assetsIn bookIn
   assets-read = min-eq-left (p .assets)
@@ -395,25 +345,14 @@ module _ (s : List ℕ) (b : Bytes s) (p : Passed s) where
 
 -- ## The reader and the writer
 
-accepted : (held : Book) (s : List ℕ) → readCode s ≡ 0 → readBook held s ≡ bookIn s
-unfolding readBook
-accepted held s e = ap (λ (c : ℕ). cond (eqb c 0) (bookIn s) held) e
-
 writes-back : (held : Book) (s : List ℕ) → Bytes s → readCode s ≡ 0 → image (readBook held s) ≡ s
-unfolding readCode
-writes-back held s b e =
-    ap image (accepted held s e) ∙ image-again s b (header-passed s (both-zero (headerBroken s) (ruleBroken (bookIn s)) e .0))
+writes-back held s b e = ap image (accepted-book held s e) ∙ image-again s b (header-passed s (accepted-stages s e .0))
 
 accepted-legal : (held : Book) (s : List ℕ) → Bytes s → readCode s ≡ 0 → Legal (readBook held s) × Typed (readBook held s)
-unfolding readCode
 accepted-legal held s b e =
-    let z = both-zero (headerBroken s) (ruleBroken (bookIn s)) e in
+    let z = accepted-stages s e in
     let p = header-passed s (z .0) in
-    (subst Legal (sym (accepted held s e)) (read-legal s b p (z .1)), subst Typed (sym (accepted held s e)) (read-typed s b p))
-
-refused-keeps : (held : Book) (s : List ℕ) → (readCode s ≡ 0 → ⊥) → readBook held s ≡ held
-unfolding readBook
-refused-keeps held s h = ap (λ (t : Bool). cond t (bookIn s) held) (ne-eqb (readCode s) 0 h)
+    (subst Legal (sym (accepted-book held s e)) (read-legal s b p (z .1)), subst Typed (sym (accepted-book held s e)) (read-typed s b p))
 
 module _ (b : Book) (old : List ℕ) (h : lengthOf b ≤ length old) where
   fits : leb (lengthOf b) (length old) ≡ true
@@ -439,7 +378,7 @@ demand2 = record {
   imageBytes = image-bytes;
   writesBack = writes-back;
   acceptedLegal = accepted-legal;
-  refusedKeeps = refused-keeps;
+  refusedKeeps = refused-book;
   writtenLength = image-length;
   lengthBounds = length-bounds;
   written = written;

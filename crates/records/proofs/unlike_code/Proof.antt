@@ -1,28 +1,23 @@
+-- `records::unlike_code` meets its contract: the tests are the definition's, in the same order.
 use mathlib.Core.Path.{_≡_, refl, sym}
 use borrow.Author.Tests.{ne-eqb, eq-eqb}
 use Rattle.model.specs.Events.{sameNumber}
 use Rattle.records.specs.Asked.{unlike, sameNumbers}
 use Rattle.records.proofs.unlike_code.Statement.{statement}
 use Rattle.records.proofs.unlike_code.Tie as tie
-use Rattle.records.proofs.unlike_code.Reads as reads
-use Rattle.records.proofs.unlike_code.Lts as lts
 
--- src/lib.rt:60:9
 returns : tie.Need-returns
 unfolding unlike sameNumber
 returns c = rw (c .if1 .taken) refl
 
--- src/lib.rt:63:9
 returns-2 : tie.Need-returns-2
 unfolding unlike sameNumber
 returns-2 c = rw (ne-eqb _ _ (c .before .before .before .if1 .left), ne-eqb _ _ (c .if2 .taken)) refl
 
--- src/lib.rt:66:9
 returns-3 : tie.Need-returns-3
 unfolding unlike sameNumber sameNumbers
 returns-3 c = rw (ne-eqb _ _ (c .before .before .before .before .before .before .before .before .before .before .if1 .left), eq-eqb _ _ (c .before .before .before .before .before .before .before .if2 .left), c .if3 .taken) refl
 
--- src/lib.rt:56:1
 returns-4 : tie.Need-returns-4
 unfolding unlike sameNumber sameNumbers
 returns-4 c = rw (ne-eqb _ _ (c .before .before .before .before .before .before .before .before .before .before .if1 .left), eq-eqb _ _ (c .before .before .before .before .before .before .before .if2 .left), c .if3 .left) refl

@@ -1,3 +1,4 @@
+-- `rows::consider_row` meets its contract: the tests are the definition's, in the same order.
 use Rattle.rows.specs.Rows.{rowBelongs, rowRank, rowGrants, rowConsidered}
 use Rattle.rows.specs.declared.Row.{Row}
 use Rattle.rules.specs.declared.Rank.{Rank}

@@ -1,3 +1,4 @@
+-- `rows::row_of` meets its contract: each field is the definition's.
 use Rattle.rows.specs.Rows.{rowOf, startOf}
 use Rattle.model.specs.Book.{flagged}
 use Rattle.model.specs.Events.{rankOf}

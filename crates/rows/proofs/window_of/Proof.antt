@@ -1,3 +1,4 @@
+-- `rows::window_of` meets its contract: no sum passes 64 bits, and the least bound is the definition's.
 use Rattle.rows.specs.Rows.{windowOf, spent}
 use Rattle.rules.specs.Rules.{flagsOf}
 use Rattle.rules.specs.declared.Flags.{Flags}

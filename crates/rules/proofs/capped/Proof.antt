@@ -1,3 +1,4 @@
+-- `rules::capped` meets its contract, with the flag and without it.
 use borrow.Author.Needs.{needs}
 use Rattle.rules.proofs.capped.Statement.{statement}
 use Rattle.rules.proofs.capped.Tie as tie

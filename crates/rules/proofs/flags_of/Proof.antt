@@ -1,3 +1,4 @@
+-- `rules::flags_of` meets its contract: flag 1 is read without dividing by 1.
 use Rattle.model.specs.Book.{flagged}
 use Rattle.rules.specs.Rules.{flagsOf}
 use native.Mathlib.Nat.{div-one}

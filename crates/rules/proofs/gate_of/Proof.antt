@@ -1,3 +1,4 @@
+-- `rules::gate_of` meets its contract: its tests are the definition's, in the same order.
 use Rattle.model.specs.Events.{gate, sameNumber, inLine, timely}
 use borrow.Author.Needs.{needs}
 use Rattle.rules.proofs.gate_of.Statement.{statement}

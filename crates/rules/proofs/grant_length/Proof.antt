@@ -1,3 +1,4 @@
+-- `rules::grant_length` meets its contract.
 use Rattle.model.specs.Book.{grantLength}
 use mathlib.Core.Path.{refl}
 use Rattle.rules.proofs.grant_length.Statement.{statement}

@@ -1,3 +1,4 @@
+-- `rules::grantable` meets its contract: in 64 bits no sum is cut, and its tests are the definition's.
 use Rattle.rules.specs.Rules.{flagsOf, grantable-is}
 use borrow.Author.Needs.{needs}
 use Rattle.rules.proofs.grantable.Statement.{statement}

@@ -1,3 +1,4 @@
+-- `rules::least_until` meets its contract: in 64 bits no sum is cut, and its caps are the definition's.
 use Rattle.rules.specs.Rules.{flagsOf}
 use Rattle.model.specs.Events.{leastUntil}
 use borrow.Author.Needs.{needs}

@@ -1,3 +1,4 @@
+-- `rules::momentary` meets its contract: its test is the definition's.
 use Rattle.model.specs.Book.{momentary}
 use mathlib.Core.Path.{refl}
 use Rattle.rules.proofs.momentary.Statement.{statement}

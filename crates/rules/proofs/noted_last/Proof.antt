@@ -1,3 +1,4 @@
+-- `rules::noted_last` meets its contract: the three numbers of the request are those of `wire_of`.
 use borrow.Author.Needs.{needs}
 use Rattle.rules.proofs.noted_last.Statement.{statement}
 use Rattle.rules.proofs.noted_last.Tie as tie

@@ -1,3 +1,4 @@
+-- `rules::rank_of` meets its contract: its four numbers are the definition's.
 use Rattle.rules.specs.Rules.{flagsOf}
 use Rattle.model.specs.Events.{rankOf, own}
 use borrow.Author.Needs.{needs}

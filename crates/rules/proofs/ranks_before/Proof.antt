@@ -1,3 +1,4 @@
+-- `rules::ranks_before` meets its contract: its comparisons are the definition's.
 use Rattle.model.specs.Events.{ranksBefore}
 use mathlib.Core.Path.{refl}
 use Rattle.rules.proofs.ranks_before.Statement.{statement}

@@ -1,3 +1,4 @@
+-- `rules::same_request` meets its contract: its tests are the definition's.
 use Rattle.model.specs.Events.{sameRequest}
 use borrow.Author.Needs.{needs}
 use Rattle.rules.proofs.same_request.Statement.{statement}

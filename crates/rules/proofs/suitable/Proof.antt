@@ -1,3 +1,4 @@
+-- `rules::suitable` meets its contract: its test is the definition's.
 use Rattle.model.specs.Events.{suitable, own}
 use mathlib.Core.Path.{refl}
 use Rattle.rules.proofs.suitable.Statement.{statement}

@@ -1,3 +1,4 @@
+-- `rules::wire_of` meets its contract: a return for each operation.
 use borrow.Author.Needs.{needs}
 use Rattle.rules.proofs.wire_of.Statement.{statement}
 use Rattle.rules.proofs.wire_of.Tie as tie

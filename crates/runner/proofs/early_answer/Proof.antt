@@ -1,21 +1,16 @@
+-- `runner::early_answer` meets its contract: the stored answer for a resend, else the refusal.
 use mathlib.Core.Path.{_≡_, refl, sym}
 use borrow.Author.Tests.{eq-eqb, ne-eqb}
 use borrow.Author.Needs.{needs}
 use Rattle.runner.proofs.early_answer.Statement.{statement}
 use Rattle.runner.proofs.early_answer.Tie as tie
-use Rattle.runner.proofs.early_answer.Reads as reads
-use Rattle.runner.proofs.early_answer.Lts as lts
-use Rattle.runner.proofs.refused.Reads as refused-reads
 
--- src/lib.rt:90:9
 returns : tie.Need-returns
 returns c = rw (eq-eqb _ _ (c .if1 .taken)) refl
 
--- src/lib.rt:92:5
 refused-requires : tie.Need-refused-requires
 refused-requires c κs = search needs
 
--- src/lib.rt:86:1
 returns-2 : tie.Need-returns-2
 returns-2 c = rw (ne-eqb _ _ (c .before .if1 .left)) (c .refused .ensures)
 

@@ -1,3 +1,4 @@
+-- `uses::any_due` meets its contract. The invariant: `w` tells whether a use of the first i players is due.
 use Rattle.model.specs.Events.{anyOf}
 use Rattle.uses.specs.Due.{dueAt, anyDue, any-of-next}
 use borrow.Author.Needs.{needs}

@@ -1,3 +1,4 @@
+-- `uses::begun_meters` meets its contract: each sum fits by its `requires`.
 use native.Mathlib.Omega.{arith}
 use Rattle.model.specs.Events.{begun}
 use Rattle.rules.specs.Rules.{flagsOf}

@@ -1,3 +1,4 @@
+-- `uses::continue_on` meets its contract: a return for each of 14 and 15, and one for more time.
 use Rattle.model.specs.Events.{isOn}
 use Rattle.model.specs.Events.{moreUntil}
 use Rattle.uses.specs.Room.{more-room}

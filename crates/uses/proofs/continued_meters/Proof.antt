@@ -1,3 +1,4 @@
+-- `uses::continued_meters` meets its contract: the sum fits by its `requires`.
 use native.Mathlib.Omega.{arith}
 use Rattle.model.specs.Events.{continued}
 use Rattle.rules.specs.Rules.{flagsOf}

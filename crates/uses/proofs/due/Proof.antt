@@ -1,3 +1,4 @@
+-- `uses::due` meets its contract: its test is the definition's.
 use Rattle.model.specs.Events.{expired}
 use mathlib.Core.Path.{refl}
 use Rattle.uses.proofs.due.Statement.{statement}

@@ -1,3 +1,4 @@
+-- `uses::ended_meters` meets its contract.
 use Rattle.model.specs.Events.{ended}
 use Rattle.rules.specs.Rules.{flagsOf}
 use borrow.Author.Needs.{needs}

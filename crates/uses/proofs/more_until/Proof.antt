@@ -1,3 +1,4 @@
+-- `uses::more_until` meets its contract: at a time that an event may have, until fits 32 bits.
 use native.Mathlib.Omega.{arith}
 use Rattle.model.specs.Events.{moreUntil}
 use Rattle.uses.specs.Room.{more-fits}

@@ -1,3 +1,4 @@
+-- `uses::released_meters` meets its contract.
 use Rattle.uses.specs.Uses.{releasedOn}
 use borrow.Author.Needs.{needs}
 use Rattle.uses.proofs.released_meters.Statement.{statement}

@@ -1,3 +1,4 @@
+-- `uses::shut_player` meets its contract.
 use Rattle.model.specs.Events.{shut}
 use borrow.Author.Needs.{needs}
 use Rattle.uses.proofs.shut_player.Statement.{statement}

@@ -1,3 +1,4 @@
+-- `uses::stop_on` meets its contract: a return for 14, and one for the end of the use.
 use Rattle.model.specs.Events.{isOn}
 use Rattle.uses.specs.Uses.{stopOn}
 use borrow.Author.Tests.{not-true, not-false}
