@@ -1,6 +1,6 @@
 -- Demand 2, of images: "a book written and read back is the same book, and an accepted image writes the same bytes."
 -- Statements alone, in the terms of `Book` and `Image`; the proofs stand in `Proof.RoundTrip`.
-use Prim.Native.Nat.{ℕ, _≤_}
+use Prim.Native.Nat.{ℕ, _≤_, _<_}
 use mathlib.Core.Path.{_≡_}
 use mathlib.Core.List.{List}
 use lib.ListN.{length, take, drop}
@@ -27,3 +27,5 @@ pub record Demand2 : Type 0 where
   pub written : (b : Book) (old : List ℕ) → lengthOf b ≤ length old → take (writeAnswer b (length old)) (writeBuffer b old) ≡ image b
   pub behindKept : (b : Book) (old : List ℕ) → lengthOf b ≤ length old
       → drop (writeAnswer b (length old)) (writeBuffer b old) ≡ drop (lengthOf b) old
+  -- "30 | writer's buffer too short | buffer untouched"
+  pub tooShort : (b : Book) (old : List ℕ) → length old < lengthOf b → (writeAnswer b (length old) ≡ 30) × (writeBuffer b old ≡ old)

@@ -1,7 +1,10 @@
--- Lemmas and proofs about the definitions above: nothing here has to be believed. Afternoon and Cases are closed runs.
+-- Lemmas and proofs about the definitions above: nothing here has to be believed. Afternoon, Cases, Printed, Account and Bounds are closed runs.
 pub mod Afternoon
 pub mod Cases
 pub mod Header
+pub mod Printed
+pub mod Account
+pub mod Bounds
 pub mod RoundTrip
 pub mod BookExamples
 pub mod Facts

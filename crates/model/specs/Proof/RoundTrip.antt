@@ -8,7 +8,7 @@ use native.Mathlib.Nat.{mul-suc, mul-le-mul-left, min-eq-left}
 use lib.ListN.{length, getD, take, drop, replicate, length-append, List·getD-eq-default}
 use lib.Seq.{take-at, drop-at, take-add, take-all}
 use lib.Dec.{ltb, leb, eqb}
-use borrow.Author.Tests.{eq-eqb, le-ltb, le-leb}
+use borrow.Author.Tests.{eq-eqb, le-ltb, le-leb, lt-leb}
 use Rattle.laws.specs.Count.{joined, listed}
 use Rattle.laws.specs.Fields.{Width, size, laidOut, valuesAt, Fit}
 use Rattle.laws.specs.FieldLaws.{values-back, values-from, values-fit, length-laid, laid-back, laid-bytes, append-bytes, drop-bytes}
@@ -372,6 +372,10 @@ module _ (b : Book) (old : List ℕ) (h : lengthOf b ≤ length old) where
   behind-kept : drop (writeAnswer b (length old)) (writeBuffer b old) ≡ drop (lengthOf b) old
   behind-kept = ap₂ drop answered filled ∙ drop-at (image b) (drop (lengthOf b) old) (lengthOf b) (image-length b)
 
+too-short : (b : Book) (old : List ℕ) → length old < lengthOf b → (writeAnswer b (length old) ≡ 30) × (writeBuffer b old ≡ old)
+unfolding writeAnswer writeBuffer
+too-short b old h = let e = lt-leb (lengthOf b) (length old) h in (rw e, rw e)
+
 pub demand2 : Demand2
 demand2 = record {
   readsBack = λ held b l y. reads-back b l y held;
@@ -383,4 +387,5 @@ demand2 = record {
   lengthBounds = length-bounds;
   written = written;
   behindKept = behind-kept;
+  tooShort = too-short;
 }
