@@ -59,6 +59,7 @@ isParent a = eqb (a .key) 0 && eqb (a .inherit) 0
 unfoldable pub assetPosition : List Asset → ℕ → ℕ → ℕ
 assetPosition ats n number = first (λ i. eqb (assetAt ats i .number) number) n
 
+-- whether the book has an asset with that number
 unfoldable pub inBook : Book → ℕ → Bool
 inBook b number = ltb (assetPosition (b .assets) (assetsIn b) number) (assetsIn b)
 
@@ -93,6 +94,7 @@ assetLegal ats n i a =
     && eqb (assetPosition ats n (a .number)) i
     && leb (a .key) 1
 
+-- all assets of the book
 unfoldable pub assetsLegal : Book → Bool
 assetsLegal b = all (λ i. assetLegal (b .assets) (assetsIn b) i (assetAt (b .assets) i)) (assetsIn b)
 
@@ -122,6 +124,7 @@ limitsLegal known l =
     && (not (flagged 4 l && flagged 8 l) || leb (l .start) (l .end))
     && (not (momentary (l .kind)) || (not (flagged 32 l) && eqb (l .timer) 0))
 
+-- all entries of the book
 unfoldable pub entriesLegal : Book → Bool
 entriesLegal b = all (λ i. limitsLegal (inBook b (limitsAt (b .entries) i .asset)) (limitsAt (b .entries) i)) (entriesIn b)
 
@@ -203,6 +206,7 @@ playerLegal time n e p =
 abbrev pub openEntry : List Entry → Player → Entry
 openEntry es p = getD es (p .current .entry) noEntry
 
+-- all players
 unfoldable pub playersLegal : Book → Bool
 playersLegal b =
     all
@@ -245,6 +249,7 @@ metersCover uses seconds l m =
     && (not (flagged 2 l) || leb uses (m .timed))
     && (not (flagged 32 l) || leb seconds (m .seconds))
 
+-- the rules of meters, of entry i
 unfoldable pub entryMetersLegal : ℕ → List Player → ℕ → Entry → Bool
 entryMetersLegal time ps i e =
     meterLegal (flagged 1 (e .limits)) (e .limits .count) (e .meters .count)
@@ -253,6 +258,7 @@ entryMetersLegal time ps i e =
     && startLegal time (e .limits) (e .meters)
     && metersCover (openUses ps i) (openSeconds ps i) (e .limits) (e .meters)
 
+-- the meters of all entries
 unfoldable pub metersLegal : Book → Bool
 metersLegal b = all (λ i. entryMetersLegal (b .time) (b .players) i (getD (b .entries) i noEntry)) (entriesIn b)
 

@@ -42,6 +42,7 @@ advance s d = record {
   account = noteArrival (s .account) d (arrive (s .book) d .answer);
 }
 
+-- all events of a list
 unfoldable pub after : State → List Decoded → State
 after s [] = s
 after s (d ∷ ds) = after (advance s d) ds
@@ -50,6 +51,7 @@ after s (d ∷ ds) = after (advance s d) ds
 abbrev pub starting : Book → State
 starting b = record { book = b; account = empty }
 
+-- the answers to a list of events, and the book after it
 unfoldable pub answers : Book → List Decoded → List Answer
 answers b [] = []
 answers b (d ∷ ds) = arrive b d .answer ∷ answers (arrive b d .book) ds
@@ -130,6 +132,7 @@ pub data Serves (b : Book) (asset owner : ℕ) : Type 0 where
       → assetAt (b .assets) y .key ≡ 0 → assetAt (b .assets) y .inherit ≡ 0 → owner ≡ assetAt (b .assets) y .number
       → Serves b asset owner
 
+-- entry i is suitable
 pub record Suits (b : Book) (asset kind i : ℕ) : Type 0 where
   pub below : i < entriesIn b
   pub kind-is : limitsAt (b .entries) i .kind ≡ kind
@@ -158,6 +161,7 @@ abbrev pub isSome : Option ℕ → Bool
 isSome none = false
 isSome (some c) = true
 
+-- of an entry with a flagged interval
 abbrev pub running : List Use → ℕ → Limits → Bool
 running us i l = flagged 16 l && isSome (earliest i us)
 
@@ -193,6 +197,7 @@ pub data Bound (t from : ℕ) (l : Limits) (us : List Use) (i x : ℕ) : Type 0 
   span : flagged 16 l ≡ true → x ≡ startOr t (earliest i us) + l .interval → Bound t from l us i x
   unused : flagged 32 l ≡ true → x ≡ from + (l .accumulated - spentSeconds us i) → Bound t from l us i x
 
+-- u is one of these times, and the least
 pub record IsLeast (t from : ℕ) (l : Limits) (us : List Use) (i u : ℕ) : Type 0 where
   pub listed : Bound t from l us i u
   pub least : (x : ℕ) → Bound t from l us i x → u ≤ x
@@ -224,6 +229,7 @@ figures at us i l = record {
   started = one (running us i l);
 }
 
+-- from position i on
 unfoldable pub filledFrom : ℕ → List Use → ℕ → List Entry → List Entry
 filledFrom T us i [] = []
 filledFrom T us i (x ∷ xs) = record { limits = x .limits; meters = figures (λ p. T) us i (x .limits) } ∷ filledFrom T us (suc i) xs
@@ -232,6 +238,7 @@ filledFrom T us i (x ∷ xs) = record { limits = x .limits; meters = figures (λ
 abbrev pub filled : ℕ → List Use → List Entry → List Entry
 filled T us es = filledFrom T us 0 es
 
+-- the answer that goes with a choice
 abbrev pub chosenAnswer : ℕ → List Entry → Choice → Answer
 chosenAnswer t es nobody = refusal noneGrantable
 chosenAnswer t es (chosen i) = record { code = 0; entry = i; until = grantUntil t (limitsAt es i) (metersAt es i) }
@@ -246,6 +253,7 @@ pub record Chosen (s : State) (e : Event) (kind : Kind) (asset : ℕ) : Type 0 w
       chosenAnswer (e .time) (filled (e .time) (s .account .uses) (s .book .entries))
       (choose (catalogOf (s .book)) (filled (e .time) (s .account .uses) (s .book .entries)) (e .time) asset (kindNumber kind))
 
+-- what is claimed of a begin that is taken and no resend
 pub record Begins (s : State) (e : Event) (kind : Kind) (asset : ℕ) : Type 0 where
   pub reaches : PastChecks (step (s .book) e .answer) ↔ MayChoose s e asset (kindNumber kind)
   pub choice : PastChecks (step (s .book) e .answer) → Chosen s e kind asset
@@ -320,6 +328,7 @@ lastBy (some x) = noted (x .event) (x .answer)
 abbrev pub lastOf : ℕ → List Taken → Last
 lastOf p taken = lastBy (latestTaken p taken)
 
+-- what is answered by the account, once the checks have told whether the event is taken
 unfoldable pub predictBy : Gate → Book → Account → Event → Answer
 predictBy (Refuse code) b a e = refusal code
 predictBy Resend b a e = lastOf (e .player) (a .taken) .answer

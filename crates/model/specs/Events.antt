@@ -59,15 +59,19 @@ requestKind Stop = 0
 abbrev pub recordWidths : List Width
 recordWidths = bits8 ∷ bits32 ∷ bits8 ∷ bits16 ∷ bits8 ∷ bits32 ∷ []
 
+-- field k of a record, in that order
 abbrev pub recordField : ℕ → List ℕ → ℕ
 recordField k s = getD (valuesAt recordWidths 0 s) k 0
 
+-- a number as a kind; one that is no kind has been refused before
 unfoldable pub kindOf : ℕ → Kind
 kindOf k = cond (eqb k 1) Play (cond (eqb k 2) Display (cond (eqb k 3) Execute (cond (eqb k 4) Print Export)))
 
+-- three numbers as a request, likewise
 unfoldable pub requestOf : ℕ → ℕ → ℕ → Request
 requestOf operation asset kind = cond (eqb operation 1) (Begin (kindOf kind) asset) (cond (eqb operation 2) Continue Stop)
 
+-- the event that stands in 13 bytes
 unfoldable pub eventIn : List ℕ → Event
 eventIn s = record {
   player = recordField 0 s;
@@ -90,6 +94,7 @@ decoded s =
 abbrev pub lastNumber : ℕ
 lastNumber = 4294967295
 
+-- "a *resend* if operation, asset and kind are equal"
 unfoldable pub sameRequest : Last → Request → Bool
 sameRequest l q =
     eqb (operationNumber q) (l .operation) && eqb (requestAsset q) (l .asset) && eqb (requestKind q) (l .kind)
@@ -126,6 +131,7 @@ abbrev pub where-flagged : Bool → ℕ → ℕ
 where-flagged true v = v
 where-flagged false v = 0
 
+-- whether the interval has started
 abbrev pub isStarted : Meters → Bool
 isStarted m = eqb (m .started) 1
 
@@ -194,9 +200,11 @@ pub record Catalog : Type 0 where
   pub assetCount : ℕ
   pub entryCount : ℕ
 
+-- that of a book
 unfoldable pub catalogOf : Book → Catalog
 catalogOf b = record { assets = b .assets; assetCount = assetsIn b; entryCount = entriesIn b }
 
+-- whether the book has an asset with that number
 unfoldable pub holds : Catalog → ℕ → Bool
 holds c number = ltb (assetPosition (c .assets) (c .assetCount) number) (c .assetCount)
 
@@ -215,6 +223,7 @@ parentOf c number =
     (assetNamed c number .inherit)
     0
 
+-- whether the entry belongs to the asset itself
 unfoldable pub own : ℕ → Limits → Bool
 own asset l = eqb (l .asset) asset
 
@@ -249,6 +258,7 @@ intervalLeft t l m = asked (flagged 16 l) (not (isStarted m) || ltb t (m .first 
 unfoldable pub secondsLeft : Limits → Meters → Bool
 secondsLeft l m = asked (flagged 32 l) (ltb (m .seconds) (l .accumulated))
 
+-- all of these
 unfoldable pub grantable : ℕ → Limits → Meters → Bool
 grantable t l m = countLeft l m && timedLeft l m && inDates t l && intervalLeft t l m && secondsLeft l m
 
@@ -266,6 +276,7 @@ pub record Rank : Type 0 where
 abbrev pub noEnd : ℕ
 noEnd = 4294967296
 
+-- the rank of an entry when `asset` is asked for
 unfoldable pub rankOf : ℕ → Limits → Meters → Rank
 rankOf asset l m = record {
   flags = one (not (eqb (l .flags) 0));
@@ -274,6 +285,7 @@ rankOf asset l m = record {
   inherited = one (not (own asset l));
 }
 
+-- a goes before b
 unfoldable pub ranksBefore : Rank → Rank → Bool
 ranksBefore a b =
     ltb (a .flags) (b .flags)
@@ -284,10 +296,12 @@ ranksBefore a b =
     || eqb (a .fresh) (b .fresh)
     && ltb (a .inherited) (b .inherited)))
 
+-- the entry chosen, or nobody
 pub data Choice : Type 0 where
   nobody : Choice
   chosen : ℕ → Choice
 
+-- position k, allowed or not, against the choice among those below it: it wins where it goes first
 abbrev pub prefer : Bool → ℕ → (ℕ → Bool) → Choice → Choice
 prefer false k first c = c
 prefer true k first nobody = chosen k
@@ -298,16 +312,20 @@ unfoldable pub chooseOf : (ℕ → Bool) → (ℕ → ℕ → Bool) → ℕ → 
 chooseOf ok first zero = nobody
 chooseOf ok first (suc k) = prefer (ok k) k (first k) (chooseOf ok first k)
 
+-- whether the test passes below k
 unfoldable pub anyOf : (ℕ → Bool) → ℕ → Bool
 anyOf ok zero = false
 anyOf ok (suc k) = anyOf ok k || ok k
 
+-- entry i is suitable
 abbrev pub suits : Catalog → List Entry → ℕ → ℕ → ℕ → Bool
 suits c es asset kind i = suitable asset (parentOf c asset) kind (limitsAt es i)
 
+-- entry i is suitable and grantable
 abbrev pub allowed : Catalog → List Entry → ℕ → ℕ → ℕ → ℕ → Bool
 allowed c es t asset kind i = suits c es asset kind i && grantable t (limitsAt es i) (metersAt es i)
 
+-- entry i goes before entry j, (i) to (iv)
 abbrev pub goesBefore : List Entry → ℕ → ℕ → ℕ → Bool
 goesBefore es asset i j = ranksBefore (rankOf asset (limitsAt es i) (metersAt es i)) (rankOf asset (limitsAt es j) (metersAt es j))
 
@@ -358,6 +376,7 @@ pub record Done : Type 0 where
 abbrev pub unchanged : ℕ → List Entry → Open → Done
 unchanged code es o = record { answer = refusal code; entries = es; current = o }
 
+-- what a begin does with the choice
 abbrev pub granted : ℕ → List Entry → Open → Choice → Done
 granted t es o nobody = unchanged noneGrantable es o
 granted t es o (chosen i) =
@@ -376,9 +395,11 @@ doBegin c es o t asset kind =
     (cond (not (anyOf (suits c es asset kind) (c .entryCount))) (unchanged 12 es o)
     (granted t es o (choose c es t asset kind))))
 
+-- the new until of the open use
 abbrev pub more : List Entry → Open → ℕ → ℕ
 more es o t = moreUntil t (o .until) (limitsAt es (o .entry)) (metersAt es (o .entry))
 
+-- a continue until v
 abbrev pub lengthened : ℕ → List Entry → Open → Done
 lengthened v es o = record {
   answer = record { code = 0; entry = o .entry; until = v };
@@ -393,6 +414,7 @@ doContinue es o t =
     (cond (leb (more es o t) (o .until)) (unchanged 15 es o)
     (lengthened (more es o t) es o))
 
+-- a stop at t
 abbrev pub halted : ℕ → List Entry → Open → Done
 halted t es o = record {
   answer = record { code = 0; entry = o .entry; until = t };
@@ -404,6 +426,7 @@ halted t es o = record {
 unfoldable pub doStop : List Entry → Open → ℕ → Done
 doStop es o t = cond (not (isOn o)) (unchanged 14 es o) (halted t es o)
 
+-- what the operation does
 unfoldable pub done : Request → Catalog → List Entry → Open → ℕ → Done
 done (Begin kind asset) c es o t = doBegin c es o t asset (kindNumber kind)
 done Continue c es o t = doContinue es o t
@@ -441,6 +464,7 @@ stored b e ps d = record {
   };
 }
 
+-- an event that is taken: all players are settled, then the operation, then the store
 unfoldable pub takenStep : Book → Event → Outcome
 takenStep b e =
     let ps : List Player = map (shut (e .time)) (b .players) in
@@ -453,6 +477,7 @@ stepBy (Refuse code) b e = record { answer = refusal code; book = b }
 stepBy Resend b e = record { answer = lastAt (b .players) (e .player) .answer; book = b }
 stepBy Take b e = takenStep b e
 
+-- an event on a book: the answer, and the book after it
 unfoldable pub step : Book → Event → Outcome
 step b e = stepBy (gate (b .time) (lastAt (b .players) (e .player)) e) b e
 

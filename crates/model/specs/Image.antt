@@ -20,6 +20,7 @@ use Rattle.model.specs.Book.{assetAt, playerAt, assetsIn, entriesIn, lat
 abbrev pub headerWidths : List Width
 headerWidths = bits8 ∷ bits8 ∷ bits8 ∷ bits16 ∷ bits8 ∷ bits8 ∷ bits32 ∷ []
 
+-- the version that is written
 abbrev pub newest : ℕ
 newest = 1
 
@@ -118,6 +119,7 @@ entryBytes e = laidOut entryWidths (entryValues e)
 unfoldable pub playerBytes : Player → List ℕ
 playerBytes p = laidOut playerWidths (playerValues p)
 
+-- all bytes of the image
 unfoldable pub image : Book → List ℕ
 image b =
     headerBytes (assetsIn b) (entriesIn b) (b .time)
@@ -125,6 +127,7 @@ image b =
     ++ joined (λ i. entryBytes (getD (b .entries) i noEntry)) (entriesIn b)
     ++ joined (λ p. playerBytes (playerAt (b .players) p)) 16
 
+-- how many they are
 unfoldable pub lengthOf : Book → ℕ
 lengthOf b = imageLength (assetsIn b) (entriesIn b)
 
@@ -204,6 +207,7 @@ headerBroken s =
     (cond (not (eqb (length s) (imageLength (assetCountIn s) (entryCountIn s)))) 20
     0))))
 
+-- the reader's answer: 0, or the number of the first stage that is broken
 unfoldable pub readCode : List ℕ → ℕ
 readCode s = cond (eqb (headerBroken s) 0) (ruleBroken (bookIn s)) (headerBroken s)
 

@@ -34,6 +34,7 @@ pub record Account : Type 0 where
   pub uses : List Use
   pub taken : List Taken
 
+-- before the first event
 abbrev pub empty : Account
 empty = record { uses = []; taken = [] }
 
@@ -43,6 +44,7 @@ unfoldable pub latestTaken : ℕ → List Taken → Option Taken
 latestTaken p [] = none
 latestTaken p (x ∷ xs) = cond (eqb (x .event .player) p) (some x) (latestTaken p xs)
 
+-- e has the number, operation, asset and kind of x
 abbrev pub repeats : Event → Option Taken → Bool
 repeats e none = false
 repeats e (some x) =
@@ -76,9 +78,11 @@ unfoldable pub revise : ℕ → (Use → Use) → List Use → List Use
 revise p f [] = []
 revise p f (u ∷ us) = cond (eqb (u .player) p) (f u ∷ us) (u ∷ revise p f us)
 
+-- the use with another until
 abbrev pub goOn : ℕ → Use → Use
 goOn v u = record { entry = u .entry; player = u .player; begin = u .begin; until = v; stopped = u .stopped }
 
+-- the use, stopped at t
 abbrev pub stopAt : ℕ → Use → Use
 stopAt t u = record { entry = u .entry; player = u .player; begin = u .begin; until = t; stopped = true }
 
@@ -109,13 +113,16 @@ noteArrival a (Valid e) r = note a e r
 unfoldable pub isOpen : ℕ → Use → Bool
 isOpen T u = not (u .stopped) && ltb T (u .until)
 
+-- "until − begin"
 abbrev pub ran : Use → ℕ
 ran u = u .until - u .begin
 
+-- the sum over the uses
 unfoldable pub sumOf : (Use → ℕ) → List Use → ℕ
 sumOf w [] = 0
 sumOf w (u ∷ us) = w u + sumOf w us
 
+-- 1 for a use of entry i
 abbrev pub counts : ℕ → Use → ℕ
 counts i u = one (eqb (u .entry) i)
 
@@ -123,6 +130,7 @@ counts i u = one (eqb (u .entry) i)
 abbrev pub countsTimed : (ℕ → ℕ) → ℕ → ℕ → Use → ℕ
 countsTimed at timer i u = one (eqb (u .entry) i && (isOpen (at (u .player)) u || leb timer (ran u)))
 
+-- the seconds of a use of entry i
 abbrev pub countsSeconds : ℕ → Use → ℕ
 countsSeconds i u = cond (eqb (u .entry) i) (ran u) 0
 
@@ -138,6 +146,7 @@ spentTimed T us i l = sumOf (countsTimed (λ p. T) (l .timer) i) us
 abbrev pub spentSeconds : List Use → ℕ → ℕ
 spentSeconds us i = sumOf (countsSeconds i) us
 
+-- the lesser, of those that there are
 abbrev pub sooner : ℕ → Option ℕ → ℕ
 sooner b none = b
 sooner b (some c) = min b c
@@ -147,6 +156,7 @@ unfoldable pub earliest : ℕ → List Use → Option ℕ
 earliest i [] = none
 earliest i (u ∷ us) = cond (eqb (u .entry) i) (some (sooner (u .begin) (earliest i us))) (earliest i us)
 
+-- "T ≥ interval start + interval"
 abbrev pub over : ℕ → ℕ → Option ℕ → Bool
 over T interval none = false
 over T interval (some c) = leb (c + interval) T

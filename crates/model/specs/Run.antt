@@ -22,6 +22,7 @@ decimal n = decimalIn 10 n
 unfoldable pub line : Answer → List ℕ
 line a = decimal (a .code) ++ (32 ∷ []) ++ decimal (a .entry) ++ (32 ∷ []) ++ decimal (a .until) ++ (10 ∷ [])
 
+-- one behind the other
 unfoldable pub lines : List Answer → List ℕ
 lines [] = []
 lines (a ∷ as′) = line a ++ lines as′

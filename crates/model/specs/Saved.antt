@@ -38,6 +38,7 @@ pub record Turn : Type 0 where
   pub event : Decoded
   pub rereader : Option Book
 
+-- the book that the next event meets
 unfoldable pub handedOn : Option Book → Book → Book
 handedOn none b = b
 handedOn (some held) b = readBook held (image b)
@@ -45,6 +46,7 @@ handedOn (some held) b = readBook held (image b)
 abbrev pub eventOf : Turn → Decoded
 eventOf t = t .event
 
+-- the answers, and the last book
 unfoldable pub savedAnswers : Book → List Turn → List Answer
 savedAnswers b [] = []
 savedAnswers b (t ∷ ts) = arrive b (t .event) .answer ∷ savedAnswers (handedOn (t .rereader) (arrive b (t .event) .book)) ts
@@ -53,6 +55,7 @@ unfoldable pub savedFinal : Book → List Turn → Book
 savedFinal b [] = b
 savedFinal b (t ∷ ts) = savedFinal (handedOn (t .rereader) (arrive b (t .event) .book)) ts
 
+-- every event of a run fits
 abbrev pub AllFit : List Turn → Type 0
 AllFit [] = Unit {0}
 AllFit (t ∷ ts) = FitsRead (t .event) × AllFit ts
