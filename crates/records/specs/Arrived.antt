@@ -1,10 +1,10 @@
 -- What a record's code says of its step: refused, answered as before, or taken as an event with these numbers.
-use Prim.Native.Nat.{ℕ, _+_, _%_, _<_, _≤_}
+use Prim.Native.Nat.{ℕ, _+_, _%_, _≤_}
 use mathlib.Core.Path.{_≡_, refl, sym, ap, subst, _∙_}
-use mathlib.Core.Bool.{Bool, true, false, not, _&&_, _||_, cond, or-false, true≢false, false≢true}
+use mathlib.Core.Bool.{Bool, true, false, not, _&&_, cond, or-false, true≢false, false≢true}
 use mathlib.Core.List.{List}
 use native.Mathlib.Omega.{arith}
-use borrow.Author.Tests.{ltb-false, leb-true, ne-eqb, eq-eqb, eqb-true, le-ltb}
+use borrow.Author.Tests.{ltb-false, leb-true, ne-eqb, eqb-true}
 use lib.ListN.{length}
 use lib.Dec.{eqb, ltb, leb}
 use Rattle.book.specs.declared.Answer.{Answer}
@@ -12,12 +12,11 @@ use Rattle.book.specs.declared.Last.{Last}
 use Rattle.book.specs.declared.Book.{Book}
 use Rattle.book.specs.declared.Event.{Event}
 use Rattle.book.specs.declared.Outcome.{Outcome}
-use Rattle.book.specs.declared.Gate.{Gate}
 use Rattle.book.specs.declared.Gate.the-variants.{Refuse, Resend, Take}
-use Rattle.book.specs.declared.Decoded.the-variants.{Invalid, Valid}
+use Rattle.book.specs.declared.Decoded.the-variants.{Valid}
 use Rattle.model.specs.Book.{between, requestLegal, latestTime}
 use Rattle.model.specs.Events.{operationNumber, requestAsset, requestKind, kindNumber, kindOf, requestOf, recordField, eventIn, decoded, sameRequest, sameNumber, inLine, timely, gate, refusal, noted, lastAt, stepBy, step, arrive, stepRecord}
-use Rattle.laws.specs.Tests.{on-test, on-same, and-left, and-right, eqb-self}
+use Rattle.laws.specs.Tests.{on-test, on-same, and-left, and-right}
 use Rattle.records.specs.declared.Asked.{Asked}
 use Rattle.records.specs.Asked.{askedIn, sameNumbers, unlike, gateCode}
 

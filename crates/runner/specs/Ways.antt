@@ -1,10 +1,10 @@
 -- The ways that a record can go, each as one law: what the loop over the records has stored is what the step leaves.
-use Prim.Native.Nat.{ℕ, zero, suc, _+_, _%_, _<_, _≤_, min}
+use Prim.Native.Nat.{ℕ, suc, _%_, _≤_, min}
 use mathlib.Core.Path.{_≡_, refl, sym, ap, _∙_}
-use mathlib.Core.Bool.{Bool, true, false, not, _&&_, _||_, cond, false≢true}
+use mathlib.Core.Bool.{Bool, true, false, not, cond}
 use mathlib.Core.List.{List, map}
 use lib.ListN.{length, set}
-use lib.Seq.{set-out, set-getD}
+use lib.Seq.{set-getD}
 use lib.Dec.{ltb, eqb}
 use native.Mathlib.Omega.{arith}
 use borrow.Author.Tests.{ltb-true, ltb-false, eq-eqb, ne-eqb}
@@ -161,11 +161,6 @@ module _ (n : Book) (e : Event) (o : Open) (operation k code : ℕ)
         ∙ further-cases (eqb operation 2) (e .time) (n .entries) o ht
         ∙ done-as;
   }
-
--- an operation at a position that no book has stores nothing
-pub placed-out : (k : ℕ) (part : Part) (es : List Entry) → length es ≤ k → placed k part es ≡ record { answer = part .answer; entries = es; current = part .current }
-unfolding placed stored
-placed-out k part es h = ap (λ (x : List Entry). record { answer = part .answer; entries = x; current = part .current }) (set-out es k _ h)
 
 code-clash : (x : ℕ) → 0 ≡ suc x → ⊥
 code-clash x h = omega (arith, h)

@@ -9,7 +9,7 @@ use native.Mathlib.Nat.{pow-succ', one-le-pow}
 use native.Mathlib.Omega.{arith}
 use lib.ListN.{length, getD, set, take, drop, length-append, length-take, length-drop}
 use lib.Dec.{eqb}
-use lib.Seq.{length-take-le, take-all, set-at, set-split, append-snoc, drop-cons, take-suc, take-length, drop-length}
+use lib.Seq.{length-take-le, set-at, set-split, append-snoc, drop-cons, take-suc, take-length, drop-length}
 use borrow.Author.Tests.{lt-ltb, le-ltb, eqb-true}
 use Rattle.model.specs.Proof.Facts.{and-left, and-right}
 use Rattle.laws.specs.Buffer.{lay, lay-nil, lay-lay}

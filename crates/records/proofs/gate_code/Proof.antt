@@ -1,9 +1,7 @@
 -- `records::gate_code` meets its contract: each return is the definition's case.
-use mathlib.Core.Path.{_≡_, refl, sym, _∙_}
-use mathlib.Core.Bool.{true, false}
+use mathlib.Core.Path.{refl, sym, _∙_}
 use native.Mathlib.Omega.{arith}
-use borrow.Author.Tests.{ne-eqb, eq-eqb, lt-ltb, le-ltb, lt-leb, le-leb, not-true, not-false}
-use Rattle.model.specs.Book.{requestLegal}
+use borrow.Author.Tests.{lt-ltb, le-ltb, lt-leb, le-leb, not-true, not-false}
 use Rattle.model.specs.Events.{timely}
 use Rattle.records.specs.Asked.{gateCode, in-line, not-in-line}
 use borrow.Author.Needs.{needs}

@@ -1,5 +1,5 @@
 -- `records::read_record` meets its contract: each field is read where the record has it.
-use mathlib.Core.Path.{_≡_, refl}
+use mathlib.Core.Path.{refl}
 use borrow.Author.Tests.{ne-eqb, eq-eqb}
 use Rattle.records.specs.Asked.{askedIn}
 use borrow.Author.Needs.{needs}

@@ -1,5 +1,5 @@
 -- `records::unlike_code` meets its contract: the tests are the definition's, in the same order.
-use mathlib.Core.Path.{_≡_, refl, sym}
+use mathlib.Core.Path.{refl}
 use borrow.Author.Tests.{ne-eqb, eq-eqb}
 use Rattle.model.specs.Events.{sameNumber}
 use Rattle.records.specs.Asked.{unlike, sameNumbers}

@@ -1,5 +1,4 @@
 -- `runner::act` meets its contract: begin, continue and stop by their numbers.
-use mathlib.Core.Path.{_≡_, refl, sym}
 use borrow.Author.Tests.{eq-eqb, ne-eqb}
 use borrow.Author.Needs.{needs}
 use Rattle.runner.proofs.act.Statement.{statement}

@@ -2,7 +2,7 @@
 use Prim.Native.Nat.{ℕ, _+_, _*_, _-_, _/_, _%_, _<_, _≤_, min}
 use mathlib.Core.Path.{_≡_, refl, sym, ap, ap₂, subst, _∙_}
 use mathlib.Core.Logic.{⊎-elim}
-use mathlib.Core.Bool.{Bool, true, false, _&&_, cond}
+use mathlib.Core.Bool.{true, false}
 use mathlib.Core.List.{List, map}
 use native.Mathlib.Omega.{arith}
 use native.Mathlib.Nat.{min-le-right}
@@ -10,12 +10,11 @@ use borrow.Author.Needs.{needs}
 use borrow.Author.Tests.{le-leb, lt-leb}
 use lib.ListN.{length, getD, set, take, length-set, List·getD-eq-default}
 use lib.Seq.{set-out}
-use lib.Dec.{leb, ltb, eqb}
+use lib.Dec.{leb, ltb}
 use Rattle.laws.specs.Loops.{length-mapped}
 use Rattle.book.specs.declared.Answer.{Answer}
 use Rattle.book.specs.declared.Last.{Last}
 use Rattle.book.specs.declared.Book.{Book}
-use Rattle.book.specs.declared.Open.{Open}
 use Rattle.book.specs.declared.Entry.{Entry}
 use Rattle.book.specs.declared.Player.{Player}
 use Rattle.book.specs.declared.Meters.{Meters}
@@ -30,8 +29,7 @@ use Rattle.choose.specs.Best.{bestAfter, choiceAfter, considered, best-turn}
 use Rattle.rows.specs.declared.Row.{Row}
 use Rattle.rows.specs.Ends.{endOfPlayer, never}
 use Rattle.rows.specs.Rows.{rowOf, rowOfEntry, noRow, rowConsidered, row-at, row-considered}
-use Rattle.places.specs.Places.{placesOf, parentsOf, reachAt}
-use Rattle.uses.specs.declared.Part.{Part}
+use Rattle.places.specs.Places.{reachAt}
 use Rattle.uses.specs.Uses.{placed, stored}
 use Rattle.events.specs.Settle.{settledBook, settledTo, settle-none, settle-turn, settled-length, settleOne, with}
 use Rattle.runner.specs.Block.{fits, blockBook, blockWritten, blockBuffer}

@@ -1,5 +1,5 @@
 -- `runner::begin_code` meets its contract: each return is the definition's case.
-use mathlib.Core.Path.{_≡_, refl, sym}
+use mathlib.Core.Path.{refl}
 use borrow.Author.Tests.{lt-ltb, le-ltb, not-true, not-false}
 use borrow.Author.Needs.{needs}
 use Rattle.runner.proofs.begin_code.Statement.{statement}

@@ -1,5 +1,5 @@
 -- `runner::early_answer` meets its contract: the stored answer for a resend, else the refusal.
-use mathlib.Core.Path.{_≡_, refl, sym}
+use mathlib.Core.Path.{refl}
 use borrow.Author.Tests.{eq-eqb, ne-eqb}
 use borrow.Author.Needs.{needs}
 use Rattle.runner.proofs.early_answer.Statement.{statement}
