@@ -1,6 +1,7 @@
 -- Demand 3 as a statement: what is claimed of every list of events run from a fresh legal book. It is proved in `Proof.Demand3`.
 -- Uses no file of proofs. The rules appear here only where document 01 says so ("with the ledger's figures for the meters");
--- suitable, the order of the choice, until, and what a continue and a stop are answered are stated a second time, in words of their own.
+-- the checks before an event is taken, suitable, the order of the choice, until, and what a continue and a stop are answered are stated a
+-- second time, in words of their own.
 use mathlib.Core.Path.{_≡_}
 use mathlib.Core.Logic.{_↔_, _⊎_}
 use Prim.Native.Nat.{ℕ, suc, _+_, _-_, _≤_, _<_}
@@ -99,12 +100,44 @@ pub record Limited (T : ℕ) (us : List Use) (es : List Entry) : Type 0 where
   pub seconds : (i : ℕ) → flagged 32 (limitsAt es i) ≡ true → spentSeconds us i ≤ limitsAt es i .accumulated
   pub inside : Every (λ u. UseInside (limitsAt es (u .entry)) us u) us
 
--- ## b. Which begins reach the choice
+-- ## b. What becomes of an event before it is taken
+
+-- the number of the player's latest taken event, 0 if there is none
+abbrev pub numberBy : Option Taken → ℕ
+numberBy none = 0
+numberBy (some x) = x .event .number
+
+abbrev pub numberOf : State → Event → ℕ
+numberOf s e = numberBy (latestTaken (e .player) (s .account .taken))
+
+-- "last + 1"; "nothing follows 4,294,967,295"
+abbrev pub Follows : State → Event → Type 0
+Follows s e = (numberOf s e < 4294967295) × (e .number ≡ numberOf s e + 1)
+
+-- "t below the book's time or above 4,000,000,000: 5", and the book's time is that of the latest taken event
+abbrev pub InTime : State → Event → Type 0
+InTime s e = (timeOf (s .account .taken) ≤ e .time) × (e .time ≤ 4000000000)
 
 -- "it is no resend, is taken"
 pub record Takes (s : State) (e : Event) : Type 0 where
   pub new : resent (s .account) e ≡ false
   pub taken : calledTaken (step (s .book) e .answer .code) ≡ true
+
+-- the book stays, and the answer is a
+abbrev pub OnlyAnswers : State → Event → Answer → Type 0
+OnlyAnswers s e a = step (s .book) e ≡ record { answer = a; book = s .book }
+
+-- "Equal to the player's last number (not 0): a *resend* if operation, asset and kind are equal. It gets the stored answer, t is not read,
+-- and nothing changes; else 4. Anything but last + 1: 3 ... Then t ...: 5. From here the event is *taken*"
+pub record Checked (s : State) (e : Event) : Type 0 where
+  pub no-player : 15 < e .player → OnlyAnswers s e (refusal 2)
+  pub again : e .player ≤ 15 → (x : Taken) → latestTaken (e .player) (s .account .taken) ≡ some x → resent (s .account) e ≡ true → OnlyAnswers s e (x .answer)
+  pub unlike : e .player ≤ 15 → resent (s .account) e ≡ false → 0 < numberOf s e → e .number ≡ numberOf s e → OnlyAnswers s e (refusal 4)
+  pub out-of-line : e .player ≤ 15 → (0 < numberOf s e → e .number ≡ numberOf s e → ⊥) → (Follows s e → ⊥) → OnlyAnswers s e (refusal 3)
+  pub out-of-time : e .player ≤ 15 → Follows s e → (InTime s e → ⊥) → OnlyAnswers s e (refusal 5)
+  pub takes : e .player ≤ 15 → Follows s e → InTime s e → Takes s e
+
+-- ## c. Which begins reach the choice
 
 -- "and is answered none of 10, 11 and 12"
 pub record PastChecks (a : Answer) : Type 0 where
@@ -146,7 +179,7 @@ pub record MayChoose (s : State) (e : Event) (asset kind : ℕ) : Type 0 where
   pub entry : ℕ
   pub suits : Suits (s .book) asset kind entry
 
--- ## c. What such a begin is answered
+-- ## d. What such a begin is answered
 
 -- by the ledger, at T
 abbrev pub outOrSpent : ℕ → State → ℕ → Bool
@@ -258,7 +291,7 @@ pub record Begins (s : State) (e : Event) (kind : Kind) (asset : ℕ) : Type 0 w
   pub reaches : PastChecks (step (s .book) e .answer) ↔ MayChoose s e asset (kindNumber kind)
   pub choice : PastChecks (step (s .book) e .answer) → Chosen s e kind asset
 
--- ## d. What a continue and a stop are answered
+-- ## e. What a continue and a stop are answered
 
 -- answered with that code exactly when P; "Each of 1 to 15 returns entry 255 and until 0."
 abbrev pub RefusedWhen : Type 0 → ℕ → Answer → Type 0
@@ -296,7 +329,7 @@ pub record Stops (s : State) (e : Event) : Type 0 where
   pub nothing : RefusedWhen (NothingOpen (e .time) (e .player) (s .account .uses)) 14 (step (s .book) e .answer)
   pub halted : (NothingOpen (e .time) (e .player) (s .account .uses) → ⊥) → Halted s e (step (s .book) e .answer)
 
--- ## e. Resends struck out
+-- ## f. Resends struck out
 
 abbrev pub isResend : Account → Decoded → Bool
 isResend a (Invalid code) = false
@@ -311,7 +344,7 @@ unfoldable pub kept : State → List Decoded → List Answer
 kept s [] = []
 kept s (d ∷ ds) = cond (isResend (s .account) d) (kept (advance s d) ds) (arrive (s .book) d .answer ∷ kept (advance s d) ds)
 
--- ## f. Every answer by the ledger alone
+-- ## g. Every answer by the ledger alone
 
 -- what the player has open at T, and its latest taken event, as the book would store them
 abbrev pub heldBy : ℕ → Option Use → Open
@@ -350,6 +383,7 @@ predicted b a (d ∷ ds) = predict b a d ∷ predicted b (noteArrival a d (predi
 pub record Demand3 (b : Book) : Type 0 where
   pub time : (ds : List Decoded) → after (starting b) ds .book .time ≡ timeOf (after (starting b) ds .account .taken)
   pub limits : (ds : List Decoded) → Limited (timeOf (after (starting b) ds .account .taken)) (after (starting b) ds .account .uses) (b .entries)
+  pub checked : (ds : List Decoded) (e : Event) → Checked (after (starting b) ds) e
   pub begins : (ds : List Decoded) (e : Event) (kind : Kind) (asset : ℕ) → e .request ≡ Begin kind asset → Takes (after (starting b) ds) e
       → Begins (after (starting b) ds) e kind asset
   pub continues : (ds : List Decoded) (e : Event) → e .request ≡ Continue → Takes (after (starting b) ds) e → Continues (after (starting b) ds) e

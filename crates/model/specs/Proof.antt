@@ -14,6 +14,7 @@ pub mod Held
 pub mod Concrete
 pub mod Grounds
 pub mod Steps
+pub mod Checks
 pub mod Suitable
 pub mod Choice
 pub mod Until

@@ -25,6 +25,7 @@ use Rattle.model.specs.Demand3.{State, after, starting, Takes, PastCheck
 use Rattle.model.specs.Proof.Facts.{on-test, and-left, and-right, and-both}
 use Rattle.model.specs.Proof.Concrete.{held-ext, choose-sound, choose-none, none-choose}
 use Rattle.model.specs.Proof.Grounds.{legal-grounds, static-self}
+use Rattle.model.specs.Proof.Checks.{checked}
 use Rattle.model.specs.Proof.Steps.{Inv}
 use Rattle.model.specs.Proof.Suitable.{any-sure, sure-any, usable-in, in-usable, suits-to, to-suits}
 use Rattle.model.specs.Proof.Choice.{choose-first, weightAt, before-weight, precedes}
@@ -247,6 +248,7 @@ demand3 b g f =
           rw (← h ds .time)
           (limited _ _ _ (b .entries) _ _ _
           (held-ext refl refl (λ i. sym (after-static ds (starting b) .limits i)) (λ i. refl) (λ p. refl) (h ds .held)));
+      checked = λ ds e. checked (after (starting b) ds) e (h ds);
       begins = λ ds e kind asset x t. begins (after (starting b) ds) e (h ds) kind asset x t;
       continues = λ ds e x t. continues (after (starting b) ds) e (h ds) t x;
       stops = λ ds e x t. stops (after (starting b) ds) e (h ds) t x;

@@ -235,16 +235,30 @@ module _ (b : Book) (a : Account) (e : Event) (h : Inv b a) where
         grounds = grounds;
       })
 
+  -- what a taken event does, on the settled book
+  taken-did : Taking (b .time) (lastAt (b .players) (e .player)) e
+      → Did e (length (map (shut (e .time)) (b .players))) (settled (e .time) (b .players) (b .entries)) (openAt (map (shut (e .time)) (b .players))) (a .uses)
+      (done (e .request) (catalogOf b) (settled (e .time) (b .players) (b .entries)) (openAt (map (shut (e .time)) (b .players)) (e .player)) (e .time))
+  unfolding catalogOf
+  taken-did t =
+      let ps : List Player = map (shut (e .time)) (b .players) in
+      let es : List Entry = settled (e .time) (b .players) (b .entries) in
+      let pk : e .player < length ps = rw (length-map (b .players) (shut (e .time)), h .grounds .players) (t .player) in
+      did e (length ps) pk es (openAt ps) (a .uses) (settled-held (b .time) (e .time) (b .entries) (b .players) (a .uses) (t .later) (h .held))
+      (λ i. rw (settled-limits (e .time) (b .players) (b .entries) i) (h .grounds .limits i))
+      (catalogOf b) (rw (settled-size (e .time) (b .players) (b .entries)) (h .grounds .entries))
+
+  pub taken-called : Taking (b .time) (lastAt (b .players) (e .player)) e → calledTaken (takenStep b e .answer .code) ≡ true
+  unfolding takenStep
+  taken-called t = taken-did t .taken
+
   taken-keeps : Taking (b .time) (lastAt (b .players) (e .player)) e → Grounds (takenStep b e .book) → Inv (takenStep b e .book) (note a e (takenStep b e .answer))
-  unfolding takenStep catalogOf
+  unfolding takenStep
   taken-keeps t grounds =
       let ps : List Player = map (shut (e .time)) (b .players) in
       let es : List Entry = settled (e .time) (b .players) (b .entries) in
       let pk : e .player < length ps = rw (length-map (b .players) (shut (e .time)), h .grounds .players) (t .player) in
-      stored-keeps ps es _ pk (resent-is ∙ t .fresh) (t .number) (shut-last (e .time) (b .players)) grounds
-      (did e (length ps) pk es (openAt ps) (a .uses) (settled-held (b .time) (e .time) (b .entries) (b .players) (a .uses) (t .later) (h .held))
-      (λ i. rw (settled-limits (e .time) (b .players) (b .entries) i) (h .grounds .limits i))
-      (catalogOf b) (rw (settled-size (e .time) (b .players) (b .entries)) (h .grounds .entries)))
+      stored-keeps ps es _ pk (resent-is ∙ t .fresh) (t .number) (shut-last (e .time) (b .players)) grounds (taken-did t)
 
   pub step-keeps : Inv (step b e .book) (note a e (step b e .answer))
   unfolding step stepBy
