@@ -1,7 +1,7 @@
 -- The best entry of the first so many, as a loop over the entries carries it, and the law of one turn.
 use Prim.Native.Nat.{ℕ, _+_}
-use mathlib.Core.Path.{_≡_, refl, ap, _∙_}
-use mathlib.Core.Bool.{Bool, true, false, not, _&&_, _||_, cond}
+use mathlib.Core.Path.{_≡_, refl, sym, ap, _∙_}
+use mathlib.Core.Bool.{Bool, true, false, not, _&&_, _||_, cond, or-true, or-false, and-false}
 use mathlib.Core.List.{List}
 use native.Mathlib.Numerals.{add-one}
 use lib.Dec.{ltb, eqb}
@@ -64,18 +64,6 @@ considered asset parent kind t i l m best =
     (record { suits = true; at = best .at; rank = best .rank }))
     best
 
-or-true : (a : Bool) → (a || true) ≡ true
-or-true true = refl
-or-true false = refl
-
-or-false : (a : Bool) → (a || false) ≡ a
-or-false true = refl
-or-false false = refl
-
-and-false : (a : Bool) → false ≡ (a && false)
-and-false true = refl
-and-false false = refl
-
 one-below : (w : Bool) → ltb (one w) 2 ≡ true
 one-below true = refl
 one-below false = refl
@@ -107,7 +95,7 @@ module _ (es : List Entry) (asset k : ℕ) (any : Bool) where
   turn false g c = ap (λ (s : Bool). chosenBest s c) (or-false any)
   turn true false c =
       suits-now c
-      ∙ ap (λ (b : Bool). cond b (chosenBest true (chosen k)) (chosenBest true c)) (and-false (ranksBefore (rankOf asset (limitsAt es k) (metersAt es k)) (asRank (rankChosen es asset c))))
+      ∙ ap (λ (b : Bool). cond b (chosenBest true (chosen k)) (chosenBest true c)) (sym (and-false (ranksBefore (rankOf asset (limitsAt es k) (metersAt es k)) (asRank (rankChosen es asset c)))))
   turn true true nobody = rw (before-last asset (limitsAt es k) (metersAt es k)) (suits-now (chosen k))
   turn true true (chosen j) = against (goesBefore es asset k j) j
 

@@ -1,3 +1,4 @@
+-- `choose::chosen` meets its contract. The invariant: the best of the first i entries is held.
 use Rattle.choose.specs.Best.{choiceAfter, bestAfter, considered, best-turn}
 use Rattle.choose.specs.declared.Best.{Best}
 use Rattle.model.specs.Events.{chooseOf, anyOf}

@@ -1,3 +1,4 @@
+-- `choose::consider` meets its contract: the tests are the definition's, in the same order.
 use Rattle.choose.specs.Best.{considered, rankNumbers}
 use borrow.Author.Tests.{not-true, not-false}
 use mathlib.Core.Path.{sym, _∙_}
