@@ -50,10 +50,14 @@ grantLength kind = 60
 
 -- ## Assets
 
--- "Key 0 and inherit 0 is a *parent*. Key 0 with an inherit is *illegal*: never used and never inherited from." A book may hold an
--- illegal asset; no rule asks whether an asset is one, since only key 1 is used and only a parent inherited from.
+-- "Key 0 and inherit 0 is a *parent*."
 unfoldable pub isParent : Asset → Bool
 isParent a = eqb (a .key) 0 && eqb (a .inherit) 0
+
+-- "Key 0 with an inherit is *illegal*: never used and never inherited from." A book may hold such an asset. No rule asks for it by this name:
+-- only key 1 is used and only a parent inherited from, and no illegal asset is either (`Proof.Suitable.illegal-never`).
+unfoldable pub isIllegal : Asset → Bool
+isIllegal a = eqb (a .key) 0 && not (eqb (a .inherit) 0)
 
 -- among the first n assets, the position of the one with that number; n where there is none
 unfoldable pub assetPosition : List Asset → ℕ → ℕ → ℕ

@@ -10,12 +10,26 @@ use Rattle.laws.specs.Count.{first}
 use Rattle.book.specs.declared.Asset.{Asset}
 use Rattle.book.specs.declared.Book.{Book}
 use Rattle.book.specs.Blank.{noAsset}
-use Rattle.model.specs.Book.{assetAt, limitsAt, assetsIn, entriesIn, isParent, assetPosition}
+use Rattle.model.specs.Book.{assetAt, limitsAt, assetsIn, entriesIn, isParent, isIllegal, assetPosition}
 use Rattle.model.specs.Events.{catalogOf, holds, assetNamed, usable, parentOf, own, suitable, suits, anyOf}
 use Rattle.model.specs.Demand3.{InBookWithKey, Serves, Suits}
 use Rattle.model.specs.Proof.Facts.{on-test, on-same, clash, and-left, and-right, and-both, cond-off}
 use Rattle.model.specs.Proof.Concrete.{Sure}
 use Rattle.model.specs.Proof.Grounds.{Grounds}
+
+-- "never used and never inherited from"
+pub illegal-never : (a : Asset) → isIllegal a ≡ true → (eqb (a .key) 1 ≡ false) × (isParent a ≡ false)
+unfolding isIllegal isParent
+illegal-never a h =
+    let key : eqb (a .key) 0 ≡ true = and-left (eqb (a .key) 0) (not (eqb (a .inherit) 0)) h in
+    let inherit : eqb (a .inherit) 0 ≡ false = not-true (eqb (a .inherit) 0) (and-right (eqb (a .key) 0) (not (eqb (a .inherit) 0)) h) in
+    let zero-key : a .key ≡ 0 = eqb-true (a .key) 0 key in
+    (ne-eqb (a .key) 1 (λ x. omega arith), rw (key, inherit))
+
+-- and every other asset without a key is a parent
+pub illegal-or-parent : (a : Asset) → eqb (a .key) 0 ≡ true → isIllegal a ≡ not (isParent a)
+unfolding isIllegal isParent
+illegal-or-parent a h = rw h
 
 first-found : (f : ℕ → Bool) (n : ℕ) → first f n < n → f (first f n) ≡ true
 unfolding first
