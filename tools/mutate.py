@@ -48,11 +48,11 @@ RUN_SECONDS = 60
 
 # How many edits are drawn of each crate. The run programs have one call to drop.
 DRAWN = {
-    'model': 96,
-    'book': 4, 'image_records': 7, 'image_entry': 8, 'image_write': 9, 'image_parse': 14, 'image_limits': 12,
-    'image_players': 14, 'image_meters': 12, 'image_check': 5, 'image_read': 5, 'images': 7, 'image_speed': 2,
-    'fields': 5, 'decode': 9, 'text': 11, 'rules': 18, 'uses': 16, 'assets': 8, 'choose': 9, 'events': 15,
-    'runner': 16, 'lent': 3, 'serve': 9, 'embed': 7, 'days': 7, 'run': 1, 'run_missing': 1, 'run_refused': 1, 'run_cut': 1,
+    'model': 100,
+    'book': 4, 'image_records': 5, 'image_entry': 6, 'image_write': 7, 'image_parse': 8, 'image_limits': 8, 'image_players': 9, 'image_meters': 8,
+    'image_check': 4, 'image_read': 4, 'images': 3, 'image_speed': 1, 'fields': 4, 'decode': 7, 'records': 9, 'text': 9, 'rules': 13, 'uses': 11,
+    'assets': 6, 'choose': 7, 'rows': 9, 'places': 6, 'events': 10, 'runner': 10, 'lent': 3, 'serve': 4, 'embed': 4, 'days': 3, 'run': 1,
+    'run_missing': 1, 'run_refused': 1, 'run_cut': 1,
 }
 DEFINITIONS = ['Book', 'Image', 'Events', 'Ledger', 'Run']
 # What of model's proofs is a closed run: no variable stands in it, so the checker computes both sides. A file, or one declaration.
@@ -184,6 +184,8 @@ class Code:
     def function(self):
         start = self.begin()
         name = self.take()
+        if self.word() == '<':
+            self.skip('<', '>')
         self.take('(')
         params, result = [], None
         while self.word() != ')':
@@ -1297,7 +1299,7 @@ def main():
     parser.add_argument('command', choices=['list', 'show', 'run', 'table'])
     parser.add_argument('names', nargs='*', help='crates, or for show edits')
     parser.add_argument('--jobs', type=int, default=1)
-    given = parser.parse_args()
+    given = parser.parse_intermixed_args()
     one = Pass()
     if given.command == 'show':
         return show(one, given.names)
