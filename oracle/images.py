@@ -34,6 +34,20 @@ def bare():
     return Book(100, [Asset(1, 0, 1)], [Entry(1, 1, 1)])
 
 
+def uneven():
+    """Three assets and one entry."""
+    book = bare()
+    book.assets += [Asset(2, 9, 1), Asset(9, 0, 0)]
+    return book
+
+
+def crowded():
+    """One asset and two entries."""
+    book = bare()
+    book.entries.append(Entry(2, 1, 2))
+    return book
+
+
 def limited():
     """The same with every flag and nothing used."""
     book = bare()
@@ -150,6 +164,8 @@ def good_books():
     case(0, "the empty book", empty)
     case(0, "one entry without flags", bare)
     case(0, "one entry with every flag", limited)
+    case(0, "three assets, one entry", uneven)
+    case(0, "one asset, two entries", crowded)
     case(0, "one print entry", printing)
     case(0, "one open use", showing)
     case(0, "several players on one entry", busy)
