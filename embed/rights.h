@@ -8,7 +8,7 @@
  * What a caller owes in every call:
  *  - each pointer points to as many bytes as the length beside it says, and is not NULL even where the length is 0;
  *  - the buffers of one call do not overlap, and nothing else reads or writes them until it returns.
- * Calls on different buffers may run at the same time. The functions allocate nothing and call nothing but memcpy.
+ * Calls on different buffers may run at the same time. The functions allocate nothing and call nothing but memcpy and memset.
  */
 #ifndef RIGHTS_H
 #define RIGHTS_H
