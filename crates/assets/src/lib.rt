@@ -18,6 +18,7 @@ pub struct Reach {
     pub parent: u16,
 }
 
+// Wrong and ruled out: the two exchanged, the first whatever the test.
 pub fn pick16(w: bool, a: u16, b: u16) -> u16
     ensures { λ r. ⌜ r ≡ cond w a b ⌝ }
 {

@@ -120,6 +120,7 @@ pub struct Outcome {
     pub book: Book,
 }
 
+// Wrong and ruled out: a number or a key that is not 0.
 pub fn blank_asset() -> Asset
     ensures { λ r. ⌜ r ≡ noAsset ⌝ }
 {
@@ -130,6 +131,7 @@ pub fn blank_asset() -> Asset
     }
 }
 
+// Wrong and ruled out: a flag or a meter that is not 0.
 pub fn blank_entry() -> Entry
     ensures { λ r. ⌜ r ≡ noEntry ⌝ }
 {
@@ -157,6 +159,7 @@ pub fn blank_entry() -> Entry
     }
 }
 
+// Wrong and ruled out: a last number or an open use.
 pub fn blank_player() -> Player
     ensures { λ r. ⌜ r ≡ noPlayer ⌝ }
 {
@@ -182,6 +185,7 @@ pub fn blank_player() -> Player
 }
 
 // An entry, blank at a position past the table's end.
+// Wrong and ruled out: the last entry past the end, a neighbour.
 pub fn entry_at(entries: [Entry; 64], k: usize) -> Entry
     ensures { λ r. ⌜ r ≡ getD entries k noEntry ⌝ }
 {
@@ -192,6 +196,7 @@ pub fn entry_at(entries: [Entry; 64], k: usize) -> Entry
 }
 
 // How many slots of a table count: a count above 64, which no image has, counts as 64.
+// Wrong and ruled out: 63 for 64, a count above 64 passed on.
 pub fn at_most_64(count: u8) -> usize
     ensures { λ r. ⌜ r ≡ min count 64 ⌝ }
 {
@@ -200,6 +205,7 @@ pub fn at_most_64(count: u8) -> usize
 }
 
 // The book with nothing in it.
+// Wrong and ruled out: a time or a count that is not 0.
 pub fn blank_book() -> Book
     ensures { λ r. ⌜ r ≡ noBook ⌝ }
 {

@@ -30,6 +30,7 @@ fn request_of(operation: u8, asset: u16, kind: u8) -> Request
 }
 
 // A stored request of a player is judged by this too.
+// Wrong and ruled out: kind 0 or 6 for a begin, a stop that names an asset or a kind.
 pub fn request_legal(operation: u8, asset: u16, kind: u8) -> bool
     ensures { λ r. ⌜ r ≡ requestLegal operation asset kind ⌝ }
 {

@@ -6,6 +6,7 @@ ghost use Rattle.model.specs.Image.{readCode};
 ghost use Rattle.embed.specs.Calls.{answerCode, imageAfter, outAfter, writtenAfter};
 
 // 0 where the image holds a legal book, else the number of the refusal, 20 to 27.
+// Wrong and ruled out: 0 for an image that breaks a rule, the number of a later rule.
 #[no_mangle]
 pub extern "C" fn rights_check(image: &[u8]) -> u8
     ensures { λ r. ⌜ r ≡ readCode (now (image .entry)) ⌝ }

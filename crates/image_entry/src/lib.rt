@@ -5,6 +5,7 @@ ghost use Rattle.laws.specs.Fields.{laidOut};
 ghost use Rattle.model.specs.Image.{entryWidths, entryValues};
 use book::Entry;
 
+// Wrong and ruled out: two fields exchanged, a field of another width.
 pub fn entry_bytes(e: Entry) -> [u8; 51]
     ensures { λ r. ⌜ r ≡ laidOut entryWidths (entryValues e) ⌝ }
 {

@@ -7,6 +7,7 @@ use book::Asset;
 use book::Player;
 
 // The mark RBK, version 1, the two numbers and the book's time.
+// Wrong and ruled out: another mark or version, the counts exchanged.
 pub fn header_bytes(assets: u8, entries: u8, time: u32) -> [u8; 11]
     ensures { λ r. ⌜ r ≡ laidOut headerWidths (headerValues assets entries time) ⌝ }
 {
@@ -25,6 +26,7 @@ pub fn header_bytes(assets: u8, entries: u8, time: u32) -> [u8; 11]
     ]
 }
 
+// Wrong and ruled out: number and inherit exchanged, the bytes of a number in another order.
 pub fn asset_bytes(a: Asset) -> [u8; 5]
     ensures { λ r. ⌜ r ≡ laidOut assetWidths (assetValues a) ⌝ }
 {
@@ -37,6 +39,7 @@ pub fn asset_bytes(a: Asset) -> [u8; 5]
     ]
 }
 
+// Wrong and ruled out: the open mark and its entry exchanged, begin for until.
 pub fn player_bytes(p: Player) -> [u8; 24]
     ensures { λ r. ⌜ r ≡ laidOut playerWidths (playerValues p) ⌝ }
 {

@@ -20,6 +20,7 @@ fn place_of(usable: bool, i: usize) -> u8
 
 // The position of each usable asset by its number, 64 where there is none, and each asset's parent by its position, 0 where there is none.
 // The last asset is entered first, so that of two assets with one number the first counts.
+// Wrong and ruled out: the last of two assets with one number, a parent that is none, a place for an asset without a key.
 pub fn fill_places(
     places: &mut [u8; 65536],
     parents: &mut [u16; 64],
@@ -41,6 +42,7 @@ pub fn fill_places(
 }
 
 // What a begin for an asset reaches: one look into each table.
+// Wrong and ruled out: usable at place 64, the parent of another place.
 pub fn reach_at<'a>(places: &'a [u8; 65536], parents: &'a [u16; 64], asset: u16) -> Reach
     ensures { λ r. ⌜ r ≡ reachAt (now (places .entry)) (now (parents .entry)) asset ⌝ }
 {

@@ -57,6 +57,7 @@ fn window_of(l: Limits, m: Meters) -> u64
     if spent { 0 } else { w }
 }
 
+// Wrong and ruled out: a window that closes at end, a row that is open where a count is spent.
 pub fn row_of(l: Limits, m: Meters) -> Row
     ensures { λ r. ⌜ r ≡ rowOf l m ⌝ }
 {
@@ -148,12 +149,14 @@ pub fn consider_row(
 }
 
 // When a use ends, if there is one; else later than any time.
+// Wrong and ruled out: the until of a use that is closed, begin for until.
 pub fn end_of(o: Open) -> u32
     ensures { λ r. ⌜ r ≡ endOf o ⌝ }
 {
     pick32(o.on == 1, o.until, 4294967295)
 }
 
+// Wrong and ruled out: the end of a neighbour, a player left out.
 pub fn ends_of(players: [Player; 16]) -> [u32; 16]
     ensures { λ r. ⌜ r ≡ map endOfPlayer players ⌝ }
 {

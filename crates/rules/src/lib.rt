@@ -42,6 +42,7 @@ pub struct Rank {
     pub inherited: u8,
 }
 
+// Wrong and ruled out: the two exchanged, the first whatever the test.
 pub fn pick32(w: bool, a: u32, b: u32) -> u32
     ensures { λ r. ⌜ r ≡ cond w a b ⌝ }
 {
@@ -49,12 +50,14 @@ pub fn pick32(w: bool, a: u32, b: u32) -> u32
 }
 
 // The number where the test passes, else 0.
+// Wrong and ruled out: the number where the test fails, 1 for the number.
 pub fn when(w: bool, v: u32) -> u32
     ensures { λ r. ⌜ r ≡ where-flagged w v ⌝ }
 {
     if w { v } else { 0 }
 }
 
+// Wrong and ruled out: the two exchanged, the first whatever the test.
 pub fn pick64(w: bool, a: u64, b: u64) -> u64
     ensures { λ r. ⌜ r ≡ cond w a b ⌝ }
 {
@@ -62,12 +65,14 @@ pub fn pick64(w: bool, a: u64, b: u64) -> u64
 }
 
 // 1 for a test that passes, 0 for one that fails.
+// Wrong and ruled out: 0 and 1 exchanged, always 1.
 pub fn one(w: bool) -> u8
     ensures { λ r. ⌜ r ≡ one w ⌝ }
 {
     if w { 1 } else { 0 }
 }
 
+// Wrong and ruled out: the two exchanged, the first whatever the test.
 pub fn pick_gate(w: bool, a: Gate, b: Gate) -> Gate
     ensures { λ r. ⌜ r ≡ cond w a b ⌝ }
 {
@@ -75,6 +80,7 @@ pub fn pick_gate(w: bool, a: Gate, b: Gate) -> Gate
 }
 
 // The difference, 0 where there is none.
+// Wrong and ruled out: a difference that wraps, the operands exchanged.
 pub fn less(a: u32, b: u32) -> u32
     ensures { λ r. ⌜ r ≡ a - b ⌝ }
 {
@@ -84,12 +90,14 @@ pub fn less(a: u32, b: u32) -> u32
     a - b
 }
 
+// Wrong and ruled out: the greater, the first whatever the second.
 pub fn least(a: u64, b: u64) -> u64
     ensures { λ r. ⌜ r ≡ min a b ⌝ }
 {
     if a < b { a } else { b }
 }
 
+// Wrong and ruled out: two kinds with one number, numbers from 0.
 pub fn kind_number(k: Kind) -> u8
     ensures { λ r. ⌜ r ≡ kindNumber k ⌝ }
 {
@@ -169,6 +177,7 @@ pub fn noted_last(e: Event, a: Answer) -> Last
     }
 }
 
+// Wrong and ruled out: two flags exchanged, a flag above 32 read.
 pub fn flags_of(l: Limits) -> Flags
     ensures { λ r. ⌜ r ≡ flagsOf l ⌝ }
 {
@@ -183,12 +192,14 @@ pub fn flags_of(l: Limits) -> Flags
 }
 
 // How many seconds a grant of a kind gives at the most.
+// Wrong and ruled out: 59 or 61 seconds.
 pub fn grant_length(kind: u8) -> u32
     ensures { λ r. ⌜ r ≡ grantLength kind ⌝ }
 {
     60
 }
 
+// Wrong and ruled out: execute as momentary, export as not.
 pub fn momentary(kind: u8) -> bool
     ensures { λ r. ⌜ r ≡ momentary kind ⌝ }
 {
@@ -218,6 +229,7 @@ pub fn grantable(l: Limits, m: Meters, t: u32) -> bool
         & (!f.accumulated | (m.seconds < l.accumulated))
 }
 
+// Wrong and ruled out: an end that is not flagged, fresh and inherited exchanged.
 pub fn rank_of(l: Limits, m: Meters, asset: u16) -> Rank
     ensures { λ r. ⌜ asRank r ≡ rankOf asset l m ⌝ }
 {
@@ -242,6 +254,7 @@ pub fn ranks_before(a: Rank, b: Rank) -> bool
                     & ((a.fresh < b.fresh) | (a.fresh == b.fresh) & (a.inherited < b.inherited)))
 }
 
+// Wrong and ruled out: a cap without its flag, the greater of the two.
 pub fn capped(w: bool, v: u64, x: u64) -> u64
     ensures { λ r. ⌜ r ≡ cap w v x ⌝ }
 {

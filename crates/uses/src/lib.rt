@@ -30,12 +30,14 @@ pub struct Part {
     pub current: Open,
 }
 
+// Wrong and ruled out: the two exchanged, the first whatever the test.
 pub fn pick_open(w: bool, a: Open, b: Open) -> Open
     ensures { λ r. ⌜ r ≡ cond w a b ⌝ }
 {
     if w { a } else { b }
 }
 
+// Wrong and ruled out: the two exchanged, the first whatever the test.
 pub fn pick_meters(w: bool, a: Meters, b: Meters) -> Meters
     ensures { λ r. ⌜ r ≡ cond w a b ⌝ }
 {
@@ -43,6 +45,7 @@ pub fn pick_meters(w: bool, a: Meters, b: Meters) -> Meters
 }
 
 // A refusal that leaves meters and use as they are.
+// Wrong and ruled out: another entry than 255, meters or a use changed.
 pub fn kept(code: u8, m: Meters, o: Open) -> Part
     ensures { λ r. ⌜ r ≡ kept code m o ⌝ }
 {
