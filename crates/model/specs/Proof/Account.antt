@@ -5,12 +5,11 @@ use Prim.Native.Nat.{ℕ}
 use mathlib.Core.Bool.{Bool, true, false}
 use mathlib.Core.List.{List, [], _∷_}
 use Rattle.laws.specs.Count.{first}
-use Rattle.book.specs.declared.Limits.{Limits}
 use Rattle.model.specs.Book.{assetsIn, entriesIn, grantLength, isParent, assetPosition, flagged, momentary}
 use Rattle.model.specs.Events.{sameRequest, sameNumber, inLine, timely, gate, amend, begun, continued, ended, expired, shut, released, settled, catalogOf, holds, assetNamed, usable, parentOf, own, suitable, countLeft, timedLeft, inDates, intervalLeft, secondsLeft, grantable, rankOf, ranksBefore, chooseOf, anyOf, choose, leastUntil, grantUntil, moreUntil, doBegin, doContinue, doStop, done, takenStep, stepBy, step, arrive}
 use Rattle.model.specs.Ledger.{Use, empty, latestTaken, resent, calledTaken, timeOf, latest, revise, posted, note, noteArrival, isOpen, sumOf, earliest, spent, outOfDates}
 use Rattle.model.specs.Demand3.{advance, after, starting, figures, filledFrom, predictBy, predict, predicted}
-use Rattle.model.specs.Proof.Afternoon.{start, events, expected}
+use Rattle.model.specs.Proof.Afternoon.{start, events, expected, limits}
 
 abbrev ran : ℕ → ℕ → ℕ → ℕ → Bool → Use
 ran entry player begin until stopped = record { entry = entry; player = player; begin = begin; until = until; stopped = stopped }
@@ -31,21 +30,6 @@ pub by-ledger : predicted start empty events ≡ expected
 unfolding first assetsIn entriesIn grantLength isParent assetPosition flagged momentary sameRequest sameNumber inLine timely gate amend begun continued ended catalogOf holds assetNamed usable parentOf own suitable countLeft timedLeft inDates intervalLeft secondsLeft grantable rankOf ranksBefore chooseOf anyOf choose leastUntil grantUntil moreUntil doBegin doContinue doStop done latestTaken resent calledTaken timeOf latest revise posted note noteArrival isOpen sumOf earliest figures filledFrom predictBy predict predicted
 by-ledger = refl
 
-abbrev limits : ℕ → ℕ → ℕ → ℕ → ℕ → ℕ → ℕ → ℕ → Limits
-limits flags count timed timer start end interval accumulated = record {
-  object = 1;
-  asset = 1;
-  kind = 1;
-  flags = flags;
-  count = count;
-  timed = timed;
-  timer = timer;
-  start = start;
-  end = end;
-  interval = interval;
-  accumulated = accumulated;
-}
-
 -- entry 0 was used for 30 seconds, stopped, and for 60
 abbrev uses : List Use
 uses = ran 0 1 100 160 false ∷ ran 0 0 10 40 true ∷ []
@@ -53,20 +37,20 @@ uses = ran 0 1 100 160 false ∷ ran 0 0 10 40 true ∷ []
 -- count; timed count with its timer; accumulated; interval; an entry that was not used
 abbrev judged : List Bool
 judged =
-    spent 159 uses 0 (limits 1 2 0 0 0 0 0 0)
-    ∷ spent 159 uses 0 (limits 1 3 0 0 0 0 0 0)
-    ∷ spent 159 uses 0 (limits 2 0 2 30 0 0 0 0)
-    ∷ spent 159 uses 0 (limits 2 0 3 30 0 0 0 0)
-    ∷ spent 159 uses 0 (limits 2 0 2 31 0 0 0 0)
-    ∷ spent 159 uses 0 (limits 2 0 1 61 0 0 0 0)
-    ∷ spent 160 uses 0 (limits 2 0 1 61 0 0 0 0)
-    ∷ spent 39 uses 0 (limits 2 0 2 61 0 0 0 0)
-    ∷ spent 159 uses 0 (limits 32 0 0 0 0 0 0 90)
-    ∷ spent 159 uses 0 (limits 32 0 0 0 0 0 0 91)
-    ∷ spent 109 uses 0 (limits 16 0 0 0 0 0 100 0)
-    ∷ spent 110 uses 0 (limits 16 0 0 0 0 0 100 0)
-    ∷ spent 159 uses 1 (limits 51 1 1 0 0 0 1 1)
-    ∷ spent 159 uses 0 (limits 0 0 0 0 0 0 0 0)
+    spent 159 uses 0 (limits 1 1 1 2 0 0 0 0 0 0)
+    ∷ spent 159 uses 0 (limits 1 1 1 3 0 0 0 0 0 0)
+    ∷ spent 159 uses 0 (limits 1 1 2 0 2 30 0 0 0 0)
+    ∷ spent 159 uses 0 (limits 1 1 2 0 3 30 0 0 0 0)
+    ∷ spent 159 uses 0 (limits 1 1 2 0 2 31 0 0 0 0)
+    ∷ spent 159 uses 0 (limits 1 1 2 0 1 61 0 0 0 0)
+    ∷ spent 160 uses 0 (limits 1 1 2 0 1 61 0 0 0 0)
+    ∷ spent 39 uses 0 (limits 1 1 2 0 2 61 0 0 0 0)
+    ∷ spent 159 uses 0 (limits 1 1 32 0 0 0 0 0 0 90)
+    ∷ spent 159 uses 0 (limits 1 1 32 0 0 0 0 0 0 91)
+    ∷ spent 109 uses 0 (limits 1 1 16 0 0 0 0 0 100 0)
+    ∷ spent 110 uses 0 (limits 1 1 16 0 0 0 0 0 100 0)
+    ∷ spent 159 uses 1 (limits 1 1 51 1 1 0 0 0 1 1)
+    ∷ spent 159 uses 0 (limits 1 1 0 0 0 0 0 0 0 0)
     ∷ []
 
 pub entries-spent :
@@ -76,11 +60,11 @@ unfolding flagged isOpen sumOf earliest spent
 entries-spent = refl
 
 pub dates :
-    outOfDates 99 (limits 12 0 0 0 100 200 0 0)
-    ∷ outOfDates 100 (limits 12 0 0 0 100 200 0 0)
-    ∷ outOfDates 200 (limits 12 0 0 0 100 200 0 0)
-    ∷ outOfDates 201 (limits 12 0 0 0 100 200 0 0)
-    ∷ outOfDates 1 (limits 0 0 0 0 2 0 0 0)
+    outOfDates 99 (limits 1 1 12 0 0 0 100 200 0 0)
+    ∷ outOfDates 100 (limits 1 1 12 0 0 0 100 200 0 0)
+    ∷ outOfDates 200 (limits 1 1 12 0 0 0 100 200 0 0)
+    ∷ outOfDates 201 (limits 1 1 12 0 0 0 100 200 0 0)
+    ∷ outOfDates 1 (limits 1 1 0 0 0 0 2 0 0 0)
     ∷ []
     ≡ (true ∷ false ∷ false ∷ true ∷ false ∷ [])
 unfolding flagged outOfDates

@@ -7,6 +7,7 @@ use lib.ListN.{replicate}
 use Rattle.laws.specs.Count.{first}
 use Rattle.book.specs.declared.Answer.{Answer}
 use Rattle.book.specs.declared.Book.{Book}
+use Rattle.book.specs.declared.Limits.{Limits}
 use Rattle.book.specs.declared.Entry.{Entry}
 use Rattle.book.specs.declared.Asset.{Asset}
 use Rattle.book.specs.declared.Kind.the-variants.{Play, Display, Print}
@@ -22,22 +23,26 @@ use Rattle.model.specs.Demand3.{answers}
 abbrev pub asset : ℕ → ℕ → ℕ → Asset
 asset number key inherit = record { number = number; inherit = inherit; key = key }
 
--- an unused entry of rights object 1
+-- limits of rights object 1
+abbrev pub limits : ℕ → ℕ → ℕ → ℕ → ℕ → ℕ → ℕ → ℕ → ℕ → ℕ → Limits
+limits asset kind flags count timed timer start end interval accumulated = record {
+  object = 1;
+  asset = asset;
+  kind = kind;
+  flags = flags;
+  count = count;
+  timed = timed;
+  timer = timer;
+  start = start;
+  end = end;
+  interval = interval;
+  accumulated = accumulated;
+}
+
+-- an unused entry with them
 abbrev pub entry : ℕ → ℕ → ℕ → ℕ → ℕ → ℕ → ℕ → ℕ → ℕ → ℕ → Entry
 entry asset kind flags count timed timer start end interval accumulated = record {
-  limits = record {
-    object = 1;
-    asset = asset;
-    kind = kind;
-    flags = flags;
-    count = count;
-    timed = timed;
-    timer = timer;
-    start = start;
-    end = end;
-    interval = interval;
-    accumulated = accumulated;
-  };
+  limits = limits asset kind flags count timed timer start end interval accumulated;
   meters = noMeters;
 }
 

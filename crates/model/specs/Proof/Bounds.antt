@@ -3,11 +3,11 @@
 use mathlib.Core.Path.{_≡_, refl}
 use Prim.Native.Nat.{ℕ}
 use mathlib.Core.Bool.{Bool, true, false}
-use mathlib.Core.List.{List, [], _∷_}
+use mathlib.Core.List.{[], _∷_}
 use Rattle.laws.specs.Count.{first}
 use Rattle.book.specs.declared.Asset.{Asset}
-use Rattle.book.specs.declared.Limits.{Limits}
 use Rattle.model.specs.Book.{grantLength, flagged, momentary, limit, assetPosition, assetLegal, rangesLegal, limitsLegal, takenCode, answerLegal, insideDates, insideInterval, useLegal, meterLegal, startLegal, metersCover}
+use Rattle.model.specs.Proof.Afternoon.{limits}
 
 -- ## Assets
 
@@ -23,23 +23,8 @@ assets = refl
 
 -- ## Entries
 
-abbrev limits : ℕ → ℕ → ℕ → ℕ → ℕ → ℕ → ℕ → ℕ → Limits
-limits flags count timed timer start end interval accumulated = record {
-  object = 1;
-  asset = 1;
-  kind = 1;
-  flags = flags;
-  count = count;
-  timed = timed;
-  timer = timer;
-  start = start;
-  end = end;
-  interval = interval;
-  accumulated = accumulated;
-}
-
 abbrev ranges : ℕ → ℕ → ℕ → ℕ → ℕ → ℕ → ℕ → ℕ → Bool
-ranges flags count timed timer start end interval accumulated = rangesLegal (limits flags count timed timer start end interval accumulated)
+ranges flags count timed timer start end interval accumulated = rangesLegal (limits 1 1 flags count timed timer start end interval accumulated)
 
 -- "Count and timed count are 1 to 1,000,000; timer 0 to 1,000,000; interval and accumulated 1 to 100,000,000"; times to 4,000,000,000
 pub on-bounds : ranges 63 1 1 0 0 0 1 1 ∷ ranges 63 1000000 1000000 1000000 4000000000 4000000000 100000000 100000000 ∷ ranges 0 0 0 0 0 0 0 0 ∷ []
@@ -105,7 +90,7 @@ pub entries :
     ∷ known 1 5 2 0 1 1 0 0 0 0
     ∷ known 1 4 32 0 0 0 0 0 0 1
     ∷ known 1 5 32 0 0 0 0 0 0 1
-    ∷ limitsLegal false (limits 0 0 0 0 0 0 0 0)
+    ∷ limitsLegal false (limits 1 1 0 0 0 0 0 0 0 0)
     ∷ []
     ≡ true ∷ true ∷ true ∷ true ∷ false ∷ false ∷ false ∷ false ∷ false ∷ false ∷ false ∷ false ∷ false ∷ false ∷ false ∷ []
 unfolding flagged momentary limit rangesLegal limitsLegal
@@ -183,7 +168,7 @@ meters = refl
 
 -- "started 0 or 1, first 0 if not, first ≤ book time"; book time 100
 abbrev begun : ℕ → ℕ → ℕ → Bool
-begun flags started first = startLegal 100 (limits flags 0 0 0 0 0 0 0) (record { count = 0; timed = 0; first = first; seconds = 0; started = started })
+begun flags started first = startLegal 100 (limits 1 1 flags 0 0 0 0 0 0 0) (record { count = 0; timed = 0; first = first; seconds = 0; started = started })
 
 pub starts :
     begun 16 1 100
@@ -202,7 +187,7 @@ starts = refl
 -- two open uses of 70 seconds
 abbrev covered : ℕ → ℕ → ℕ → ℕ → Bool
 covered flags count timed seconds =
-    metersCover 2 70 (limits flags 0 0 0 0 0 0 0) (record { count = count; timed = timed; first = 0; seconds = seconds; started = 0 })
+    metersCover 2 70 (limits 1 1 flags 0 0 0 0 0 0 0) (record { count = count; timed = timed; first = 0; seconds = seconds; started = 0 })
 
 pub covers :
     covered 35 2 2 70

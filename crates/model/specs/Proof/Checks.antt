@@ -1,20 +1,19 @@
 -- What becomes of an event before it is taken, by the ledger: the gate in words.
 use Prim.Native.Nat.{ℕ, _+_, _≤_, _<_}
 use mathlib.Core.Path.{_≡_, refl, sym, ap, _∙_}
-use mathlib.Core.Bool.{Bool, true, false, not, _&&_, and-false}
+use mathlib.Core.Bool.{true, false}
 use mathlib.Core.Option.{Option, none, some}
 use native.Mathlib.Omega.{arith}
-use lib.Dec.{ltb, leb, eqb}
-use borrow.Author.Tests.{lt-ltb, le-ltb, le-leb, eq-eqb, ne-eqb, eqb-true, ltb-true, leb-true, not-true, not-false}
+use lib.Dec.{ltb, leb}
+use borrow.Author.Tests.{lt-ltb, le-ltb, le-leb, eq-eqb, ne-eqb, ltb-true, leb-true}
 use Rattle.book.specs.declared.Answer.{Answer}
 use Rattle.book.specs.declared.Last.{Last}
 use Rattle.book.specs.declared.Event.{Event}
-use Rattle.book.specs.declared.Gate.{Gate}
 use Rattle.book.specs.declared.Gate.the-variants.{Refuse, Resend, Take}
 use Rattle.model.specs.Book.{latestTime}
 use Rattle.model.specs.Events.{sameRequest, sameNumber, lastNumber, inLine, timely, gate, refusal, lastAt, stepBy, step}
-use Rattle.model.specs.Ledger.{Taken, latestTaken, resent, calledTaken, timeOf}
-use Rattle.model.specs.Demand3.{State, lastBy, numberBy, numberOf, Follows, InTime, Takes, OnlyAnswers, Checked}
+use Rattle.model.specs.Ledger.{Taken, latestTaken, resent, calledTaken}
+use Rattle.model.specs.Demand3.{State, lastBy, numberBy, numberOf, Follows, OnlyAnswers, Checked}
 use Rattle.model.specs.Proof.Facts.{on-test, on-same, and-left, and-right, and-both}
 use Rattle.model.specs.Proof.Steps.{Inv, again, gate-take, resent-is, taken-called}
 
