@@ -47,8 +47,10 @@ def ask(program, folder, image, events, pieces):
     if image is not None:
         book.write_bytes(image)
     if not pieces:
-        return subprocess.run([program], input=events, cwd=folder, capture_output=True, timeout=60).stdout
-    child = subprocess.Popen([program], cwd=folder, stdin=subprocess.PIPE, stdout=subprocess.PIPE, bufsize=0)
+        done = subprocess.run([program], input=events, cwd=folder, capture_output=True, timeout=60)
+        return done.stdout + done.stderr    # a message on standard error is a difference
+    child = subprocess.Popen([program], cwd=folder, stdin=subprocess.PIPE, stdout=subprocess.PIPE,
+                             stderr=subprocess.STDOUT, bufsize=0)
     rng, at = random.Random(len(events)), 0
     try:
         while at < len(events):
