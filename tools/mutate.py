@@ -928,7 +928,8 @@ def check(deps, edit, slot):
 # Everything else is put down to a proof file that does not fit, as is a lemma given what it is not about (`?` in what is expected).
 FAILS = re.compile(r"it is not proved that|must be a path whose two ends are equal|`search`: no proof|omega|`cc`|`arith`|does not hold|"
                    r"the two (?:types|values) (?:first )?(?:differ|are)|expected type")
-MISFITS = re.compile(r"\?\d+ c|`\?\d|has no field|types\.Kit\.rel|no occurrence of|is expected here")
+MISFITS = re.compile(r"\?\d+ c|`\?\d|has no field|types\.Kit\.rel|no occurrence of|is expected here|→ Prim\.⊥`?\s*\(expected\)|"
+                     r"_[<≤]_`\s*\(expected\), at the start")
 
 
 def errors(log):
@@ -968,9 +969,10 @@ def verdict(crate, status, log):
 
 # ---- Running without proof, as `rt try` does, on what is stored
 
-# More ways from a block of records to its text: event by event on a book by value, the same with the asking player settled where
-# it is lent, and through the library for C.
-OTHER_WAYS = {'events': """
+# More ways to the stored answers, each a stored program with another call in it: event by event on a book by value, the same with
+# the asking player settled where it is lent, and days and images through the library for C.
+# (crate, program, its call, the call instead, libraries besides the program's, the function called)
+OTHER_WAYS = [('events', 'days', 'runner::answer_block(', 'other_block(', ['events', 'text'], """
 struct Answered {
     written: usize,
 }
@@ -993,7 +995,8 @@ fn other_block(b: Book, records: &[u8], out: &mut [u8]) -> Answered {
     }
     Answered { written: at }
 }
-""", 'lent': """
+"""),
+('lent', 'days', 'runner::answer_block(', 'other_block(', ['lent', 'events', 'rules', 'decode', 'text'], """
 struct Answered {
     written: usize,
 }
@@ -1049,7 +1052,8 @@ fn other_block(b: Book, records: &[u8], out: &mut [u8]) -> Answered {
     }
     Answered { written: at }
 }
-""", 'embed': """
+"""),
+('embed', 'days', 'runner::answer_block(', 'other_block(', ['embed', 'image_write'], """
 struct Answered {
     written: usize,
 }
@@ -1082,20 +1086,44 @@ fn other_block(b: Book, records: &[u8], out: &mut [u8]) -> Answered {
     }
     Answered { written: at }
 }
-"""}
-ALSO = {'events': ['events', 'text'], 'lent': ['lent', 'events', 'rules', 'decode', 'text'], 'embed': ['embed', 'image_write']}
+"""),
+('embed', 'images', 'return answer(', 'return other_answer(', ['embed'], r"""
+// The image that a call without records leaves, or its refusal, which leaves every byte.
+fn other_answer(held: Book, image: &[u8]) -> Book {
+    let mut copy = io::large_buffer();
+    let mut i: usize = 0;
+    while i < image.len() {
+        copy[i] = image[i];
+        i = i + 1;
+    }
+    let records = [0u8; 1];
+    let mut out = [0u8; 1];
+    let mut written: u64 = 0;
+    let code = embed::rights_answer(&mut copy[..i], &records[..0], &mut out[..0], &mut written);
+    if code == 0 {
+        io::write_all(1, b"0 ");
+        print_bytes(&copy, i);
+        io::write_all(1, b"\n");
+        return held;
+    }
+    print_refused(code, same_bytes(&copy[..i], image));
+    held
+}
+""")]
 
 
 def stored_runs(one, crate):
-    """(name, crate with data and stdout, libraries, extra way) of each stored run that reaches the crate."""
+    """(name, crate with data and stdout, libraries, other way) of each stored run that reaches the crate."""
     runs = []
     for c in one.deps:
         # what the programs of measuring and of reading from a pipe reach, `images` and `days` reach too
         if 'main' in sources(c)[0] and crate in [c] + (one.reached(c) if c in ('images', 'days') else ['serve'] if 'serve' in one.deps[c] else []):
-            runs.append((c, c, one.deps[c], ''))
-    for way, more in ALSO.items():
-        if way in one.deps and (way != 'lent' or crate == way) and crate in ['days'] + [x for d in one.deps['days'] + more if d in one.deps for x in [d] + one.reached(d)]:
-            runs.append(('days through ' + way, 'days', one.deps['days'] + more, way))
+            runs.append((c, c, one.deps[c], None))
+    for way in OTHER_WAYS:
+        through, c, more = way[0], way[1], way[4]
+        deps = list(dict.fromkeys(one.deps[c] + more))
+        if crate == through or through != 'lent' and crate in [c] + [x for d in deps if d in one.deps for x in [d] + one.reached(d)]:
+            runs.append(('%s through %s' % (c, through), c, deps, way))
     return runs
 
 
@@ -1107,12 +1135,12 @@ def unproved(one, edit, copied):
         main, here = os.path.join(place(crate), 'src/main.rt'), os.path.join(at, crate)
         if way:
             text = read(main)
-            if 'runner::answer_block(' not in text:
-                raise SystemExit('days calls no runner::answer_block')
+            if way[2] not in text:
+                raise SystemExit('%s has no %s' % (crate, way[2]))
             main = os.path.join(os.path.dirname(copied), 'way', 'main.rt')
             os.makedirs(os.path.dirname(main), exist_ok=True)
             with open(main, 'w', encoding='utf-8') as f:
-                f.write(text.replace('runner::answer_block(', 'other_block(') + OTHER_WAYS[way])
+                f.write(text.replace(way[2], way[3]) + way[5])
         words = [OWN + '/bin/rattle-cases', '--toolchain', OWN + '/toolchain', '--link', KIT + '/lib/libos_c.a']
         for part in ('stdin', 'stdout'):
             if os.path.exists(os.path.join(here, part)):
