@@ -1,3 +1,4 @@
--- The best entry so far, and what it says of the choice.
+-- The best entry so far, what it says of the choice, and what the choice asks of an entry.
 pub mod Best
 pub mod Choice
+pub mod Row

@@ -1,17 +1,22 @@
 // The entry that a begin gets: of the suitable and grantable ones, the one that goes first by document 01's order.
-// A loop over the entries carries the best so far, and considers one entry at a turn.
+// A loop over the entries carries the best so far, and considers one entry at a turn, by a row with what the choice asks of it.
 ghost use mathlib.Core.Path.{_≡_};
+ghost use mathlib.Core.Bool.{cond};
 ghost use Prim.Native.Nat.{min};
-ghost use Rattle.choose.specs.Best.{bestAfter, considered};
+ghost use Rattle.model.specs.Events.{noEnd};
+ghost use Rattle.choose.specs.Best.{bestAfter};
+ghost use Rattle.choose.specs.Row.{windowOf, rowOf, rowConsidered};
 use book::Entry;
 use book::Limits;
 use book::Meters;
 use book::at_most_64;
 use rules::Rank;
-use rules::grantable;
+use rules::flags_of;
+use rules::least;
+use rules::one;
 use rules::rank_of;
 use rules::ranks_before;
-use rules::suitable;
+use rules::when;
 
 // Whether any entry suits, the position of the best grantable one (64 where there is none), and its rank.
 pub struct Best {
@@ -20,33 +25,95 @@ pub struct Best {
     pub rank: Rank,
 }
 
-// The rank is compared before the entry is judged grantable, since that test costs more.
-// Wrong and ruled out: the first suitable entry instead of the best, a later entry at equal ranks, an entry that suits and is not grantable.
-pub fn consider(
+// Flags, end and fresh are those of the entry's rank; whether it is inherited depends on the asset asked for.
+// The entry is grantable from start on (0 where none is flagged) and before window (0 where a count or the seconds are spent).
+pub struct Row {
+    pub asset: u16,
+    pub kind: u8,
+    pub flags: u8,
+    pub fresh: u8,
+    pub start: u32,
+    pub window: u64,
+    pub end: u64,
+}
+
+// A bound where it is asked for, else one later than any time.
+fn bound(w: bool, v: u64) -> u64
+    ensures { λ r. ⌜ r ≡ cond w v noEnd ⌝ }
+{
+    if w { v } else { 4294967296 }
+}
+
+// Wrong and ruled out: end taken as excluded, a limit tested without its flag, an interval that has not started.
+fn window_of(l: Limits, m: Meters) -> u64
+    ensures { λ r. ⌜ r ≡ windowOf l m ⌝ }
+{
+    let f = flags_of(l);
+    let first = m.first as u64;
+    let interval = l.interval as u64;
+    let due = first + interval;
+    let last = l.end as u64;
+    let end = last + 1;
+    let spent = (f.count & (l.count <= m.count))
+        | (f.timed & (l.timed <= m.timed))
+        | (f.accumulated & (l.accumulated <= m.seconds));
+    let w = least(bound(f.end, end), bound(f.interval & (m.started == 1), due));
+    if spent { 0 } else { w }
+}
+
+// Wrong and ruled out: a window that closes at end, a row that is open where a count is spent.
+pub fn row_of(l: Limits, m: Meters) -> Row
+    ensures { λ r. ⌜ r ≡ rowOf l m ⌝ }
+{
+    let r = rank_of(l, m, l.asset);
+    let start = when(l.flags / 4 % 2 == 1, l.start);
+    let window = window_of(l, m);
+    Row {
+        asset: l.asset,
+        kind: l.kind,
+        flags: r.flags,
+        fresh: r.fresh,
+        start: start,
+        window: window,
+        end: r.end,
+    }
+}
+
+// One turn of the choice, over the entry's row. The dates are tested first: that costs two comparisons, and comparing the ranks more.
+// Wrong and ruled out: every entry taken as inherited, a later entry at equal ranks, an entry that suits and is not grantable.
+pub fn consider_row(
     best: Best,
-    l: Limits,
-    m: Meters,
+    row: Row,
     asset: u16,
     parent: u16,
     kind: u8,
     t: u32,
     i: usize,
 ) -> Best
-    ensures { λ r. ⌜ r ≡ considered asset parent kind t i l m best ⌝ }
+    ensures { λ r. ⌜ r ≡ rowConsidered asset parent kind t i row best ⌝ }
 {
-    if !suitable(l, asset, parent, kind) {
+    if row.kind != kind {
         return best;
     }
-    let rank = rank_of(l, m, asset);
+    if !((row.asset == asset) | (!(parent == 0) & (row.asset == parent))) {
+        return best;
+    }
     let held = best.rank;
-    if !ranks_before(rank, held) {
+    let now = t as u64;
+    if !((row.start <= t) & (now < row.window)) {
         return Best {
             suits: true,
             at: best.at,
             rank: held,
         };
     }
-    if !grantable(l, m, t) {
+    let rank = Rank {
+        flags: row.flags,
+        end: row.end,
+        fresh: row.fresh,
+        inherited: one(!(row.asset == asset)),
+    };
+    if !ranks_before(rank, held) {
         return Best {
             suits: true,
             at: best.at,
@@ -80,7 +147,8 @@ pub fn chosen(es: [Entry; 64], count: u8, asset: u16, parent: u16, kind: u8, t: 
         let e = es[i];
         let l = e.limits;
         let m = e.meters;
-        best = consider(best, l, m, asset, parent, kind, t, i);
+        let row = row_of(l, m);
+        best = consider_row(best, row, asset, parent, kind, t, i);
         i = i + 1;
     }
     best

@@ -57,7 +57,7 @@ fn settle_all(b: Book, t: u32) -> Book
             };
             n.entries[k] = y;
         }
-        let q = uses::shut_player(p, t);
+        let q = lent::shut_player(p, t);
         n.players[i] = q;
         i = i + 1;
     }

@@ -1,5 +1,6 @@
-// One player's record, lent and settled where it stands: the form in which an owner of players outside a book settles them.
-// The rule is that of the settling by value; the function here copies the record out, settles it and stores it back.
+// One player's record, lent and settled where it stands.
+// The rule is that of the settling by value: the lent record is copied out, settled and stored back. The event loops own their players and settle them
+// through `shut_player`, which lends a record to `settle_in_place`, so that the loops need no walk by hand.
 ghost use mathlib.Core.Path.{_≡_};
 ghost use Rattle.model.specs.Events.{shut};
 use book::Player;
@@ -16,4 +17,14 @@ pub fn settle_in_place(p: &mut Player, t: u32)
 {
     let q = *p;
     *p = settled_player(q, t);
+}
+
+// The settling that the event loops call: their record is lent, closed in place, and handed back.
+// Wrong and ruled out: the record as it came, a last event that settling changes.
+pub fn shut_player(p: Player, t: u32) -> Player
+    ensures { λ r. ⌜ r ≡ shut t p ⌝ }
+{
+    let mut q = p;
+    settle_in_place(&mut q, t);
+    q
 }

@@ -6,7 +6,8 @@ ghost use mathlib.Core.Bool.{cond};
 ghost use Prim.Native.Nat.{_-_, min};
 ghost use Rattle.laws.specs.Count.{one};
 ghost use Rattle.model.specs.Book.{grantLength, momentary};
-ghost use Rattle.model.specs.Events.{kindNumber, sameRequest, gate, noted, grantable, suitable, rankOf, ranksBefore, cap, leastUntil, where-flagged};
+ghost use Rattle.model.specs.Events.{kindNumber, sameRequest, gate, noted, grantable, rankOf, ranksBefore, cap, leastUntil, where-flagged};
+ghost use Rattle.rules.specs.Line.{outOfLine};
 ghost use Rattle.rules.specs.Rules.{wireOf, flagsOf, asRank};
 use book::Answer;
 use book::Event;
@@ -72,13 +73,6 @@ pub fn one(w: bool) -> u8
     if w { 1 } else { 0 }
 }
 
-// Wrong and ruled out: the two exchanged, the first whatever the test.
-pub fn pick_gate(w: bool, a: Gate, b: Gate) -> Gate
-    ensures { λ r. ⌜ r ≡ cond w a b ⌝ }
-{
-    if w { a } else { b }
-}
-
 // The difference, 0 where there is none.
 // Wrong and ruled out: a difference that wraps, the operands exchanged.
 pub fn less(a: u32, b: u32) -> u32
@@ -141,25 +135,42 @@ pub fn same_request(last: Last, q: Request) -> bool
     (w.operation == last.operation) & (w.asset == last.asset) & (w.kind == last.kind)
 }
 
+// A number that does not follow the last one: a resend or 4 where it is the last one, else 3.
+fn out_of_line(last: Last, e: Event) -> Gate
+    ensures { λ r. ⌜ r ≡ outOfLine last e ⌝ }
+{
+    if last.number == 0 {
+        return Gate::Refuse(3);
+    }
+    if e.number != last.number {
+        return Gate::Refuse(3);
+    }
+    let q = e.request;
+    if same_request(last, q) {
+        return Gate::Resend;
+    }
+    Gate::Refuse(4)
+}
+
 // Wrong and ruled out: reading the time of a resend, a resend of number 0, a number after 4294967295, the time judged before the number.
 pub fn gate_of(now: u32, last: Last, e: Event) -> Gate
     ensures { λ r. ⌜ r ≡ gate now last e ⌝ }
 {
-    let q = e.request;
-    let same = same_request(last, q);
+    if 15 < e.player {
+        return Gate::Refuse(2);
+    }
     let next = last.number as u64 + 1;
     let number = e.number as u64;
-    let timely = (now <= e.time) & (e.time <= 4000000000);
-    let follows = (last.number < 4294967295) & (number == next);
-    let repeats = !(last.number == 0) & (e.number == last.number);
-    let in_time = pick_gate(!timely, Gate::Refuse(5), Gate::Take);
-    let in_line = pick_gate(!follows, Gate::Refuse(3), in_time);
-    let again = pick_gate(same, Gate::Resend, Gate::Refuse(4));
-    pick_gate(
-        15 < e.player,
-        Gate::Refuse(2),
-        pick_gate(repeats, again, in_line),
-    )
+    if number != next {
+        return out_of_line(last, e);
+    }
+    if e.time < now {
+        return Gate::Refuse(5);
+    }
+    if 4000000000 < e.time {
+        return Gate::Refuse(5);
+    }
+    Gate::Take
 }
 
 // Wrong and ruled out: storing another number, request or answer than those of the event.
@@ -204,13 +215,6 @@ pub fn momentary(kind: u8) -> bool
     ensures { λ r. ⌜ r ≡ momentary kind ⌝ }
 {
     (4 <= kind) & (kind <= 5)
-}
-
-// Wrong and ruled out: an inherited entry where there is no parent, another kind.
-pub fn suitable(l: Limits, asset: u16, parent: u16, kind: u8) -> bool
-    ensures { λ r. ⌜ r ≡ suitable asset parent kind l ⌝ }
-{
-    (l.kind == kind) & ((l.asset == asset) | (!(parent == 0) & (l.asset == parent)))
 }
 
 // Wrong and ruled out: end taken as excluded, a limit tested without its flag, a sum that wraps.

@@ -1,13 +1,13 @@
 -- The ways that a record can go, each as one law: what the loop over the records has stored is what the step leaves.
 use Prim.Native.Nat.{ℕ, suc, _%_, _≤_, min}
-use mathlib.Core.Path.{_≡_, refl, sym, ap, _∙_}
+use mathlib.Core.Path.{_≡_, refl, sym, ap, subst, _∙_}
 use mathlib.Core.Bool.{Bool, true, false, not, cond}
 use mathlib.Core.List.{List, map}
 use lib.ListN.{length, set}
 use lib.Seq.{set-getD}
 use lib.Dec.{ltb, eqb}
 use native.Mathlib.Omega.{arith}
-use borrow.Author.Tests.{ltb-true, ltb-false, eq-eqb, ne-eqb}
+use borrow.Author.Tests.{ltb-true, ltb-false}
 use Rattle.book.specs.declared.Answer.{Answer}
 use Rattle.book.specs.declared.Asset.{Asset}
 use Rattle.book.specs.declared.Limits.{Limits}
@@ -21,20 +21,25 @@ use Rattle.book.specs.declared.Event.{Event}
 use Rattle.book.specs.declared.Request.{Request}
 use Rattle.book.specs.declared.Request.the-variants.{Begin, Continue, Stop}
 use Rattle.book.specs.declared.Gate.{Gate}
+use Rattle.book.specs.declared.Gate.the-variants.{Refuse, Resend, Take}
+use Rattle.book.specs.declared.Kind.{Kind}
+use Rattle.book.specs.declared.Decoded.the-variants.{Invalid, Valid}
 use Rattle.book.specs.Blank.{noPlayer}
-use Rattle.model.specs.Book.{limitsAt, metersAt, playerAt, latestTime, entriesIn}
-use Rattle.model.specs.Events.{Catalog, Done, unchanged, refusal, eventIn, stepBy, step, arrive, stepRecord, catalogOf, done, doBegin, doContinue, doStop, lastAt, openAt, isOn, usable, parentOf, suits, anyOf, expired, shut, released, amend, ended, operationNumber, requestAsset, requestKind}
-use Rattle.laws.specs.Tests.{on-test, on-same}
-use Rattle.records.specs.declared.Asked.{Asked}
-use Rattle.records.specs.Asked.{askedIn, gateCode}
-use Rattle.records.specs.Arrived.{Came, code-refuses, code-resends, noted-numbers}
+use Rattle.model.specs.Book.{limitsAt, metersAt, playerAt, latestTime, entriesIn, requestLegal}
+use Rattle.model.specs.Events.{Catalog, Done, unchanged, refusal, recordWidths, recordField, kindNumber, eventIn, decoded, gate, noted, stepBy, step, arrive, stepRecord, catalogOf, done, doBegin, doContinue, doStop, lastAt, openAt, isOn, usable, parentOf, suits, anyOf, expired, shut, released, amend, ended}
+use Rattle.laws.specs.Tests.{on-test}
+use Rattle.laws.specs.Fields.{size}
+use Rattle.rules.specs.declared.Wire.{Wire}
+use Rattle.rules.specs.Rules.{wireOf}
+use Rattle.model.specs.Proof.Kept.{gate-passed}
 use Rattle.assets.specs.declared.Reach.{Reach}
 use Rattle.assets.specs.Reach.{reachIn, tableOf, reach-in-book}
 use Rattle.choose.specs.declared.Best.{Best}
 use Rattle.choose.specs.Best.{bestAfter}
 use Rattle.choose.specs.Choice.{best-suits}
-use Rattle.rows.specs.declared.Row.{Row}
-use Rattle.rows.specs.Rows.{rowOf, rowOfEntry, rows-set}
+use Rattle.choose.specs.declared.Row.{Row}
+use Rattle.choose.specs.Row.{rowOf}
+use Rattle.rows.specs.Rows.{rowOfEntry, rows-set}
 use Rattle.places.specs.Places.{placesOf, parentsOf, reachAt, reach-usable, reach-parent}
 use Rattle.uses.specs.declared.Part.{Part}
 use Rattle.uses.specs.Uses.{placed, stored, beginOn, continueOn, stopOn, continue-placed, stop-placed}
@@ -43,20 +48,66 @@ use Rattle.events.specs.Step.{storedBook, takenFrom, taken-is, begin-11, begin-
 
 -- ## Before the book is touched
 
--- the answer of a record that is not taken
-abbrev pub earlyAnswer : ℕ → Answer → Answer
-earlyAnswer code stored = cond (eqb code 255) stored (refusal code)
+pub way-invalid : (b : Book) (s : List ℕ) (code : ℕ) → decoded s ≡ Invalid code → stepRecord b s ≡ record { answer = refusal code; book = b }
+unfolding stepRecord arrive
+way-invalid b s code h = ap (arrive b) h
 
-pub way-early :
-    (b : Book) (s : List ℕ) (a : Asked) (code : ℕ) →
-    a ≡ askedIn s →
-    code ≡ gateCode (b .time) (lastAt (b .players) (a .player % 16)) a →
-    (code ≡ 0 → ⊥) →
-    stepRecord b s ≡ record { answer = earlyAnswer code (lastAt (b .players) (a .player % 16) .answer); book = b }
-way-early b s a code ha hc n =
-    on-same code 255
-    (λ e. code-resends b s a code ha hc e ∙ rw (eq-eqb code 255 e) refl)
-    (λ m. code-refuses b s a code ha hc n m ∙ rw (ne-eqb code 255 m) refl)
+-- an event that a record holds is of one of the sixteen players
+pub decoded-few : (s : List ℕ) (e : Event) → decoded s ≡ Valid e → e .player ≤ 15
+unfolding decoded eventIn
+decoded-few s e h =
+    on-test (eqb (length s) (size recordWidths))
+    (λ w. on-test (ltb 15 (recordField 0 s))
+    (λ p. absurd (no-event 2 (rw (w, p) at h)))
+    (λ p. on-test (requestLegal (recordField 2 s) (recordField 3 s) (recordField 4 s))
+    (λ q.
+    let v : Valid (eventIn s) ≡ Valid e = rw (w, p, q) at h in
+    let same : eventIn s ≡ e = cc in
+    let few : recordField 0 s ≤ 15 = omega (arith, ltb-false 15 (recordField 0 s) p) in
+    subst (λ (x : Event). x .player ≤ 15) same few)
+    (λ q. absurd (no-event 1 (rw (w, p, q) at h)))))
+    (λ w. absurd (no-event 6 (rw w at h)))
+  where
+    no-event : (code : ℕ) → Invalid code ≡ Valid e → ⊥
+    no-event code x = let z : _≡_ {A = ℕ} 0 1 = cc in omega arith
+
+-- the event e that stands in the record s is taken by the book b
+pub record Admitted (b : Book) (s : List ℕ) (e : Event) : Type 0 where
+  pub valid : decoded s ≡ Valid e
+  pub takes : gate (b .time) (lastAt (b .players) (e .player)) e ≡ Take
+  pub few-players : e .player ≤ 15
+  pub early : e .time ≤ latestTime
+
+-- the loop reads the player's record at the remainder, which is the player
+module _ (b : Book) (s : List ℕ) (e : Event) (v : decoded s ≡ Valid e) where
+  abbrev asked : Last
+  asked = lastAt (b .players) (e .player % 16)
+
+  is-player : e .player % 16 ≡ e .player
+  is-player = let few = decoded-few s e v in omega arith
+
+  by-gate : (g : Gate) → g ≡ gate (b .time) asked e → stepRecord b s ≡ stepBy g b e
+  unfolding stepRecord arrive step
+  by-gate g h =
+      ap (arrive b) v
+      ∙ ap (λ (x : ℕ). stepBy (gate (b .time) (lastAt (b .players) x) e) b e) (sym is-player)
+      ∙ ap (λ (x : Gate). stepBy x b e) (sym h)
+
+  pub way-refused : (g : Gate) (code : ℕ) → g ≡ gate (b .time) asked e → g ≡ Refuse code → stepRecord b s ≡ record { answer = refusal code; book = b }
+  unfolding stepBy
+  way-refused g code h r = by-gate g h ∙ ap (λ (x : Gate). stepBy x b e) r
+
+  pub way-resent : (g : Gate) → g ≡ gate (b .time) asked e → g ≡ Resend → stepRecord b s ≡ record { answer = asked .answer; book = b }
+  unfolding stepBy
+  way-resent g h r =
+      by-gate g h
+      ∙ ap (λ (x : Gate). stepBy x b e) r
+      ∙ ap (λ (x : ℕ). record { answer = lastAt (b .players) x .answer; book = b }) (sym is-player)
+
+  pub admitted : (g : Gate) → g ≡ gate (b .time) asked e → g ≡ Take → Admitted b s e
+  admitted g h r =
+      let takes : gate (b .time) (lastAt (b .players) (e .player)) e ≡ Take = ap (λ (x : ℕ). gate (b .time) (lastAt (b .players) x) e) (sym is-player) ∙ sym h ∙ r in
+      record { valid = v; takes = takes; few-players = decoded-few s e v; early = gate-passed b e takes .early }
 
 -- ## A taken event
 
@@ -74,93 +125,77 @@ closing n es j t last current = record {
 abbrev pub doneOn : Book → Event → Done
 doneOn n e = done (e .request) (catalogOf n) (n .entries) (openAt (n .players) (e .player)) (e .time)
 
+-- the last event with the numbers of its request, as the loop stores it
+abbrev pub lastOf : Event → Wire → Answer → Last
+lastOf e w a = record { number = e .number; operation = w .operation; asset = w .asset; kind = w .kind; answer = a }
+
 pub way-taken :
-    (b : Book) (s : List ℕ) (a : Asked) (n : Book) (d : Done) (j : ℕ) →
-    Came b s a →
-    n ≡ settledBook (a .time) b →
-    d ≡ doneOn n (eventIn s) →
-    j ≡ a .player →
-    stepRecord b s
-    ≡ record {
-      answer = d .answer;
-      book = closing n (d .entries) j (a .time) (record { number = a .number; operation = a .operation; asset = a .asset; kind = a .kind; answer = d .answer }) (d .current);
-    }
+    (b : Book) (s : List ℕ) (e : Event) (n : Book) (d : Done) (j : ℕ) (w : Wire) →
+    Admitted b s e →
+    n ≡ settledBook (e .time) b →
+    d ≡ doneOn n e →
+    j ≡ e .player →
+    w ≡ wireOf (e .request) →
+    stepRecord b s ≡ record { answer = d .answer; book = closing n (d .entries) j (e .time) (lastOf e w (d .answer)) (d .current) }
 unfolding stepRecord arrive step stepBy storedBook
-way-taken b s a n d j c hn hd hj =
-    let e = eventIn s in
-    let t : a .time ≡ e .time = c .time in
+way-taken b s e n d j w c hn hd hj hw =
     ap (arrive b) (c .valid)
     ∙ ap (λ (x : Gate). stepBy x b e) (c .takes)
     ∙ sym (taken-is b e)
-    ∙ ap (λ (x : Book). takenFrom x e (doneOn x e)) (sym (hn ∙ ap (λ (x : ℕ). settledBook x b) t))
+    ∙ ap (λ (x : Book). takenFrom x e (doneOn x e)) (sym hn)
     ∙ ap (takenFrom n e) (sym hd)
-    ∙ ap (λ (x : Last). record { answer = d .answer; book = closing n (d .entries) (e .player) (e .time) x (d .current) }) (sym (noted-numbers b s a (d .answer) c))
-    ∙ ap (λ (x : ℕ). record { answer = d .answer; book = closing n (d .entries) x (e .time) (record { number = a .number; operation = a .operation; asset = a .asset; kind = a .kind; answer = d .answer }) (d .current) }) (sym (hj ∙ c .player))
-    ∙ ap (λ (x : ℕ). record { answer = d .answer; book = closing n (d .entries) j x (record { number = a .number; operation = a .operation; asset = a .asset; kind = a .kind; answer = d .answer }) (d .current) }) (sym t)
+    ∙ ap (λ (x : ℕ). record { answer = d .answer; book = closing n (d .entries) x (e .time) (noted e (d .answer)) (d .current) }) (sym hj)
+    ∙ ap (λ (x : Wire). record { answer = d .answer; book = closing n (d .entries) j (e .time) (lastOf e x (d .answer)) (d .current) }) (sym hw)
 
-module _ (c : Catalog) (es : List Entry) (o : Open) (t : ℕ) where
-  pub begin-is : (q : Request) → operationNumber q ≡ 1 → done q c es o t ≡ doBegin c es o t (requestAsset q) (requestKind q)
-  unfolding done
-  begin-is (Begin kind asset) h = refl
-  begin-is Continue h = absurd (omega arith)
-  begin-is Stop h = absurd (omega arith)
-
-  pub further-is : (q : Request) → (operationNumber q ≡ 1 → ⊥) → done q c es o t ≡ cond (eqb (operationNumber q) 2) (doContinue es o t) (doStop es o t)
-  unfolding done
-  further-is (Begin kind asset) h = absurd (h refl)
-  further-is Continue h = refl
-  further-is Stop h = refl
-
--- a continue where the operation is 2, else a stop
-abbrev furtherOn : ℕ → ℕ → Limits → Meters → Open → Part
-furtherOn operation t l m o = cond (eqb operation 2) (continueOn t l m o) (stopOn t l m o)
-
--- the operation of that number, on the entry at a position
-abbrev pub actOn : ℕ → ℕ → ℕ → Limits → Meters → Open → Part
-actOn operation i t l m o = cond (eqb operation 1) (beginOn i t l m o) (furtherOn operation t l m o)
-
-further-cases :
-    (w : Bool) (t : ℕ) (es : List Entry) (o : Open) →
-    t ≤ latestTime →
-    placed (o .entry) (cond w (continueOn t (limitsAt es (o .entry)) (metersAt es (o .entry)) o) (stopOn t (limitsAt es (o .entry)) (metersAt es (o .entry)) o)) es
-    ≡ cond w (doContinue es o t) (doStop es o t)
-further-cases true t es o h = continue-placed t es o h
-further-cases false t es o h = stop-placed t es o
-
-off-cases : (w : Bool) (t : ℕ) (es : List Entry) (o : Open) → isOn o ≡ false → unchanged 14 es o ≡ cond w (doContinue es o t) (doStop es o t)
-unfolding doContinue doStop
-off-cases true t es o off = rw off
-off-cases false t es o off = rw off
+-- the operation of a request, on the entry at a position
+abbrev pub actOn : Request → ℕ → ℕ → Limits → Meters → Open → Part
+actOn (Begin kind asset) i t l m o = beginOn i t l m o
+actOn Continue i t l m o = continueOn t l m o
+actOn Stop i t l m o = stopOn t l m o
 
 -- what a taken event is about to do: refused by a code that is not 0, or done at entry k
-pub record Planned (n : Book) (e : Event) (o : Open) (operation k code : ℕ) : Type 0 where
+pub record Planned (n : Book) (e : Event) (o : Open) (k code : ℕ) : Type 0 where
   pub refuses : (code ≡ 0 → ⊥) → unchanged code (n .entries) o ≡ doneOn n e
   pub acts :
       code ≡ 0 → (part : Part) →
-      part ≡ actOn operation (k % 256) (e .time) (limitsAt (n .entries) k) (metersAt (n .entries) k) o →
+      part ≡ actOn (e .request) (k % 256) (e .time) (limitsAt (n .entries) k) (metersAt (n .entries) k) o →
       placed k part (n .entries) ≡ doneOn n e
 
-module _ (n : Book) (e : Event) (o : Open) (operation k code : ℕ)
-    (ho : o ≡ openAt (n .players) (e .player))
-    (hq : operation ≡ operationNumber (e .request))
-    (other : operation ≡ 1 → ⊥) where
-  done-as : cond (eqb operation 2) (doContinue (n .entries) o (e .time)) (doStop (n .entries) o (e .time)) ≡ doneOn n e
-  done-as =
-      ap (λ (x : ℕ). cond (eqb x 2) (doContinue (n .entries) o (e .time)) (doStop (n .entries) o (e .time))) hq
-      ∙ sym (further-is (catalogOf n) (n .entries) o (e .time) (e .request) (λ x. other (hq ∙ x)))
+module _ (n : Book) (e : Event) (o : Open) (ho : o ≡ openAt (n .players) (e .player)) where
+  done-as : (q : Request) → e .request ≡ q → done q (catalogOf n) (n .entries) o (e .time) ≡ doneOn n e
+  done-as q hq =
+      ap (λ (x : Request). done x (catalogOf n) (n .entries) o (e .time)) (sym hq)
       ∙ ap (λ (x : Open). done (e .request) (catalogOf n) (n .entries) x (e .time)) ho
 
-  pub planned-further : e .time ≤ latestTime → k ≡ o .entry → code ≡ cond (isOn o) 0 14 → Planned n e o operation k code
-  planned-further ht hk hc = record {
-    refuses = λ some.
-        on-test (isOn o) (λ on. absurd (some (hc ∙ rw on refl)))
-        (λ off. ap (λ (x : ℕ). unchanged x (n .entries) o) (hc ∙ rw off refl) ∙ off-cases (eqb operation 2) (e .time) (n .entries) o off ∙ done-as);
-    acts = λ none part hp.
-        ap (λ (x : ℕ). placed x part (n .entries)) hk
-        ∙ ap (λ (x : Part). placed (o .entry) x (n .entries)) (hp ∙ rw (ne-eqb operation 1 other, hk) refl)
-        ∙ further-cases (eqb operation 2) (e .time) (n .entries) o ht
-        ∙ done-as;
-  }
+  module _ (k code : ℕ) (hk : k ≡ o .entry) (hc : code ≡ cond (isOn o) 0 14) where
+    -- a continue or a stop, with what it does to its entry
+    further :
+        (q : Request) (d : Done) →
+        e .request ≡ q →
+        d ≡ doneOn n e →
+        (isOn o ≡ false → unchanged 14 (n .entries) o ≡ d) →
+        placed (o .entry) (actOn q (o .entry % 256) (e .time) (limitsAt (n .entries) (o .entry)) (metersAt (n .entries) (o .entry)) o) (n .entries) ≡ d →
+        Planned n e o k code
+    further q d hq hd off-is on-is = record {
+      refuses = λ some.
+          on-test (isOn o) (λ on. absurd (some (hc ∙ rw on refl)))
+          (λ off. ap (λ (x : ℕ). unchanged x (n .entries) o) (hc ∙ rw off refl) ∙ off-is off ∙ hd);
+      acts = λ none part hp.
+          ap (λ (x : ℕ). placed x part (n .entries)) hk
+          ∙ ap (λ (x : Part). placed (o .entry) x (n .entries)) (hp ∙ rw (hk, hq) refl)
+          ∙ on-is
+          ∙ hd;
+    }
+
+    pub planned-continue : e .time ≤ latestTime → e .request ≡ Continue → Planned n e o k code
+    unfolding done doContinue
+    planned-continue ht hq =
+        further Continue (doContinue (n .entries) o (e .time)) hq (done-as Continue hq) (λ off. rw off refl) (continue-placed (e .time) (n .entries) o ht)
+
+    pub planned-stop : e .request ≡ Stop → Planned n e o k code
+    unfolding done doStop
+    planned-stop hq =
+        further Stop (doStop (n .entries) o (e .time)) hq (done-as Stop hq) (λ off. rw off refl) (stop-placed (e .time) (n .entries) o)
 
 code-clash : (x : ℕ) → 0 ≡ suc x → ⊥
 code-clash x h = omega (arith, h)
@@ -184,12 +219,10 @@ few-entries : (b : Book) → catalogOf b .entryCount ≤ 64
 unfolding catalogOf entriesIn
 few-entries b = omega arith
 
-module _ (n : Book) (e : Event) (o : Open) (operation asset kind k code m : ℕ) (r : Reach) (best : Best)
+module _ (n : Book) (e : Event) (o : Open) (sort : Kind) (asset kind k code m : ℕ) (r : Reach) (best : Best)
     (ho : o ≡ openAt (n .players) (e .player))
-    (hq : operation ≡ operationNumber (e .request))
-    (one : operation ≡ 1)
-    (ha : asset ≡ requestAsset (e .request))
-    (hk : kind ≡ requestKind (e .request))
+    (hq : e .request ≡ Begin sort asset)
+    (hk : kind ≡ kindNumber sort)
     (hu : r .usable ≡ usable (catalogOf n) asset)
     (hp : usable (catalogOf n) asset ≡ true → r .parent ≡ parentOf (catalogOf n) asset)
     (hm : m ≡ looked (isOn o) (r .usable) (min (n .entrycount) 64))
@@ -201,11 +234,8 @@ module _ (n : Book) (e : Event) (o : Open) (operation asset kind k code m : ℕ)
   es = n .entries
 
   begin-on : doBegin c es o (e .time) asset kind ≡ doneOn n e
-  begin-on =
-      ap (λ (x : ℕ). doBegin c es o (e .time) x kind) ha
-      ∙ ap (doBegin c es o (e .time) (requestAsset (e .request))) hk
-      ∙ sym (begin-is c es o (e .time) (e .request) (sym hq ∙ one))
-      ∙ ap (λ (x : Open). done (e .request) c es x (e .time)) ho
+  unfolding done
+  begin-on = ap (doBegin c es o (e .time) asset) hk ∙ done-as n e o ho (Begin sort asset) hq
 
   module _ (off : isOn o ≡ false) (u : usable c asset ≡ true) where
     all-looked : m ≡ c .entryCount
@@ -224,7 +254,7 @@ module _ (n : Book) (e : Event) (o : Open) (operation asset kind k code m : ℕ)
   refused-as : (x : ℕ) → code ≡ x → doBegin c es o (e .time) asset kind ≡ unchanged x es o → unchanged code es o ≡ doneOn n e
   refused-as x h d = ap (λ (y : ℕ). unchanged y es o) h ∙ sym d ∙ begin-on
 
-  pub planned-begin : e .time ≤ latestTime → k ≡ best .at → code ≡ beginCode (isOn o) (r .usable) (best .suits) (ltb k 64) → Planned n e o operation k code
+  pub planned-begin : e .time ≤ latestTime → k ≡ best .at → code ≡ beginCode (isOn o) (r .usable) (best .suits) (ltb k 64) → Planned n e o k code
   planned-begin ht hat hc = record {
     refuses = λ some.
         on-test (isOn o)
@@ -245,7 +275,7 @@ module _ (n : Book) (e : Event) (o : Open) (operation asset kind k code m : ℕ)
         (λ l.
         let small = ltb-true k 64 l in
         let whole-k : k % 256 ≡ k = omega arith in
-        begin-grants c es o (e .time) asset kind off u (sym (suits-is off u) ∙ s) k (hat ∙ at-is off u) part small ht (part-is ∙ rw (one, whole-k) refl) ∙ begin-on)
+        begin-grants c es o (e .time) asset kind off u (sym (suits-is off u) ∙ s) k (hat ∙ at-is off u) part small ht (part-is ∙ rw (hq, whole-k) refl) ∙ begin-on)
         (λ l. absurd (code-clash 12 (sym none ∙ hc ∙ rw (off, hu ∙ u, s, l) refl))))
         (λ s. absurd (code-clash 11 (sym none ∙ hc ∙ rw (off, hu ∙ u, s) refl))))
         (λ u. absurd (code-clash 9 (sym none ∙ hc ∙ rw (off, hu ∙ u) refl))));

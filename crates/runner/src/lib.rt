@@ -9,34 +9,39 @@ ghost use lib.ListN.{length};
 ghost use lib.Dec.{eqb, ltb};
 ghost use Rattle.model.specs.Events.{refusal, isOn};
 ghost use Rattle.runner.specs.Block.{blockBook, blockWritten, blockBuffer};
-ghost use Rattle.runner.specs.Ways.{earlyAnswer, beginCode, looked, actOn};
+ghost use Rattle.runner.specs.Ways.{beginCode, looked, actOn};
 use book::Answer;
 use book::Book;
+use book::Decoded;
 use book::Entry;
+use book::Gate;
 use book::Last;
 use book::Limits;
 use book::Meters;
 use book::Open;
 use book::Player;
+use book::Request;
 use book::at_most_64;
 use book::blank_entry;
 use choose::Best;
+use choose::consider_row;
+use choose::row_of;
+use decode::decode;
+use lent::shut_player;
 use places::fill_places;
 use places::reach_at;
-use records::gate_code;
-use records::read_record;
-use rows::consider_row;
 use rows::end_of;
 use rows::ends_of;
-use rows::row_of;
 use rows::rows_of;
 use rules::Rank;
+use rules::gate_of;
+use rules::kind_number;
+use rules::wire_of;
 use text::put_line;
 use uses::Part;
 use uses::begin_on;
 use uses::continue_on;
 use uses::ended_meters;
-use uses::shut_player;
 use uses::stop_on;
 
 // The book after the records, and how many bytes of text were written.
@@ -65,16 +70,6 @@ fn refused(code: u8) -> Answer
         entry: 255,
         until: 0,
     }
-}
-
-// The answer of a record that is not taken: the stored one to a resend.
-fn early_answer(code: u8, stored: Answer) -> Answer
-    ensures { λ r. ⌜ r ≡ earlyAnswer code stored ⌝ }
-{
-    if code == 255 {
-        return stored;
-    }
-    refused(code)
 }
 
 // How many entries a begin looks at.
@@ -115,16 +110,14 @@ fn further_code(on: bool) -> u8
 }
 
 // The operation of that number on the limits and meters of the entry at a position.
-fn act(operation: u8, l: Limits, m: Meters, o: Open, at: u8, t: u32) -> Part
-    ensures { λ r. ⌜ r ≡ actOn operation at t l m o ⌝ }
+fn act(q: Request, l: Limits, m: Meters, o: Open, at: u8, t: u32) -> Part
+    ensures { λ r. ⌜ r ≡ actOn q at t l m o ⌝ }
 {
-    if operation == 1 {
-        return begin_on(l, m, o, at, t);
+    match q {
+        Request::Begin(kind, asset) => begin_on(l, m, o, at, t),
+        Request::Continue => continue_on(l, m, o, t),
+        Request::Stop => stop_on(l, m, o, t),
     }
-    if operation == 2 {
-        return continue_on(l, m, o, t);
-    }
-    stop_on(l, m, o, t)
 }
 
 // Where out has no room for 19 bytes a record, nothing is done.
@@ -156,125 +149,147 @@ pub fn answer_block(b: Book, records: &[u8], out: &mut [u8]) -> Block
         let from = 13 * i;
         let to = lesser(from + 13, size);
         i = i + 1;
-        let a = read_record(&records[from..to]);
-        let j = (a.player % 16) as usize;
-        let asking = book.players[j];
-        let last = asking.last;
-        let early = gate_code(book.time, last, a);
-        if early != 0 {
-            let stored = last.answer;
-            at = put_line(out, at, early_answer(early, stored));
-        } else {
-            let t = a.time;
-            if next <= t {
-                next = 4294967295;
-                let mut p: usize = 0;
-                while p < 16 {
-                    let end = ends[p];
-                    if end <= t {
-                        let player = book.players[p];
+        match decode(&records[from..to]) {
+            Decoded::Invalid(code) => {
+                at = put_line(out, at, refused(code));
+            }
+            Decoded::Valid(event) => {
+                let j = (event.player % 16) as usize;
+                let asking = book.players[j];
+                let last = asking.last;
+                match gate_of(book.time, last, event) {
+                    Gate::Refuse(code) => {
+                        at = put_line(out, at, refused(code));
+                    }
+                    Gate::Resend => {
+                        let stored = last.answer;
+                        at = put_line(out, at, stored);
+                    }
+                    Gate::Take => {
+                        let t = event.time;
+                        if next <= t {
+                            next = 4294967295;
+                            let mut p: usize = 0;
+                            while p < 16 {
+                                let end = ends[p];
+                                if end <= t {
+                                    let player = book.players[p];
+                                    let o = player.current;
+                                    let k = o.entry as usize;
+                                    if k < 64 {
+                                        let x = book.entries[k];
+                                        let l = x.limits;
+                                        let m = x.meters;
+                                        let ended = ended_meters(l, m, o.begin, o.until, o.until);
+                                        let y = Entry {
+                                            limits: l,
+                                            meters: ended,
+                                        };
+                                        book.entries[k] = y;
+                                        let row = row_of(l, ended);
+                                        rows[k] = row;
+                                    }
+                                    let shutting = book.players[p];
+                                    let q = shut_player(shutting, t);
+                                    book.players[p] = q;
+                                    ends[p] = 4294967295;
+                                } else {
+                                    next = sooner(next, end);
+                                }
+                                p = p + 1;
+                            }
+                        }
+                        let player = book.players[j];
                         let o = player.current;
-                        let k = o.entry as usize;
-                        if k < 64 {
-                            let x = book.entries[k];
+                        let request = event.request;
+                        let w = wire_of(request);
+                        let mut k = o.entry as usize;
+                        let mut code = further_code(o.on == 1);
+                        match request {
+                            Request::Begin(sort, asset) => {
+                                let kind = kind_number(sort);
+                                let reach = reach_at(&places, &parents, asset);
+                                let n = looked_at(
+                                    o.on == 1,
+                                    reach.usable,
+                                    at_most_64(book.entrycount),
+                                );
+                                let mut best = Best {
+                                    suits: false,
+                                    at: 64,
+                                    rank: Rank {
+                                        flags: 2,
+                                        end: 0,
+                                        fresh: 0,
+                                        inherited: 0,
+                                    },
+                                };
+                                let mut e: usize = 0;
+                                while e < n {
+                                    let row = rows[e];
+                                    best = consider_row(best, row, asset, reach.parent, kind, t, e);
+                                    e = e + 1;
+                                }
+                                k = best.at;
+                                code = begin_code(o.on == 1, reach.usable, best.suits, k);
+                            }
+                            Request::Continue => {}
+                            Request::Stop => {}
+                        }
+                        book.time = t;
+                        if code == 0 {
+                            let mut x = blank_entry();
+                            if k < 64 {
+                                let held = book.entries[k];
+                                x = held;
+                            }
                             let l = x.limits;
                             let m = x.meters;
-                            let ended = ended_meters(l, m, o.begin, o.until, o.until);
-                            let y = Entry {
-                                limits: l,
-                                meters: ended,
+                            let part = act(request, l, m, o, (k % 256) as u8, t);
+                            if k < 64 {
+                                let meters = part.meters;
+                                let y = Entry {
+                                    limits: l,
+                                    meters: meters,
+                                };
+                                book.entries[k] = y;
+                                let row = row_of(l, meters);
+                                rows[k] = row;
+                            }
+                            let answer = part.answer;
+                            let current = part.current;
+                            let q = Player {
+                                last: Last {
+                                    number: event.number,
+                                    operation: w.operation,
+                                    asset: w.asset,
+                                    kind: w.kind,
+                                    answer: answer,
+                                },
+                                current: current,
                             };
-                            book.entries[k] = y;
-                            let row = row_of(l, ended);
-                            rows[k] = row;
+                            book.players[j] = q;
+                            let end = end_of(current);
+                            ends[j] = end;
+                            next = sooner(next, end);
+                            at = put_line(out, at, answer);
+                        } else {
+                            let answer = refused(code);
+                            let q = Player {
+                                last: Last {
+                                    number: event.number,
+                                    operation: w.operation,
+                                    asset: w.asset,
+                                    kind: w.kind,
+                                    answer: answer,
+                                },
+                                current: o,
+                            };
+                            book.players[j] = q;
+                            at = put_line(out, at, answer);
                         }
-                        let shutting = book.players[p];
-                        let q = shut_player(shutting, t);
-                        book.players[p] = q;
-                        ends[p] = 4294967295;
-                    } else {
-                        next = sooner(next, end);
                     }
-                    p = p + 1;
                 }
-            }
-            let player = book.players[j];
-            let o = player.current;
-            let mut k = o.entry as usize;
-            let mut code = further_code(o.on == 1);
-            if a.operation == 1 {
-                let reach = reach_at(&places, &parents, a.asset);
-                let n = looked_at(o.on == 1, reach.usable, at_most_64(book.entrycount));
-                let mut best = Best {
-                    suits: false,
-                    at: 64,
-                    rank: Rank {
-                        flags: 2,
-                        end: 0,
-                        fresh: 0,
-                        inherited: 0,
-                    },
-                };
-                let mut e: usize = 0;
-                while e < n {
-                    let row = rows[e];
-                    best = consider_row(best, row, a.asset, reach.parent, a.kind, t, e);
-                    e = e + 1;
-                }
-                k = best.at;
-                code = begin_code(o.on == 1, reach.usable, best.suits, k);
-            }
-            book.time = t;
-            if code == 0 {
-                let mut x = blank_entry();
-                if k < 64 {
-                    let held = book.entries[k];
-                    x = held;
-                }
-                let l = x.limits;
-                let m = x.meters;
-                let part = act(a.operation, l, m, o, (k % 256) as u8, t);
-                if k < 64 {
-                    let meters = part.meters;
-                    let y = Entry {
-                        limits: l,
-                        meters: meters,
-                    };
-                    book.entries[k] = y;
-                    let row = row_of(l, meters);
-                    rows[k] = row;
-                }
-                let answer = part.answer;
-                let current = part.current;
-                let q = Player {
-                    last: Last {
-                        number: a.number,
-                        operation: a.operation,
-                        asset: a.asset,
-                        kind: a.kind,
-                        answer: answer,
-                    },
-                    current: current,
-                };
-                book.players[j] = q;
-                let end = end_of(current);
-                ends[j] = end;
-                next = sooner(next, end);
-                at = put_line(out, at, answer);
-            } else {
-                let answer = refused(code);
-                let q = Player {
-                    last: Last {
-                        number: a.number,
-                        operation: a.operation,
-                        asset: a.asset,
-                        kind: a.kind,
-                        answer: answer,
-                    },
-                    current: o,
-                };
-                book.players[j] = q;
-                at = put_line(out, at, answer);
             }
         }
     }

@@ -1,6 +1,8 @@
 -- `choose::chosen` meets its contract. The invariant: the best of the first i entries is held.
 use Rattle.choose.specs.Best.{choiceAfter, bestAfter, considered, best-turn}
 use Rattle.choose.specs.declared.Best.{Best}
+use Rattle.choose.specs.declared.Row.{Row}
+use Rattle.choose.specs.Row.{rowConsidered, row-considered}
 use Rattle.model.specs.Events.{chooseOf, anyOf}
 use Rattle.model.specs.Book.{limitsAt, metersAt}
 use native.Mathlib.Nat.{min-le-right}
@@ -30,8 +32,11 @@ mul-e c = omega arith
 array-copy-out-e : tie.Need-array-copy-out-e Inv-loop μ-loop
 array-copy-out-e c = search needs
 
-consider-requires : tie.Need-consider-requires Inv-loop μ-loop
-consider-requires c κs = tt
+row-of-requires : tie.Need-row-of-requires Inv-loop μ-loop
+row-of-requires c κs = tt
+
+consider-row-requires : tie.Need-consider-row-requires Inv-loop μ-loop
+consider-row-requires c κs = tt
 
 add-i : tie.Need-add-i Inv-loop μ-loop
 add-i c = omega arith
@@ -41,11 +46,15 @@ loop-less c = omega arith
 
 loop-again : tie.Need-loop-again Inv-loop μ-loop
 loop-again c =
-    let a = c .before .before .before .before .before .before .before .args in
-    let l = c .before .before .before .before .before .loop in (
+    let a = c .before .before .before .before .before .before .before .before .args in
+    let l = c .before .before .before .before .before .before .loop in
+    let lim = limitsAt (a .t1) (l .i) in
+    let m = metersAt (a .t1) (l .i) in (
       omega arith,
       l .inv .1,
-      c .consider .ensures
+      c .consider-row .ensures
+          ∙ ap (λ (x : Row). rowConsidered (a .asset) (a .parent) (a .kind) (a .t) (l .i) x (l .best)) (c .before .row-of .ensures)
+          ∙ row-considered (a .asset) (a .parent) (a .kind) (a .t) (l .i) lim m (l .best) (omega arith)
           ∙ ap (λ (x : Best). considered (a .asset) (a .parent) (a .kind) (a .t) (l .i) (limitsAt (a .t1) (l .i)) (metersAt (a .t1) (l .i)) x) (l .inv .2)
           ∙ sym (best-turn (a .t1) (a .asset) (a .parent) (a .kind) (a .t) (l .i)),
     )
@@ -68,7 +77,8 @@ chosen-spec =
     loop-holds
     mul-e
     array-copy-out-e
-    consider-requires
+    row-of-requires
+    consider-row-requires
     add-i
     loop-less
     loop-again

@@ -3,7 +3,7 @@ use Prim.Native.Nat.{ℕ, _+_, _*_, _-_, _/_, _%_, _<_, _≤_, min}
 use mathlib.Core.Path.{_≡_, refl, sym, ap, ap₂, subst, _∙_}
 use mathlib.Core.Logic.{⊎-elim}
 use mathlib.Core.Bool.{true, false}
-use mathlib.Core.List.{List, map}
+use mathlib.Core.List.{List, [], map}
 use native.Mathlib.Omega.{arith}
 use native.Mathlib.Nat.{min-le-right}
 use borrow.Author.Needs.{needs}
@@ -16,26 +16,33 @@ use Rattle.book.specs.declared.Answer.{Answer}
 use Rattle.book.specs.declared.Last.{Last}
 use Rattle.book.specs.declared.Book.{Book}
 use Rattle.book.specs.declared.Entry.{Entry}
+use Rattle.book.specs.declared.Event.{Event}
+use Rattle.book.specs.declared.Kind.{Kind}
+use Rattle.book.specs.declared.Request.{Request}
+use Rattle.book.specs.declared.Request.the-variants.{Begin}
+use Rattle.book.specs.declared.Decoded.the-variants.{Valid}
 use Rattle.book.specs.declared.Player.{Player}
 use Rattle.book.specs.declared.Meters.{Meters}
+use Rattle.book.specs.declared.Open.{Open}
 use Rattle.book.specs.Blank.{noEntry}
 use Rattle.model.specs.Book.{limitsAt, metersAt, playerAt, latestTime}
-use Rattle.model.specs.Events.{stepRecord, eventIn, openAt, isOn, released, shut, expired, chooseOf, anyOf}
+use Rattle.model.specs.Events.{decoded, stepRecord, openAt, isOn, noEnd, released, shut, expired, chooseOf, anyOf}
 use Rattle.model.specs.Run.{recordCount, recordAt}
-use Rattle.records.specs.Asked.{askedIn}
-use Rattle.records.specs.Arrived.{Came, code-takes}
+use Rattle.rules.specs.Rules.{wireOf}
 use Rattle.choose.specs.declared.Best.{Best}
+use Rattle.choose.specs.declared.Row.{Row}
 use Rattle.choose.specs.Best.{bestAfter, choiceAfter, considered, best-turn}
-use Rattle.rows.specs.declared.Row.{Row}
+use Rattle.choose.specs.Row.{rowOf, rowConsidered, row-considered}
 use Rattle.rows.specs.Ends.{endOfPlayer, never}
-use Rattle.rows.specs.Rows.{rowOf, rowOfEntry, noRow, rowConsidered, row-at, row-considered}
+use Rattle.rows.specs.Rows.{rowOfEntry, noRow, row-at}
 use Rattle.places.specs.Places.{reachAt}
+use Rattle.text.specs.Lines.{lineEnd, lineBuffer}
 use Rattle.uses.specs.Uses.{placed, stored}
 use Rattle.events.specs.Settle.{settledBook, settledTo, settle-none, settle-turn, settled-length, settleOne, with}
 use Rattle.runner.specs.Block.{fits, blockBook, blockWritten, blockBuffer}
 use Rattle.runner.specs.Upto.{Upto, upto-none, upto-length, upto-next, upto-all, record-part}
 use Rattle.runner.specs.Quiet.{Quiet, leastEnd, quiet-start, Settled, settled-by, settled-still, quiet-store, quiet-keep, end-due, end-on, reached, kept-end, ends-next, ends-same, shut-end}
-use Rattle.runner.specs.Ways.{beginCode, looked, looked-most, actOn, closing, Planned, planned-further, planned-begin, usable-is, parent-is, way-early, way-taken, released-due, released-far, released-still, shut-not, rows-next}
+use Rattle.runner.specs.Ways.{beginCode, looked, looked-most, actOn, closing, lastOf, Admitted, admitted, Planned, planned-continue, planned-stop, planned-begin, usable-is, parent-is, way-invalid, way-refused, way-resent, way-taken, released-due, released-far, released-still, shut-not, rows-next}
 use Rattle.runner.proofs.answer_block.Statement.{statement}
 use Rattle.runner.proofs.answer_block.Tie as tie
 
@@ -48,16 +55,16 @@ abbrev endsFor : Book → List ℕ
 endsFor b = map endOfPlayer (b .players)
 
 abbrev Inv-loop2 : tie.InvT-loop2
-Inv-loop2 records out size count book₀ places parents rows₀ ends₀ next₀ at i from to a j early t p₀ book rows ends next p = (p ≤ 16) × (book ≡ settledTo t p book₀) × (next ≡ leastEnd t (book₀ .players) p) × (rows ≡ rowsFor book) × (ends ≡ endsFor book) × (length (book .players) ≡ 16)
+Inv-loop2 records out size count book₀ places parents rows₀ ends₀ next₀ at i from to event j t p₀ book rows ends next p = (p ≤ 16) × (book ≡ settledTo t p book₀) × (next ≡ leastEnd t (book₀ .players) p) × (rows ≡ rowsFor book) × (ends ≡ endsFor book) × (length (book .players) ≡ 16)
 
 abbrev μ-loop2 : tie.MeasureT-loop2
-μ-loop2 records out size count book₀ places parents rows₀ ends₀ next₀ at i from to a j early t p₀ book rows ends next p = 16 - p
+μ-loop2 records out size count book₀ places parents rows₀ ends₀ next₀ at i from to event j t p₀ book rows ends next p = 16 - p
 
 abbrev Inv-loop3 : tie.InvT-loop3
-Inv-loop3 records out size count book places parents rows ends next at i from to a j early t o k code reach n best₀ e₀ best e = (e ≤ n) × (n ≤ 64) × (best ≡ bestAfter (book .entries) (a .asset) (reach .parent) (a .kind) t e)
+Inv-loop3 records out size count book places parents rows ends next at i from to event j t o request w k code asset kind reach n best₀ e₀ best e = (e ≤ n) × (n ≤ 64) × (best ≡ bestAfter (book .entries) asset (reach .parent) kind t e)
 
 abbrev μ-loop3 : tie.MeasureT-loop3
-μ-loop3 records out size count book places parents rows ends next at i from to a j early t o k code reach n best₀ e₀ best e = n - e
+μ-loop3 records out size count book places parents rows ends next at i from to event j t o request w k code asset kind reach n best₀ e₀ best e = n - e
 
 abbrev Inv-loop : tie.InvT-loop
 Inv-loop records out₀ size count book₀ places parents rows₀ ends₀ next₀ at₀ i₀ out book rows ends next at i = (i ≤ count) × (Upto book₀ records out₀ i book out at) × (Quiet next (book .players)) × (length (book .entries) ≡ 64) × (length (book .players) ≡ 16) × (rows ≡ rowsFor book) × (book .assets ≡ book₀ .assets) × (book .assetcount ≡ book₀ .assetcount) × (ends ≡ endsFor book)
@@ -65,77 +72,179 @@ Inv-loop records out₀ size count book₀ places parents rows₀ ends₀ next�
 abbrev μ-loop : tie.MeasureT-loop
 μ-loop records out₀ size count book₀ places parents rows₀ ends₀ next₀ at₀ i₀ out book rows ends next at i = count - i
 
-entries-64 : (c : tie.Start Inv-loop2 μ-loop2 Inv-loop3 μ-loop3 Inv-loop μ-loop) → length (c .args .b .entries) ≡ 64
+-- ## Places on the way of a record, each with the way back to the one before it
+
+abbrev Entered : Type 0
+Entered = tie.Start Inv-loop2 μ-loop2 Inv-loop3 μ-loop3 Inv-loop μ-loop
+
+abbrev Turn : Type 0
+Turn = tie.In-loop Inv-loop2 μ-loop2 Inv-loop3 μ-loop3 Inv-loop μ-loop
+
+-- the record is decoded
+abbrev Read : Type 0
+Read = tie.After-decode Inv-loop2 μ-loop2 Inv-loop3 μ-loop3 Inv-loop μ-loop
+
+-- it holds an event, and the gate has judged it
+abbrev Judged : Type 0
+Judged = tie.After-gate-of Inv-loop2 μ-loop2 Inv-loop3 μ-loop3 Inv-loop μ-loop
+
+-- the event is taken
+abbrev Taken : Type 0
+Taken = tie.After-enum-told2 Inv-loop2 μ-loop2 Inv-loop3 μ-loop3 Inv-loop μ-loop
+
+-- every use that is due has ended
+abbrev AllSettled : Type 0
+AllSettled = tie.Joined2 Inv-loop2 μ-loop2 Inv-loop3 μ-loop3 Inv-loop μ-loop
+
+-- the entry and the code are known
+abbrev Chosen : Type 0
+Chosen = tie.At-match3-came Inv-loop2 μ-loop2 Inv-loop3 μ-loop3 Inv-loop μ-loop
+
+abbrev entered : Turn → Entered
+entered c = c .before .before .before .before .before .before .before .before .before .before .before .before .before
+
+abbrev turn : Read → Turn
+turn c = c .before .before .before
+
+abbrev read : Judged → Read
+read c = c .before .before .before .before .before .before .before
+
+abbrev judged : Taken → Judged
+judged c = c .before .before
+
+abbrev taken : AllSettled → Taken
+taken c = c .before
+
+abbrev all-settled : Chosen → AllSettled
+all-settled c = c .before .before .before .before .before .before .before
+
+-- ## What is known there
+
+entries-64 : (c : Entered) → length (c .args .b .entries) ≡ 64
 entries-64 c = search length-mapped
 
-players-16 : (c : tie.Start Inv-loop2 μ-loop2 Inv-loop3 μ-loop3 Inv-loop μ-loop) → length (c .args .b .players) ≡ 16
+players-16 : (c : Entered) → length (c .args .b .players) ≡ 16
 players-16 c = search length-mapped
 
 -- in a turn there is room for one line more
-in-turn : (c : tie.In-loop Inv-loop2 μ-loop2 Inv-loop3 μ-loop3 Inv-loop μ-loop) → (c .before .loop .i + 1 ≤ (length (c .before .before .before .before .before .before .before .before .before .before .before .before .before .args .records .now) + 12) / 13) × (19 * (c .before .loop .i + 1) ≤ length (c .before .before .before .before .before .before .before .before .before .before .before .before .before .args .out .now))
+in-turn : (c : Turn) → (c .before .loop .i + 1 ≤ (length (entered c .args .records .now) + 12) / 13) × (19 * (c .before .loop .i + 1) ≤ length (entered c .args .out .now))
 in-turn c = (omega arith, omega arith)
 
--- the numbers of the record that is answered
-is-asked : (c : tie.After-gate-code Inv-loop2 μ-loop2 Inv-loop3 μ-loop3 Inv-loop μ-loop) → c .before .before .before .before .read-record .result ≡ askedIn (recordAt (c .before .before .before .before .before .before .before .before .before .before .before .before .before .before .before .before .before .before .before .before .args .records .now) (c .before .before .before .before .before .before .before .before .loop .i))
-is-asked c =
-    let l = c .before .before .before .before .before .before .before .before .loop in
-    c .before .before .before .before .read-record .ensures ∙ ap askedIn (record-part (c .before .before .before .before .before .before .before .before .before .before .before .before .before .before .before .before .before .before .before .before .args .records .now) (l .i) (c .before .before .before .before .before .before .lesser .result - 13 * l .i) (omega arith))
+-- the book before the record, and the record
+abbrev book-at : Turn → Book
+book-at c = c .before .loop .book
 
-is-came : (c : tie.Else2 Inv-loop2 μ-loop2 Inv-loop3 μ-loop3 Inv-loop μ-loop) → Came (c .before .before .before .before .before .before .before .before .before .loop .book) (recordAt (c .before .before .before .before .before .before .before .before .before .before .before .before .before .before .before .before .before .before .before .before .before .args .records .now) (c .before .before .before .before .before .before .before .before .before .loop .i)) (c .before .before .before .before .before .read-record .result)
-is-came c = code-takes (c .before .before .before .before .before .before .before .before .before .loop .book) (recordAt (c .before .before .before .before .before .before .before .before .before .before .before .before .before .before .before .before .before .before .before .before .before .args .records .now) (c .before .before .before .before .before .before .before .before .before .loop .i)) (c .before .before .before .before .before .read-record .result) (c .before .gate-code .result) (is-asked (c .before)) (c .before .gate-code .ensures) (c .if2 .left)
+abbrev record-at : Turn → List ℕ
+record-at c = recordAt (entered c .args .records .now) (c .before .loop .i)
 
-is-player : (c : tie.Else2 Inv-loop2 μ-loop2 Inv-loop3 μ-loop3 Inv-loop μ-loop) → c .before .before .before .before .before .read-record .result .player % 16 ≡ c .before .before .before .before .before .read-record .result .player
-is-player c = let h = is-came c .few-players in omega arith
+is-decoded : (c : Read) → c .decode .result ≡ decoded (record-at (turn c))
+is-decoded c =
+    let i = turn c .before .loop .i in
+    c .decode .ensures ∙ ap decoded (record-part (entered (turn c) .args .records .now) i (c .before .before .lesser .result - 13 * i) (omega arith))
 
-after-settle : (c : tie.Joined3 Inv-loop2 μ-loop2 Inv-loop3 μ-loop3 Inv-loop μ-loop) → (Settled (c .before .before .before .before .before .before .read-record .result .time) (c .before .before .before .before .before .before .before .before .before .before .loop .book) (c .if3 .book) (c .if3 .next)) × (c .if3 .rows ≡ rowsFor (c .if3 .book)) × (c .if3 .ends ≡ endsFor (c .if3 .book))
+abbrev event-at : Judged → Event
+event-at c = c .before .before .before .before .before .event .given .0 .0
+
+is-valid : (c : Judged) → decoded (record-at (turn (read c))) ≡ Valid (event-at c)
+is-valid c = sym (is-decoded (read c)) ∙ c .before .before .before .before .before .event .given .1
+
+is-admitted : (c : Taken) → Admitted (book-at (turn (read (judged c)))) (record-at (turn (read (judged c)))) (event-at (judged c))
+is-admitted c =
+    let j = judged c in
+    admitted (book-at (turn (read j))) (record-at (turn (read j))) (event-at j) (is-valid j) (j .gate-of .result) (j .gate-of .ensures) (c .enum-told2 .given .1)
+
+is-player : (c : Taken) → event-at (judged c) .player % 16 ≡ event-at (judged c) .player
+is-player c = let h = is-admitted c .few-players in omega arith
+
+after-settle : (c : AllSettled) → (Settled (event-at (judged (taken c)) .time) (book-at (turn (read (judged (taken c))))) (c .if2 .book) (c .if2 .next)) × (c .if2 .rows ≡ rowsFor (c .if2 .book)) × (c .if2 .ends ≡ endsFor (c .if2 .book))
 after-settle c =
-    let l = c .before .before .before .before .before .before .before .before .before .before .loop in
-    let t = c .before .before .before .before .before .before .read-record .result .time in
+    let l = turn (read (judged (taken c))) .before .loop in
+    let t = event-at (judged (taken c)) .time in
     ⊎-elim
     (λ w. (
-      settled-by t (l .book) (c .if3 .book) (l .inv .3) (l .inv .4) (c .if3 .next) (w .1 .p) (w .1 .inv .0) (w .2 .left) (w .3 ∙ w .1 .inv .1) (w .6 ∙ w .1 .inv .2),
+      settled-by t (l .book) (c .if2 .book) (l .inv .3) (l .inv .4) (c .if2 .next) (w .1 .p) (w .1 .inv .0) (w .2 .left) (w .3 ∙ w .1 .inv .1) (w .6 ∙ w .1 .inv .2),
       w .4 ∙ w .1 .inv .3 ∙ ap rowsFor (sym (w .3)),
       w .5 ∙ w .1 .inv .4 ∙ ap endsFor (sym (w .3)),
     ))
     (λ w. (
-      settled-still t (l .book) (c .if3 .book) (l .inv .3) (l .inv .4) (l .next) (c .if3 .next) (l .inv .2) (w .0 .left) (w .1) (w .4),
+      settled-still t (l .book) (c .if2 .book) (l .inv .3) (l .inv .4) (l .next) (c .if2 .next) (l .inv .2) (w .0 .left) (w .1) (w .4),
       w .2 ∙ l .inv .5 ∙ ap rowsFor (sym (w .1)),
       w .3 ∙ l .inv .8 ∙ ap endsFor (sym (w .1)),
     ))
-    (c .if3 .came)
+    (c .if2 .came)
 
 -- settling leaves the assets
-assets-kept : (c : tie.Joined3 Inv-loop2 μ-loop2 Inv-loop3 μ-loop3 Inv-loop μ-loop) → (c .if3 .book .assets ≡ c .before .before .before .before .before .before .before .before .before .before .before .before .before .before .before .before .before .before .before .before .before .before .args .b .assets) × (c .if3 .book .assetcount ≡ c .before .before .before .before .before .before .before .before .before .before .before .before .before .before .before .before .before .before .before .before .before .before .args .b .assetcount)
+assets-kept : (c : AllSettled) → (c .if2 .book .assets ≡ entered (turn (read (judged (taken c)))) .args .b .assets) × (c .if2 .book .assetcount ≡ entered (turn (read (judged (taken c)))) .args .b .assetcount)
 unfolding settledBook
 assets-kept c =
     let z = after-settle c .0 .is-settled in
-    (ap (λ (m : Book). m .assets) z ∙ c .before .before .before .before .before .before .before .before .before .before .loop .inv .6, ap (λ (m : Book). m .assetcount) z ∙ c .before .before .before .before .before .before .before .before .before .before .loop .inv .7)
+    let l = turn (read (judged (taken c))) .before .loop in
+    (ap (λ (m : Book). m .assets) z ∙ l .inv .6, ap (λ (m : Book). m .assetcount) z ∙ l .inv .7)
 
-planned : (c : tie.Joined6 Inv-loop2 μ-loop2 Inv-loop3 μ-loop3 Inv-loop μ-loop) → Planned (c .before .before .before .before .before .before .before .if3 .book) (eventIn (recordAt (c .before .before .before .before .before .before .before .before .before .before .before .before .before .before .before .before .before .before .before .before .before .before .before .before .before .before .before .before .before .args .records .now) (c .before .before .before .before .before .before .before .before .before .before .before .before .before .before .before .before .before .loop .i))) (openAt (c .before .before .before .before .before .before .before .if3 .book .players) (c .before .before .before .before .before .before .before .before .before .before .before .before .before .read-record .result .player % 16)) (c .before .before .before .before .before .before .before .before .before .before .before .before .before .read-record .result .operation) (c .if6 .k) (c .if6 .code)
+-- the match leaves the request
+request-kept : (c : Chosen) → c .match3 .request ≡ event-at (judged (taken (all-settled c))) .request
+request-kept c =
+    ⊎-elim (λ w. w .14 ∙ sym (w .1 .given .1)) (λ v. ⊎-elim (λ w. w .2) (λ w. w .2) v) (c .match3 .came)
+
+-- the use that the asking player has open
+abbrev open-at : Chosen → Open
+open-at c = openAt (all-settled c .if2 .book .players) (event-at (judged (taken (all-settled c))) .player % 16)
+
+planned : (c : Chosen) → Planned (all-settled c .if2 .book) (event-at (judged (taken (all-settled c)))) (open-at c) (c .match3 .k) (c .match3 .code)
 planned c =
-    let n = c .before .before .before .before .before .before .before .if3 .book in
-    let a = c .before .before .before .before .before .before .before .before .before .before .before .before .before .read-record .result in
-    let e = eventIn (recordAt (c .before .before .before .before .before .before .before .before .before .before .before .before .before .before .before .before .before .before .before .before .before .before .before .before .before .before .before .before .before .args .records .now) (c .before .before .before .before .before .before .before .before .before .before .before .before .before .before .before .before .before .loop .i)) in
-    let came = is-came (c .before .before .before .before .before .before .before .before) in
-    let kept = assets-kept (c .before .before .before .before .before .before .before) in
-    let o = openAt (n .players) (a .player % 16) in
-    let ho : o ≡ openAt (n .players) (e .player) = ap (openAt (n .players)) (is-player (c .before .before .before .before .before .before .before .before) ∙ came .player) in
-    let ht : e .time ≤ latestTime = omega (arith, came .early, came .time) in
+    let s = all-settled c in
+    let n = s .if2 .book in
+    let e = event-at (judged (taken s)) in
+    let came = is-admitted (taken s) in
+    let kept = assets-kept s in
+    let start = entered (turn (read (judged (taken s)))) in
+    let o = open-at c in
+    let ho : o ≡ openAt (n .players) (e .player) = ap (openAt (n .players)) (is-player (taken s)) in
+    let ht : e .time ≤ latestTime = came .early in
     ⊎-elim
     (λ w.
-    let r = w .3 .result in
-    let tables = c .before .before .before .before .before .before .before .before .before .before .before .before .before .before .before .before .before .before .before .before .before .before .fill-places .ensures in
-    let hr = w .3 .ensures ∙ ap₂ (λ (x y : List ℕ). reachAt x y (a .asset)) (tables .0) (tables .1) in
-    let end : w .7 .e ≡ w .6 .result = omega (arith, w .7 .inv .0, w .8 .left) in
-    planned-begin n e o (a .operation) (a .asset) (a .kind) (c .if6 .k) (c .if6 .code) (w .6 .result) r (w .7 .best)
-    ho (came .operation) (w .0 .taken) (came .asset) (came .kind)
-    (usable-is n (c .before .before .before .before .before .before .before .before .before .before .before .before .before .before .before .before .before .before .before .before .before .before .before .before .before .before .before .before .before .args .b .assets) (c .before .before .before .before .before .before .before .before .before .before .before .before .before .before .before .before .before .before .before .before .before .before .before .before .before .before .before .before .before .args .b .assetcount) (a .asset) r (kept .0) (kept .1) (omega arith) hr)
-    (parent-is n (c .before .before .before .before .before .before .before .before .before .before .before .before .before .before .before .before .before .before .before .before .before .before .before .before .before .before .before .before .before .args .b .assets) (c .before .before .before .before .before .before .before .before .before .before .before .before .before .before .before .before .before .before .before .before .before .before .before .before .before .before .before .before .before .args .b .assetcount) (a .asset) r (kept .0) (kept .1) (omega arith) hr)
-    (w .6 .ensures ∙ ap (looked (isOn o) (r .usable)) (w .5 .ensures))
-    (w .7 .inv .2 ∙ ap (bestAfter (n .entries) (a .asset) (r .parent) (a .kind) (a .time)) end ∙ ap (λ (t : ℕ). bestAfter (n .entries) (a .asset) (r .parent) (a .kind) t (w .6 .result)) (came .time))
-    ht (w .11) (w .12 ∙ w .10 .ensures ∙ ap (λ (k : ℕ). beginCode (isOn o) (r .usable) (w .7 .best .suits) (ltb k 64)) (sym (w .11))))
-    (λ w. planned-further n e o (a .operation) (c .if6 .k) (c .if6 .code) ho (came .operation) (w .0 .left) ht (w .1) (w .2 ∙ c .before .before .further-code .ensures))
-    (c .if6 .came)
+    let sort = w .1 .given .0 .0 in
+    let asset = w .1 .given .0 .1 .0 in
+    let kind = w .3 .result in
+    let r = w .6 .result in
+    let tables = c .before .before .before .before .before .before .before .before .before .before .before .before .before .before .before .before .before .before .before .before .before .before .before .before .before .before .fill-places .ensures in
+    let hr = w .6 .ensures ∙ ap₂ (λ (x y : List ℕ). reachAt x y asset) (tables .0) (tables .1) in
+    let end : w .10 .e ≡ w .9 .result = omega (arith, w .10 .inv .0, w .11 .left) in
+    planned-begin n e o sort asset kind (c .match3 .k) (c .match3 .code) (w .9 .result) r (w .10 .best)
+    ho (w .1 .given .1) (w .3 .ensures)
+    (usable-is n (start .args .b .assets) (start .args .b .assetcount) asset r (kept .0) (kept .1) (omega arith) hr)
+    (parent-is n (start .args .b .assets) (start .args .b .assetcount) asset r (kept .0) (kept .1) (omega arith) hr)
+    (w .9 .ensures ∙ ap (looked (isOn o) (r .usable)) (w .8 .ensures))
+    (w .10 .inv .2 ∙ ap (bestAfter (n .entries) asset (r .parent) kind (e .time)) end)
+    ht (w .15) (w .16 ∙ w .13 .ensures ∙ ap (λ (k : ℕ). beginCode (isOn o) (r .usable) (w .10 .best .suits) (ltb k 64)) (sym (w .15))))
+    (λ v.
+    let code = c .before .further-code .ensures in
+    ⊎-elim
+    (λ w. planned-continue n e o ho (c .match3 .k) (c .match3 .code) (w .3) (w .4 ∙ code) ht (w .1 .given .1))
+    (λ w. planned-stop n e o ho (c .match3 .k) (c .match3 .code) (w .3) (w .4 ∙ code) (w .1 .given .1))
+    v)
+    (c .match3 .came)
+
+-- a turn that leaves the book: one line more, and all that stands beside the book stays
+kept-turn :
+    (c : Turn) (a : Answer) (out : List ℕ) (at : ℕ) →
+    stepRecord (book-at c) (record-at c) ≡ record { answer = a; book = book-at c } →
+    (at ≡ lineEnd a (c .before .loop .at) (length (c .before .loop .out))) × (out ≡ lineBuffer a (c .before .loop .at) (c .before .loop .out)) × (at ≤ c .before .loop .at + 19) →
+    Inv-loop (entered c .args .records .now) (entered c .args .out .now) (length (entered c .args .records .now)) ((length (entered c .args .records .now) + 12) / 13) (entered c .args .b) [] [] [] [] 0 0 0 out (book-at c) (c .before .loop .rows) (c .before .loop .ends) (c .before .loop .next) at (c .before .loop .i + 1)
+kept-turn c a out at e p =
+    let l = c .before .loop in
+    let t = in-turn c in
+    let g = entered c .args in (
+      t .0,
+      upto-next (g .b) (g .records .now) (g .out .now) (l .i) (l .book) (l .out) (l .at) (l .inv .1) (t .1) a (l .book) out at e p,
+      l .inv .2,
+      l .inv .3,
+      l .inv .4,
+      l .inv .5,
+      l .inv .6,
+      l .inv .7,
+      l .inv .8,
+    )
 
 add-count : tie.Need-add-count Inv-loop2 μ-loop2 Inv-loop3 μ-loop3 Inv-loop μ-loop
 add-count c = omega arith
@@ -159,12 +268,13 @@ ends-of-requires c κs = tt
 
 loop-holds : tie.Need-loop-holds Inv-loop2 μ-loop2 Inv-loop3 μ-loop3 Inv-loop μ-loop
 loop-holds c =
-    let a = c .before .before .before .before .before .before .before .before .before .before .before .args in (
+    let start = c .before .before .before .before .before .before .before .before .before .before .before in
+    let a = start .args in (
       omega arith,
       upto-none (a .b) (a .records .now) (a .out .now),
       quiet-start (a .b .players),
-      entries-64 (c .before .before .before .before .before .before .before .before .before .before .before),
-      players-16 (c .before .before .before .before .before .before .before .before .before .before .before),
+      entries-64 start,
+      players-16 start,
       c .before .before .rows-of .ensures,
       refl,
       refl,
@@ -183,20 +293,42 @@ lesser-requires c κs = tt
 add-i : tie.Need-add-i Inv-loop2 μ-loop2 Inv-loop3 μ-loop3 Inv-loop μ-loop
 add-i c = omega arith
 
-sub-read-record : tie.Need-sub-read-record Inv-loop2 μ-loop2 Inv-loop3 μ-loop3 Inv-loop μ-loop
-sub-read-record c = omega arith
+sub-decode : tie.Need-sub-decode Inv-loop2 μ-loop2 Inv-loop3 μ-loop3 Inv-loop μ-loop
+sub-decode c = search needs
 
-part-read-record-start :
-    tie.Need-part-read-record-start Inv-loop2 μ-loop2 Inv-loop3 μ-loop3 Inv-loop μ-loop
-part-read-record-start c = omega arith
+part-decode-start : tie.Need-part-decode-start Inv-loop2 μ-loop2 Inv-loop3 μ-loop3 Inv-loop μ-loop
+part-decode-start c = search needs
 
-part-read-record-end :
-    tie.Need-part-read-record-end Inv-loop2 μ-loop2 Inv-loop3 μ-loop3 Inv-loop μ-loop
-part-read-record-end c = omega arith
+part-decode-end : tie.Need-part-decode-end Inv-loop2 μ-loop2 Inv-loop3 μ-loop3 Inv-loop μ-loop
+part-decode-end c = search needs
 
-read-record-requires :
-    tie.Need-read-record-requires Inv-loop2 μ-loop2 Inv-loop3 μ-loop3 Inv-loop μ-loop
-read-record-requires c κs = tt
+decode-requires : tie.Need-decode-requires Inv-loop2 μ-loop2 Inv-loop3 μ-loop3 Inv-loop μ-loop
+decode-requires c κs = tt
+
+enum-known-code : tie.Need-enum-known-code Inv-loop2 μ-loop2 Inv-loop3 μ-loop3 Inv-loop μ-loop
+enum-known-code c = search needs
+
+refused-requires : tie.Need-refused-requires Inv-loop2 μ-loop2 Inv-loop3 μ-loop3 Inv-loop μ-loop
+refused-requires c κs = tt
+
+put-line-requires : tie.Need-put-line-requires Inv-loop2 μ-loop2 Inv-loop3 μ-loop3 Inv-loop μ-loop
+put-line-requires c κs = tt
+
+loop-less : tie.Need-loop-less Inv-loop2 μ-loop2 Inv-loop3 μ-loop3 Inv-loop μ-loop
+loop-less c = omega arith
+
+loop-again : tie.Need-loop-again Inv-loop2 μ-loop2 Inv-loop3 μ-loop3 Inv-loop μ-loop
+loop-again c =
+    let r = c .before .before .before .before .before .before .before .before in
+    let x = c .before .before .before .refused in
+    let p = c .before .before .put-line in
+    kept-turn (turn r) (x .result) (p .last .0) (p .result)
+    (way-invalid (book-at (turn r)) (record-at (turn r)) (c .before .before .before .before .before .before .code .given .0 .0) (sym (is-decoded r) ∙ c .before .before .before .before .before .before .code .given .1)
+    ∙ ap (λ (a : Answer). record { answer = a; book = book-at (turn r) }) (sym (x .ensures)))
+    (p .ensures)
+
+enum-known-event : tie.Need-enum-known-event Inv-loop2 μ-loop2 Inv-loop3 μ-loop3 Inv-loop μ-loop
+enum-known-event c = search needs
 
 cast-j : tie.Need-cast-j Inv-loop2 μ-loop2 Inv-loop3 μ-loop3 Inv-loop μ-loop
 cast-j c = search needs
@@ -208,45 +340,59 @@ element-copy-out-asking :
     tie.Need-element-copy-out-asking Inv-loop2 μ-loop2 Inv-loop3 μ-loop3 Inv-loop μ-loop
 element-copy-out-asking c = search needs
 
-gate-code-requires :
-    tie.Need-gate-code-requires Inv-loop2 μ-loop2 Inv-loop3 μ-loop3 Inv-loop μ-loop
-gate-code-requires c κs = tt
+gate-of-requires : tie.Need-gate-of-requires Inv-loop2 μ-loop2 Inv-loop3 μ-loop3 Inv-loop μ-loop
+gate-of-requires c κs = tt
 
-early-answer-requires :
-    tie.Need-early-answer-requires Inv-loop2 μ-loop2 Inv-loop3 μ-loop3 Inv-loop μ-loop
-early-answer-requires c κs = tt
+enum-known-code-2 : tie.Need-enum-known-code-2 Inv-loop2 μ-loop2 Inv-loop3 μ-loop3 Inv-loop μ-loop
+enum-known-code-2 c = search needs
 
-put-line-requires : tie.Need-put-line-requires Inv-loop2 μ-loop2 Inv-loop3 μ-loop3 Inv-loop μ-loop
-put-line-requires c κs = tt
+refused-requires-2 : tie.Need-refused-requires-2 Inv-loop2 μ-loop2 Inv-loop3 μ-loop3 Inv-loop μ-loop
+refused-requires-2 c κs = tt
 
-loop-less : tie.Need-loop-less Inv-loop2 μ-loop2 Inv-loop3 μ-loop3 Inv-loop μ-loop
-loop-less c = omega arith
+put-line-requires-2 :
+    tie.Need-put-line-requires-2 Inv-loop2 μ-loop2 Inv-loop3 μ-loop3 Inv-loop μ-loop
+put-line-requires-2 c κs = tt
 
-loop-again : tie.Need-loop-again Inv-loop2 μ-loop2 Inv-loop3 μ-loop3 Inv-loop μ-loop
-loop-again c =
-    let a = c .before .before .before .before .before .before .before .before .before .before .before .before .before .before .before .before .before .before .before .before .before .before .before .before .before .before .before .args in
-    let l = c .before .before .before .before .before .before .before .before .before .before .before .before .before .before .before .loop in
-    let p = c .before .before .put-line in
-    let s = a .records .now in
-    let t = in-turn (c .before .before .before .before .before .before .before .before .before .before .before .before .before .before) in
-    let e : stepRecord (l .book) (recordAt s (l .i)) ≡ record { answer = c .before .before .before .early-answer .result; book = l .book } =
-    way-early (l .book) (recordAt s (l .i)) (c .before .before .before .before .before .before .before .before .before .before .before .read-record .result) (c .before .before .before .before .before .before .before .gate-code .result) (is-asked (c .before .before .before .before .before .before .before)) (c .before .before .before .before .before .before .before .gate-code .ensures) (c .before .before .before .before .before .before .if2 .taken)
-    ∙ ap (λ (x : Answer). record { answer = x; book = l .book }) (sym (c .before .before .before .early-answer .ensures)) in (
-      t .0,
-      upto-next (a .b) s (a .out .now) (l .i) (l .book) (l .out) (l .at) (l .inv .1) (t .1) (c .before .before .before .early-answer .result) (l .book) (p .last .0) (p .result) e (p .ensures),
-      l .inv .2,
-      l .inv .3,
-      l .inv .4,
-      l .inv .5,
-      l .inv .6,
-      l .inv .7,
-      l .inv .8,
-    )
+loop-less-2 : tie.Need-loop-less-2 Inv-loop2 μ-loop2 Inv-loop3 μ-loop3 Inv-loop μ-loop
+loop-less-2 c = omega arith
+
+loop-again-2 : tie.Need-loop-again-2 Inv-loop2 μ-loop2 Inv-loop3 μ-loop3 Inv-loop μ-loop
+loop-again-2 c =
+    let j = c .before .before .before .before .before .before .before .before in
+    let x = c .before .before .before .refused2 in
+    let p = c .before .before .put-line2 in
+    let b = book-at (turn (read j)) in
+    kept-turn (turn (read j)) (x .result) (p .last .0) (p .result)
+    (way-refused b (record-at (turn (read j))) (event-at j) (is-valid j) (j .gate-of .result) (c .before .before .before .before .before .before .code2 .given .0 .0) (j .gate-of .ensures) (c .before .before .before .before .before .before .code2 .given .1)
+    ∙ ap (λ (a : Answer). record { answer = a; book = b }) (sym (x .ensures)))
+    (p .ensures)
+
+enum-told : tie.Need-enum-told Inv-loop2 μ-loop2 Inv-loop3 μ-loop3 Inv-loop μ-loop
+enum-told c = search needs
+
+put-line-requires-3 :
+    tie.Need-put-line-requires-3 Inv-loop2 μ-loop2 Inv-loop3 μ-loop3 Inv-loop μ-loop
+put-line-requires-3 c κs = tt
+
+loop-less-3 : tie.Need-loop-less-3 Inv-loop2 μ-loop2 Inv-loop3 μ-loop3 Inv-loop μ-loop
+loop-less-3 c = omega arith
+
+loop-again-3 : tie.Need-loop-again-3 Inv-loop2 μ-loop2 Inv-loop3 μ-loop3 Inv-loop μ-loop
+loop-again-3 c =
+    let j = c .before .before .before .before .before .before .before in
+    let p = c .before .before .put-line3 in
+    kept-turn (turn (read j)) _ (p .last .0) (p .result)
+    (way-resent (book-at (turn (read j))) (record-at (turn (read j))) (event-at j) (is-valid j) (j .gate-of .result) (j .gate-of .ensures) (c .before .before .before .before .before .enum-told .given .1))
+    (p .ensures)
+
+enum-told-2 : tie.Need-enum-told-2 Inv-loop2 μ-loop2 Inv-loop3 μ-loop3 Inv-loop μ-loop
+enum-told-2 c = search needs
 
 loop2-holds : tie.Need-loop2-holds Inv-loop2 μ-loop2 Inv-loop3 μ-loop3 Inv-loop μ-loop
 unfolding leastEnd
 loop2-holds c =
-    (omega arith, settle-none _ _, refl, c .before .before .before .before .before .before .before .before .before .before .loop .inv .5, c .before .before .before .before .before .before .before .before .before .before .loop .inv .8, c .before .before .before .before .before .before .before .before .before .before .loop .inv .4)
+    let l = turn (read (judged (c .before))) .before .loop in
+    (omega arith, settle-none _ _, refl, l .inv .5, l .inv .8, l .inv .4)
 
 mul-end : tie.Need-mul-end Inv-loop2 μ-loop2 Inv-loop3 μ-loop3 Inv-loop μ-loop
 mul-end c = search needs
@@ -267,8 +413,7 @@ cast-k c = search needs
 mul-x : tie.Need-mul-x Inv-loop2 μ-loop2 Inv-loop3 μ-loop3 Inv-loop μ-loop
 mul-x c = search needs
 
-element-copy-out-x :
-    tie.Need-element-copy-out-x Inv-loop2 μ-loop2 Inv-loop3 μ-loop3 Inv-loop μ-loop
+element-copy-out-x : tie.Need-element-copy-out-x Inv-loop2 μ-loop2 Inv-loop3 μ-loop3 Inv-loop μ-loop
 element-copy-out-x c = search needs
 
 ended-meters-requires :
@@ -278,8 +423,7 @@ ended-meters-requires c κs = tt
 mul-y : tie.Need-mul-y Inv-loop2 μ-loop2 Inv-loop3 μ-loop3 Inv-loop μ-loop
 mul-y c = search needs
 
-element-set-from-y :
-    tie.Need-element-set-from-y Inv-loop2 μ-loop2 Inv-loop3 μ-loop3 Inv-loop μ-loop
+element-set-from-y : tie.Need-element-set-from-y Inv-loop2 μ-loop2 Inv-loop3 μ-loop3 Inv-loop μ-loop
 element-set-from-y c = search needs
 
 row-of-requires : tie.Need-row-of-requires Inv-loop2 μ-loop2 Inv-loop3 μ-loop3 Inv-loop μ-loop
@@ -306,8 +450,7 @@ shut-player-requires c κs = tt
 mul-q : tie.Need-mul-q Inv-loop2 μ-loop2 Inv-loop3 μ-loop3 Inv-loop μ-loop
 mul-q c = search needs
 
-element-set-from-q :
-    tie.Need-element-set-from-q Inv-loop2 μ-loop2 Inv-loop3 μ-loop3 Inv-loop μ-loop
+element-set-from-q : tie.Need-element-set-from-q Inv-loop2 μ-loop2 Inv-loop3 μ-loop3 Inv-loop μ-loop
 element-set-from-q c = search needs
 
 mul-ends : tie.Need-mul-ends Inv-loop2 μ-loop2 Inv-loop3 μ-loop3 Inv-loop μ-loop
@@ -329,17 +472,19 @@ loop2-again : tie.Need-loop2-again Inv-loop2 μ-loop2 Inv-loop3 μ-loop3 Inv-loo
 unfolding settledTo
 loop2-again c =
     let l = c .before .before .loop2 in
-    let b = c .before .before .before .before .before .before .before .before .before .before .before .before .before .loop .book in
-    let t = c .before .before .before .before .before .before .before .before .before .read-record .result .time in
+    let start = c .before .before .before .before in
+    let g = turn (read (judged start)) .before .loop in
+    let b = g .book in
+    let t = event-at (judged start) .time in
     let ps = l .book .players in
     let es = l .book .entries in
     let o = openAt ps (l .p) in
-    let ht = is-came (c .before .before .before .before) .early in
-    let len : length es ≡ 64 = ap (λ (m : Book). length (m .entries)) (l .inv .1) ∙ settled-length t (take (l .p) (b .players)) (b .entries) ∙ c .before .before .before .before .before .before .before .before .before .before .before .before .before .loop .inv .3 in
-    let few : l .p < length (b .players) = omega (arith, c .before .before .before .before .before .before .before .before .before .before .before .before .before .loop .inv .4) in
+    let ht = is-admitted start .early in
+    let len : length es ≡ 64 = ap (λ (m : Book). length (m .entries)) (l .inv .1) ∙ settled-length t (take (l .p) (b .players)) (b .entries) ∙ g .inv .3 in
+    let few : l .p < length (b .players) = omega (arith, g .inv .4) in
     let here : l .p < length ps = omega (arith, l .inv .5) in
     let due : leb (getD (l .ends) (l .p) 0) t ≡ expired t o = reached ps (l .ends) (l .inv .4) t (l .p) ht here in
-    let one : (c .if4 .book ≡ settleOne t (l .p) (l .book)) × (c .if4 .rows ≡ rowsFor (c .if4 .book)) × (c .if4 .ends ≡ endsFor (c .if4 .book)) × (c .if4 .next ≡ leastEnd t (b .players) (l .p + 1)) =
+    let one : (c .if3 .book ≡ settleOne t (l .p) (l .book)) × (c .if3 .rows ≡ rowsFor (c .if3 .book)) × (c .if3 .ends ≡ endsFor (c .if3 .book)) × (c .if3 .next ≡ leastEnd t (b .players) (l .p + 1)) =
     ⊎-elim
     (λ w.
     let d : expired t o ≡ true = sym due ∙ le-leb (getD (l .ends) (l .p) 0) t (w .0 .taken) in
@@ -357,7 +502,7 @@ loop2-again c =
       v .2 ∙ l .inv .3 ∙ ap rowsFor (sym (v .1)),
     ))
     (w .4 .came) in
-    let settles : c .if4 .book ≡ settleOne t (l .p) (l .book) =
+    let settles : c .if3 .book ≡ settleOne t (l .p) (l .book) =
     w .7
     ∙ ap (λ (x : Player). with (w .4 .book) (w .4 .book .entries) (set (w .4 .book .players) (l .p) x)) (w .6 .ensures)
     ∙ ap (λ (x : Book). with x (x .entries) (set (x .players) (l .p) (shut t (playerAt (x .players) (l .p))))) (inner .0) in (
@@ -375,7 +520,7 @@ loop2-again c =
       w .4 ∙ l .inv .4 ∙ ap endsFor (sym (w .2)),
       w .5 ∙ w .1 .ensures ∙ ap (min (l .next)) (kept-end ps (l .ends) (l .inv .4) (l .p) here) ∙ end-on t (l .p) b (l .book) (l .next) (l .inv .1) few (l .inv .2) d,
     ))
-    (c .if4 .came) in (
+    (c .if3 .came) in (
       omega arith,
       one .0 ∙ ap (settleOne t (l .p)) (l .inv .1) ∙ settle-turn t (l .p) b few,
       one .3,
@@ -391,12 +536,22 @@ element-copy-out-player-2 :
     tie.Need-element-copy-out-player-2 Inv-loop2 μ-loop2 Inv-loop3 μ-loop3 Inv-loop μ-loop
 element-copy-out-player-2 c = search needs
 
+wire-of-requires : tie.Need-wire-of-requires Inv-loop2 μ-loop2 Inv-loop3 μ-loop3 Inv-loop μ-loop
+wire-of-requires c κs = tt
+
 cast-k-2 : tie.Need-cast-k-2 Inv-loop2 μ-loop2 Inv-loop3 μ-loop3 Inv-loop μ-loop
 cast-k-2 c = search needs
 
 further-code-requires :
     tie.Need-further-code-requires Inv-loop2 μ-loop2 Inv-loop3 μ-loop3 Inv-loop μ-loop
 further-code-requires c κs = tt
+
+enum-known-request : tie.Need-enum-known-request Inv-loop2 μ-loop2 Inv-loop3 μ-loop3 Inv-loop μ-loop
+enum-known-request c = search needs
+
+kind-number-requires :
+    tie.Need-kind-number-requires Inv-loop2 μ-loop2 Inv-loop3 μ-loop3 Inv-loop μ-loop
+kind-number-requires c κs = tt
 
 reach-at-requires : tie.Need-reach-at-requires Inv-loop2 μ-loop2 Inv-loop3 μ-loop3 Inv-loop μ-loop
 reach-at-requires c κs = tt
@@ -405,21 +560,20 @@ at-most-64-requires :
     tie.Need-at-most-64-requires Inv-loop2 μ-loop2 Inv-loop3 μ-loop3 Inv-loop μ-loop
 at-most-64-requires c κs = tt
 
-looked-at-requires :
-    tie.Need-looked-at-requires Inv-loop2 μ-loop2 Inv-loop3 μ-loop3 Inv-loop μ-loop
+looked-at-requires : tie.Need-looked-at-requires Inv-loop2 μ-loop2 Inv-loop3 μ-loop3 Inv-loop μ-loop
 looked-at-requires c κs = tt
 
 loop3-holds : tie.Need-loop3-holds Inv-loop2 μ-loop2 Inv-loop3 μ-loop3 Inv-loop μ-loop
 unfolding bestAfter choiceAfter chooseOf anyOf
 loop3-holds c =
-    let m = looked-most (isOn (openAt (c .before .before .before .before .before .before .before .before .before .before .before .before .before .if3 .book .players) (c .before .before .before .before .before .before .before .before .before .before .before .before .before .before .before .before .before .before .before .read-record .result .player % 16))) (c .before .before .before .reach-at .result .usable) (c .before .at-most-64 .result) in
-    (omega arith, omega (arith, m, c .looked-at .ensures, c .before .at-most-64 .ensures, min-le-right (c .before .before .before .before .before .before .before .before .before .before .before .before .before .if3 .book .entrycount) 64), refl)
+    let n = c .before .before .before .before .before .before .before .before .before .before .before .before .before .before .before .before .if2 .book in
+    let m = looked-most (isOn (openAt (n .players) (event-at (judged (taken (c .before .before .before .before .before .before .before .before .before .before .before .before .before .before .before .before))) .player % 16))) (c .before .before .before .reach-at .result .usable) (c .before .at-most-64 .result) in
+    (omega arith, omega (arith, m, c .looked-at .ensures, c .before .at-most-64 .ensures, min-le-right (n .entrycount) 64), refl)
 
 mul-row : tie.Need-mul-row Inv-loop2 μ-loop2 Inv-loop3 μ-loop3 Inv-loop μ-loop
 mul-row c = search needs
 
-array-copy-out-row :
-    tie.Need-array-copy-out-row Inv-loop2 μ-loop2 Inv-loop3 μ-loop3 Inv-loop μ-loop
+array-copy-out-row : tie.Need-array-copy-out-row Inv-loop2 μ-loop2 Inv-loop3 μ-loop3 Inv-loop μ-loop
 array-copy-out-row c = search needs
 
 consider-row-requires :
@@ -435,25 +589,34 @@ loop3-less c = omega arith
 loop3-again : tie.Need-loop3-again Inv-loop2 μ-loop2 Inv-loop3 μ-loop3 Inv-loop μ-loop
 loop3-again c =
     let l = c .before .before .before .loop3 in
-    let n = c .before .before .before .before .before .before .before .before .before .before .before .before .before .before .before .before .before .if3 .book in
-    let es = n .entries in
-    let a = c .before .before .before .before .before .before .before .before .before .before .before .before .before .before .before .before .before .before .before .before .before .before .before .read-record .result in
+    let s = c .before .before .before .before .before .before .before .before .before .before .before .before .before .before .before .before .before .before .before .before in
+    let es = s .if2 .book .entries in
+    let t = event-at (judged (taken s)) .time in
+    let asset = c .before .before .before .before .before .before .before .before .before .before .before .before .request .given .0 .1 .0 in
+    let kind = c .before .before .before .before .before .before .before .before .before .before .kind-number .result in
     let r = c .before .before .before .before .before .before .before .reach-at .result in
-    let z = after-settle (c .before .before .before .before .before .before .before .before .before .before .before .before .before .before .before .before .before) in
+    let z = after-settle s in
     let small : l .e < length es = omega (arith, z .0 .entries) in
-    let row : getD (c .before .before .before .before .before .before .before .before .before .before .before .before .before .before .before .before .before .if3 .rows) (l .e) noRow ≡ rowOf (limitsAt es (l .e)) (metersAt es (l .e)) = ap (λ (x : List Row). getD x (l .e) noRow) (z .1) ∙ row-at es (l .e) small in (
+    let early : t < noEnd = omega (arith, is-admitted (taken s) .early) in
+    let row : getD (s .if2 .rows) (l .e) noRow ≡ rowOf (limitsAt es (l .e)) (metersAt es (l .e)) = ap (λ (x : List Row). getD x (l .e) noRow) (z .1) ∙ row-at es (l .e) small in (
       omega arith,
       l .inv .1,
       c .consider-row .ensures
-          ∙ ap (λ (x : Row). rowConsidered (a .asset) (r .parent) (a .kind) (a .time) (l .e) x (l .best)) row
-          ∙ row-considered (a .asset) (r .parent) (a .kind) (a .time) (l .e) (limitsAt es (l .e)) (metersAt es (l .e)) (l .best) (is-came (c .before .before .before .before .before .before .before .before .before .before .before .before .before .before .before .before .before .before) .early)
-          ∙ ap (λ (x : Best). considered (a .asset) (r .parent) (a .kind) (a .time) (l .e) (limitsAt es (l .e)) (metersAt es (l .e)) x) (l .inv .2)
-          ∙ sym (best-turn es (a .asset) (r .parent) (a .kind) (a .time) (l .e)),
+          ∙ ap (λ (x : Row). rowConsidered asset (r .parent) kind t (l .e) x (l .best)) row
+          ∙ row-considered asset (r .parent) kind t (l .e) (limitsAt es (l .e)) (metersAt es (l .e)) (l .best) early
+          ∙ ap (λ (x : Best). considered asset (r .parent) kind t (l .e) (limitsAt es (l .e)) (metersAt es (l .e)) x) (l .inv .2)
+          ∙ sym (best-turn es asset (r .parent) kind t (l .e)),
     )
 
 begin-code-requires :
     tie.Need-begin-code-requires Inv-loop2 μ-loop2 Inv-loop3 μ-loop3 Inv-loop μ-loop
 begin-code-requires c κs = tt
+
+enum-told-3 : tie.Need-enum-told-3 Inv-loop2 μ-loop2 Inv-loop3 μ-loop3 Inv-loop μ-loop
+enum-told-3 c = search needs
+
+enum-told-4 : tie.Need-enum-told-4 Inv-loop2 μ-loop2 Inv-loop3 μ-loop3 Inv-loop μ-loop
+enum-told-4 c = search needs
 
 blank-entry-requires :
     tie.Need-blank-entry-requires Inv-loop2 μ-loop2 Inv-loop3 μ-loop3 Inv-loop μ-loop
@@ -502,88 +665,90 @@ end-of-requires c κs = tt
 mul-ends-2 : tie.Need-mul-ends-2 Inv-loop2 μ-loop2 Inv-loop3 μ-loop3 Inv-loop μ-loop
 mul-ends-2 c = search needs
 
-array-write-ends-2 :
-    tie.Need-array-write-ends-2 Inv-loop2 μ-loop2 Inv-loop3 μ-loop3 Inv-loop μ-loop
+array-write-ends-2 : tie.Need-array-write-ends-2 Inv-loop2 μ-loop2 Inv-loop3 μ-loop3 Inv-loop μ-loop
 array-write-ends-2 c = search needs
 
 sooner-requires-2 : tie.Need-sooner-requires-2 Inv-loop2 μ-loop2 Inv-loop3 μ-loop3 Inv-loop μ-loop
 sooner-requires-2 c κs = tt
 
-put-line-requires-2 :
-    tie.Need-put-line-requires-2 Inv-loop2 μ-loop2 Inv-loop3 μ-loop3 Inv-loop μ-loop
-put-line-requires-2 c κs = tt
+put-line-requires-4 :
+    tie.Need-put-line-requires-4 Inv-loop2 μ-loop2 Inv-loop3 μ-loop3 Inv-loop μ-loop
+put-line-requires-4 c κs = tt
 
-loop-less-2 : tie.Need-loop-less-2 Inv-loop2 μ-loop2 Inv-loop3 μ-loop3 Inv-loop μ-loop
-loop-less-2 c = omega (arith, c .before .before .before .before .before .before .before .before .before .before .before .before .before .before .before .before .before .before .before .before .before .before .before .before .before .before .before .before .before .before .before .before .loop-test .taken)
+loop-less-4 : tie.Need-loop-less-4 Inv-loop2 μ-loop2 Inv-loop3 μ-loop3 Inv-loop μ-loop
+loop-less-4 c =
+    omega (arith, c .before .before .before .before .before .before .before .before .before .before .before .before .before .before .before .before .before .before .before .before .before .before .before .before .before .before .before .before .before .before .before .before .before .before .before .before .loop-test .taken)
 
-loop-again-2 : tie.Need-loop-again-2 Inv-loop2 μ-loop2 Inv-loop3 μ-loop3 Inv-loop μ-loop
+loop-again-4 : tie.Need-loop-again-4 Inv-loop2 μ-loop2 Inv-loop3 μ-loop3 Inv-loop μ-loop
 unfolding placed stored
-loop-again-2 c =
-    let a = c .before .before .before .before .before .before .before .before .before .before .before .before .before .before .before .before .before .before .before .before .before .before .before .before .before .before .before .before .before .before .before .before .before .before .before .before .before .before .before .before .before .before .before .before .before .args in
-    let l = c .before .before .before .before .before .before .before .before .before .before .before .before .before .before .before .before .before .before .before .before .before .before .before .before .before .before .before .before .before .before .before .before .before .loop in
-    let p = c .before .before .put-line2 in
-    let s = recordAt (a .records .now) (l .i) in
-    let i = in-turn (c .before .before .before .before .before .before .before .before .before .before .before .before .before .before .before .before .before .before .before .before .before .before .before .before .before .before .before .before .before .before .before .before) in
-    let v = c .before .before .before .before .before .before .before .before .before .before .before .before .before .before .before .before .before .before .before .before .before .before .before .before .before .before .before .before .before .read-record .result in
-    let came = is-came (c .before .before .before .before .before .before .before .before .before .before .before .before .before .before .before .before .before .before .before .before .before .before .before .before) in
-    let t = v .time in
-    let j = v .player % 16 in
-    let n = c .before .before .before .before .before .before .before .before .before .before .before .before .before .before .before .before .before .before .before .before .before .before .before .if3 .book in
+loop-again-4 c =
+    let d = c .before .before .before .before .before .before .before .before .before .before .before .before .before .before .before .before in
+    let s = all-settled d in
+    let r = turn (read (judged (taken s))) in
+    let a = entered r .args in
+    let l = r .before .loop in
+    let p = c .before .before .put-line4 in
+    let i = in-turn r in
+    let e = event-at (judged (taken s)) in
+    let t = e .time in
+    let j = e .player % 16 in
+    let n = s .if2 .book in
     let es = n .entries in
     let ps = n .players in
-    let o = openAt ps j in
-    let z = after-settle (c .before .before .before .before .before .before .before .before .before .before .before .before .before .before .before .before .before .before .before .before .before .before .before) in
-    let kept = assets-kept (c .before .before .before .before .before .before .before .before .before .before .before .before .before .before .before .before .before .before .before .before .before .before .before) in
-    let k = c .before .before .before .before .before .before .before .before .before .before .before .before .before .before .before .before .if6 .k in
-    let x = c .before .before .before .before .before .before .before .before .before .before .before .before .before .if8 .x in
+    let o = open-at d in
+    let w = c .before .before .before .before .before .before .before .before .before .before .before .before .before .before .before .before .before .before .before .before .wire-of in
+    let z = after-settle s in
+    let kept = assets-kept s in
+    let k = d .match3 .k in
+    let x = c .before .before .before .before .before .before .before .before .before .before .before .before .before .if6 .x in
     let part = c .before .before .before .before .before .before .before .before .before .act .result in
     let is-x : x ≡ getD es k noEntry =
-    ⊎-elim (λ w. w .3)
-    (λ w. w .1 ∙ c .before .before .before .before .before .before .before .before .before .before .before .before .before .before .blank-entry .ensures ∙ sym (List·getD-eq-default es noEntry (omega (arith, w .0 .left, z .0 .entries))))
-    (c .before .before .before .before .before .before .before .before .before .before .before .before .before .if8 .came) in
+    ⊎-elim (λ v. v .3)
+    (λ v. v .1 ∙ c .before .before .before .before .before .before .before .before .before .before .before .before .before .before .blank-entry .ensures ∙ sym (List·getD-eq-default es noEntry (omega (arith, v .0 .left, z .0 .entries))))
+    (c .before .before .before .before .before .before .before .before .before .before .before .before .before .if6 .came) in
     let hp =
     c .before .before .before .before .before .before .before .before .before .act .ensures
-    ∙ ap (λ (y : Entry). actOn (v .operation) (k % 256) t (y .limits) (y .meters) o) is-x
-    ∙ ap (λ (u : ℕ). actOn (v .operation) (k % 256) u (limitsAt es k) (metersAt es k) o) (came .time) in
-    let hd = planned (c .before .before .before .before .before .before .before .before .before .before .before .before .before .before .before .before) .acts (c .before .before .before .before .before .before .before .before .before .before .before .before .before .before .before .if7 .taken) part hp in
+    ∙ ap (λ (y : Entry). actOn (d .match3 .request) (k % 256) t (y .limits) (y .meters) o) is-x
+    ∙ ap (λ (q : Request). actOn q (k % 256) t (limitsAt es k) (metersAt es k) o) (request-kept d) in
+    let hd = planned d .acts (c .before .before .before .before .before .before .before .before .before .before .before .before .before .before .before .if5 .taken) part hp in
     let es′ = set es k (record { limits = limitsAt es k; meters = part .meters }) in
     let timed : List Entry → Book = λ xs. record { time = t; assetcount = n .assetcount; entrycount = n .entrycount; assets = n .assets; entries = xs; players = ps } in
-    let done : (c .before .before .before .before .before .before .before .before .if9 .book ≡ timed es′) × (c .before .before .before .before .before .before .before .before .if9 .rows ≡ map rowOfEntry es′) =
+    let done : (c .before .before .before .before .before .before .before .before .if7 .book ≡ timed es′) × (c .before .before .before .before .before .before .before .before .if7 .rows ≡ map rowOfEntry es′) =
     ⊎-elim
-    (λ w.
+    (λ v.
     let y : Entry = record { limits = x .limits; meters = part .meters } in
     let same : set es k y ≡ es′ = ap (λ (u : Entry). set es k (record { limits = u .limits; meters = part .meters })) is-x in (
-      w .3 ∙ ap timed same,
-      w .4 ∙ rows-next es (c .before .before .before .before .before .before .before .before .before .before .before .before .before .before .before .before .before .before .before .before .before .before .before .if3 .rows) k y (w .2 .result) (z .1) (w .2 .ensures) ∙ ap (map rowOfEntry) same,
+      v .3 ∙ ap timed same,
+      v .4 ∙ rows-next es (s .if2 .rows) k y (v .2 .result) (z .1) (v .2 .ensures) ∙ ap (map rowOfEntry) same,
     ))
-    (λ w.
-    let same : es ≡ es′ = sym (set-out es k _ (omega (arith, w .0 .left, z .0 .entries))) in (
-      w .1 ∙ ap timed same,
-      w .2 ∙ z .1 ∙ ap (map rowOfEntry) same,
+    (λ v.
+    let same : es ≡ es′ = sym (set-out es k _ (omega (arith, v .0 .left, z .0 .entries))) in (
+      v .1 ∙ ap timed same,
+      v .2 ∙ z .1 ∙ ap (map rowOfEntry) same,
     ))
-    (c .before .before .before .before .before .before .before .before .if9 .came) in
-    let last : Last = record { number = v .number; operation = v .operation; asset = v .asset; kind = v .kind; answer = part .answer } in
+    (c .before .before .before .before .before .before .before .before .if7 .came) in
+    let last : Last = lastOf e (w .result) (part .answer) in
     let q : Player = record { last = last; current = part .current } in
     let store : Book → Book = λ m. with m (m .entries) (set (m .players) j q) in
-    let is-book : store (c .before .before .before .before .before .before .before .before .if9 .book) ≡ closing n es′ j t last (part .current) = ap store (done .0) in
+    let is-book : store (c .before .before .before .before .before .before .before .before .if7 .book) ≡ closing n es′ j t last (part .current) = ap store (done .0) in
     let small : j < length ps = omega (arith, z .0 .players) in
-    let e : stepRecord (l .book) s ≡ record { answer = part .answer; book = store (c .before .before .before .before .before .before .before .before .if9 .book) } =
-    way-taken (l .book) s v n (record { answer = part .answer; entries = es′; current = part .current }) j came (z .0 .is-settled) hd (is-player (c .before .before .before .before .before .before .before .before .before .before .before .before .before .before .before .before .before .before .before .before .before .before .before .before))
+    let f : stepRecord (l .book) (record-at r) ≡ record { answer = part .answer; book = store (c .before .before .before .before .before .before .before .before .if7 .book) } =
+    way-taken (l .book) (record-at r) e n (record { answer = part .answer; entries = es′; current = part .current }) j (w .result) (is-admitted (taken s)) (z .0 .is-settled) hd (is-player (taken s)) (w .ensures)
     ∙ ap (λ (m : Book). record { answer = part .answer; book = m }) (sym is-book) in (
       i .0,
-      upto-next (a .b) (a .records .now) (a .out .now) (l .i) (l .book) (l .out) (l .at) (l .inv .1) (i .1) (part .answer) (store (c .before .before .before .before .before .before .before .before .if9 .book)) (p .last .0) (p .result) e (p .ensures),
+      upto-next (a .b) (a .records .now) (a .out .now) (l .i) (l .book) (l .out) (l .at) (l .inv .1) (i .1) (part .answer) (store (c .before .before .before .before .before .before .before .before .if7 .book)) (p .last .0) (p .result) f (p .ensures),
       subst (λ (m : Book). Quiet (c .before .before .before .before .sooner2 .result) (m .players)) (sym is-book)
-          (subst (λ (u : ℕ). Quiet u (set ps j q)) (sym (c .before .before .before .before .sooner2 .ensures ∙ ap (min (c .before .before .before .before .before .before .before .before .before .before .before .before .before .before .before .before .before .before .before .before .before .before .before .if3 .next)) (c .before .before .before .before .before .end-of .ensures))) (quiet-store (c .before .before .before .before .before .before .before .before .before .before .before .before .before .before .before .before .before .before .before .before .before .before .before .if3 .next) ps j q (z .0 .quiet) small)),
+          (subst (λ (u : ℕ). Quiet u (set ps j q)) (sym (c .before .before .before .before .sooner2 .ensures ∙ ap (min (s .if2 .next)) (c .before .before .before .before .before .end-of .ensures))) (quiet-store (s .if2 .next) ps j q (z .0 .quiet) small)),
       ap (λ (m : Book). length (m .entries)) is-book ∙ length-set es k _ ∙ z .0 .entries,
       ap (λ (m : Book). length (m .players)) is-book ∙ length-set ps j q ∙ z .0 .players,
       done .1 ∙ ap rowsFor (sym is-book),
       ap (λ (m : Book). m .assets) is-book ∙ kept .0,
       ap (λ (m : Book). m .assetcount) is-book ∙ kept .1,
-      ends-next ps (c .before .before .before .before .before .before .before .before .before .before .before .before .before .before .before .before .before .before .before .before .before .before .before .if3 .ends) (z .2) j q (c .before .before .before .before .before .end-of .result) (c .before .before .before .before .before .end-of .ensures) ∙ ap endsFor (sym is-book),
+      ends-next ps (s .if2 .ends) (z .2) j q (c .before .before .before .before .before .end-of .result) (c .before .before .before .before .before .end-of .ensures) ∙ ap endsFor (sym is-book),
     )
 
-refused-requires : tie.Need-refused-requires Inv-loop2 μ-loop2 Inv-loop3 μ-loop3 Inv-loop μ-loop
-refused-requires c κs = tt
+refused-requires-3 : tie.Need-refused-requires-3 Inv-loop2 μ-loop2 Inv-loop3 μ-loop3 Inv-loop μ-loop
+refused-requires-3 c κs = tt
 
 mul-q-3 : tie.Need-mul-q-3 Inv-loop2 μ-loop2 Inv-loop3 μ-loop3 Inv-loop μ-loop
 mul-q-3 c = search needs
@@ -592,46 +757,50 @@ element-set-from-q-3 :
     tie.Need-element-set-from-q-3 Inv-loop2 μ-loop2 Inv-loop3 μ-loop3 Inv-loop μ-loop
 element-set-from-q-3 c = search needs
 
-put-line-requires-3 :
-    tie.Need-put-line-requires-3 Inv-loop2 μ-loop2 Inv-loop3 μ-loop3 Inv-loop μ-loop
-put-line-requires-3 c κs = tt
+put-line-requires-5 :
+    tie.Need-put-line-requires-5 Inv-loop2 μ-loop2 Inv-loop3 μ-loop3 Inv-loop μ-loop
+put-line-requires-5 c κs = tt
 
-loop-less-3 : tie.Need-loop-less-3 Inv-loop2 μ-loop2 Inv-loop3 μ-loop3 Inv-loop μ-loop
-loop-less-3 c = omega arith
+loop-less-5 : tie.Need-loop-less-5 Inv-loop2 μ-loop2 Inv-loop3 μ-loop3 Inv-loop μ-loop
+loop-less-5 c =
+    omega (arith, c .before .before .before .before .before .before .before .before .before .before .before .before .before .before .before .before .before .before .before .before .before .before .before .before .before .before .loop-test .taken)
 
-loop-again-3 : tie.Need-loop-again-3 Inv-loop2 μ-loop2 Inv-loop3 μ-loop3 Inv-loop μ-loop
-loop-again-3 c =
-    let a = c .before .before .before .before .before .before .before .before .before .before .before .before .before .before .before .before .before .before .before .before .before .before .before .before .before .before .before .before .before .before .before .before .before .before .before .args in
-    let l = c .before .before .before .before .before .before .before .before .before .before .before .before .before .before .before .before .before .before .before .before .before .before .before .loop in
-    let p = c .before .before .put-line3 in
-    let s = recordAt (a .records .now) (l .i) in
-    let i = in-turn (c .before .before .before .before .before .before .before .before .before .before .before .before .before .before .before .before .before .before .before .before .before .before) in
-    let v = c .before .before .before .before .before .before .before .before .before .before .before .before .before .before .before .before .before .before .before .read-record .result in
-    let came = is-came (c .before .before .before .before .before .before .before .before .before .before .before .before .before .before) in
-    let t = v .time in
-    let j = v .player % 16 in
-    let n = c .before .before .before .before .before .before .before .before .before .before .before .before .before .if3 .book in
+loop-again-5 : tie.Need-loop-again-5 Inv-loop2 μ-loop2 Inv-loop3 μ-loop3 Inv-loop μ-loop
+loop-again-5 c =
+    let d = c .before .before .before .before .before .before in
+    let s = all-settled d in
+    let r = turn (read (judged (taken s))) in
+    let a = entered r .args in
+    let l = r .before .loop in
+    let p = c .before .before .put-line5 in
+    let i = in-turn r in
+    let e = event-at (judged (taken s)) in
+    let t = e .time in
+    let j = e .player % 16 in
+    let n = s .if2 .book in
     let es = n .entries in
     let ps = n .players in
-    let o = openAt ps j in
-    let z = after-settle (c .before .before .before .before .before .before .before .before .before .before .before .before .before) in
-    let kept = assets-kept (c .before .before .before .before .before .before .before .before .before .before .before .before .before) in
-    let answer = c .before .before .before .before .refused .result in
-    let last : Last = record { number = v .number; operation = v .operation; asset = v .asset; kind = v .kind; answer = answer } in
+    let o = open-at d in
+    let w = c .before .before .before .before .before .before .before .before .before .before .wire-of in
+    let z = after-settle s in
+    let kept = assets-kept s in
+    let x = c .before .before .before .before .refused3 in
+    let answer = x .result in
+    let last : Last = lastOf e (w .result) answer in
     let q : Player = record { last = last; current = o } in
     let small : j < length ps = omega (arith, z .0 .players) in
-    let hd = ap (λ (x : Answer). record { answer = x; entries = es; current = o }) (c .before .before .before .before .refused .ensures) ∙ planned (c .before .before .before .before .before .before) .refuses (c .before .before .before .before .before .if7 .left) in
-    let e : stepRecord (l .book) s ≡ record { answer = answer; book = closing n es j t last o } =
-    way-taken (l .book) s v n (record { answer = answer; entries = es; current = o }) j came (z .0 .is-settled) hd (is-player (c .before .before .before .before .before .before .before .before .before .before .before .before .before .before)) in (
+    let hd = ap (λ (y : Answer). record { answer = y; entries = es; current = o }) (x .ensures) ∙ planned d .refuses (c .before .before .before .before .before .if5 .left) in
+    let f : stepRecord (l .book) (record-at r) ≡ record { answer = answer; book = closing n es j t last o } =
+    way-taken (l .book) (record-at r) e n (record { answer = answer; entries = es; current = o }) j (w .result) (is-admitted (taken s)) (z .0 .is-settled) hd (is-player (taken s)) (w .ensures) in (
       i .0,
-      upto-next (a .b) (a .records .now) (a .out .now) (l .i) (l .book) (l .out) (l .at) (l .inv .1) (i .1) answer (closing n es j t last o) (p .last .0) (p .result) e (p .ensures),
-      quiet-keep (c .before .before .before .before .before .before .before .before .before .before .before .before .before .if3 .next) ps j q (z .0 .quiet) small refl,
+      upto-next (a .b) (a .records .now) (a .out .now) (l .i) (l .book) (l .out) (l .at) (l .inv .1) (i .1) answer (closing n es j t last o) (p .last .0) (p .result) f (p .ensures),
+      quiet-keep (s .if2 .next) ps j q (z .0 .quiet) small refl,
       z .0 .entries,
       length-set ps j q ∙ z .0 .players,
       z .1,
       kept .0,
       kept .1,
-      ends-same ps (c .before .before .before .before .before .before .before .before .before .before .before .before .before .if3 .ends) (z .2) j q refl,
+      ends-same ps (s .if2 .ends) (z .2) j q refl,
     )
 
 same-length : tie.Need-same-length Inv-loop2 μ-loop2 Inv-loop3 μ-loop3 Inv-loop μ-loop
@@ -669,18 +838,30 @@ answer-block-spec =
     add-lesser
     lesser-requires
     add-i
-    sub-read-record
-    part-read-record-start
-    part-read-record-end
-    read-record-requires
-    cast-j
-    mul-asking
-    element-copy-out-asking
-    gate-code-requires
-    early-answer-requires
+    sub-decode
+    part-decode-start
+    part-decode-end
+    decode-requires
+    enum-known-code
+    refused-requires
     put-line-requires
     loop-less
     loop-again
+    enum-known-event
+    cast-j
+    mul-asking
+    element-copy-out-asking
+    gate-of-requires
+    enum-known-code-2
+    refused-requires-2
+    put-line-requires-2
+    loop-less-2
+    loop-again-2
+    enum-told
+    put-line-requires-3
+    loop-less-3
+    loop-again-3
+    enum-told-2
     loop2-holds
     mul-end
     array-read-end
@@ -708,8 +889,11 @@ answer-block-spec =
     loop2-again
     mul-player-2
     element-copy-out-player-2
+    wire-of-requires
     cast-k-2
     further-code-requires
+    enum-known-request
+    kind-number-requires
     reach-at-requires
     at-most-64-requires
     looked-at-requires
@@ -721,6 +905,8 @@ answer-block-spec =
     loop3-less
     loop3-again
     begin-code-requires
+    enum-told-3
+    enum-told-4
     blank-entry-requires
     mul-held
     element-copy-out-held
@@ -737,14 +923,14 @@ answer-block-spec =
     mul-ends-2
     array-write-ends-2
     sooner-requires-2
-    put-line-requires-2
-    loop-less-2
-    loop-again-2
-    refused-requires
+    put-line-requires-4
+    loop-less-4
+    loop-again-4
+    refused-requires-3
     mul-q-3
     element-set-from-q-3
-    put-line-requires-3
-    loop-less-3
-    loop-again-3
+    put-line-requires-5
+    loop-less-5
+    loop-again-5
     same-length
     returns-2)

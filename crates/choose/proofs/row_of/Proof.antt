@@ -1,10 +1,10 @@
--- `rows::row_of` meets its contract: each field is the definition's.
-use Rattle.rows.specs.Rows.{rowOf, startOf}
+-- `choose::row_of` meets its contract: each field is the definition's.
+use Rattle.choose.specs.Row.{rowOf, startOf}
 use Rattle.model.specs.Book.{flagged}
 use Rattle.model.specs.Events.{rankOf}
 use borrow.Author.Needs.{needs}
-use Rattle.rows.proofs.row_of.Statement.{statement}
-use Rattle.rows.proofs.row_of.Tie as tie
+use Rattle.choose.proofs.row_of.Statement.{statement}
+use Rattle.choose.proofs.row_of.Tie as tie
 
 rank-of-requires : tie.Need-rank-of-requires
 rank-of-requires c κs = search needs

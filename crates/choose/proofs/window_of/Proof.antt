@@ -1,5 +1,5 @@
--- `rows::window_of` meets its contract: no sum passes 64 bits, and the least bound is the definition's.
-use Rattle.rows.specs.Rows.{windowOf, spent}
+-- `choose::window_of` meets its contract: no sum passes 64 bits, and the least bound is the definition's.
+use Rattle.choose.specs.Row.{windowOf, spent}
 use Rattle.rules.specs.Rules.{flagsOf}
 use Rattle.rules.specs.declared.Flags.{Flags}
 use Rattle.book.specs.declared.Limits.{Limits}
@@ -8,8 +8,8 @@ use mathlib.Core.Path.{_≡_, sym, ap, _∙_}
 use mathlib.Core.Bool.{Bool, true, false, _&&_, _||_}
 use lib.Dec.{leb}
 use borrow.Author.Needs.{needs}
-use Rattle.rows.proofs.window_of.Statement.{statement}
-use Rattle.rows.proofs.window_of.Tie as tie
+use Rattle.choose.proofs.window_of.Statement.{statement}
+use Rattle.choose.proofs.window_of.Tie as tie
 
 -- the code's test, over the flags that it was told
 abbrev test : Flags → Limits → Meters → Bool
