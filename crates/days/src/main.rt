@@ -1,7 +1,11 @@
 // Reads the stored days of days.bin one after the other and prints, for each, a line `day N` and what the run program prints for it.
+// Each day is answered twice: in one block, as the run program does, and one event at a time on a book by value. Where the two
+// differ, in the text or in the book that is left, a line says so.
 // A day is the length of its image in 32 bits, big-endian, the image, the length of its event bytes in 32 bits, and these.
 use book::Book;
 use image_read::Loaded;
+use runner::Block;
+use text::put_line;
 
 struct Head {
     more: bool,
@@ -47,12 +51,69 @@ fn send(text: &[u8], n: usize) {
     }
 }
 
+// Answers the events one at a time, each on the book that the one before it left.
+fn answer_singly(b: Book, events: &[u8], out: &mut [u8]) -> Block {
+    let mut book = b;
+    let mut at: usize = 0;
+    let mut from: usize = 0;
+    while from < events.len() {
+        let mut to = events.len();
+        if 13 < to - from {
+            to = from + 13;
+        }
+        let o = events::step_record(book, &events[from..to]);
+        let next = o.book;
+        book = next;
+        let answer = o.answer;
+        at = put_line(out, at, answer);
+        from = to;
+    }
+    Block {
+        book: book,
+        written: at,
+    }
+}
+
+fn same(a: &[u8], b: &[u8]) -> bool {
+    if a.len() != b.len() {
+        return false;
+    }
+    let mut i: usize = 0;
+    while i < a.len() {
+        if i < b.len() {
+            if a[i] != b[i] {
+                return false;
+            }
+        }
+        i = i + 1;
+    }
+    true
+}
+
+fn same_book(a: Book, b: Book) -> bool {
+    let mut first = [0u8; 3979];
+    let mut second = [0u8; 3979];
+    let n = image_write::write(a, &mut first);
+    let m = image_write::write(b, &mut second);
+    (n == m) & same(&first, &second)
+}
+
 // Prints the answers to the events that are the first n bytes of buf.
 fn print_answers(b: Book, n: usize, buf: &[u8]) {
     let mut out = [0u8; 95798];
+    let mut singly = [0u8; 95798];
     if n <= buf.len() {
         let r = runner::answer_block(b, &buf[..n], &mut out);
+        let q = answer_singly(b, &buf[..n], &mut singly);
         send(&out, r.written);
+        if !(same(&out, &singly)) {
+            io::write_all(1, b"other answers one event at a time\n");
+        }
+        let last = r.book;
+        let other = q.book;
+        if !same_book(last, other) {
+            io::write_all(1, b"another book one event at a time\n");
+        }
     }
 }
 
