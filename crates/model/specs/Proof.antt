@@ -27,4 +27,5 @@ pub mod KeptMeters
 pub mod KeptEvents
 pub mod Kept
 pub mod KeptExact
+pub mod Renewed
 pub mod Example
