@@ -1,7 +1,7 @@
--- Lemmas and proofs about the definitions above: nothing here has to be believed. Afternoon, Cases, Corners, Printed, Account and Bounds are closed runs.
+-- Lemmas and proofs about the definitions above: nothing here has to be believed. Afternoon, Cases, BetweenRules, Printed, Account and Bounds are closed runs.
 pub mod Afternoon
 pub mod Cases
-pub mod Corners
+pub mod BetweenRules
 pub mod Header
 pub mod Printed
 pub mod Account

@@ -255,7 +255,7 @@ damaged = refl
 abbrev both : ℕ → ℕ → ℕ → ℕ → ℕ
 both i v j w = readCode (set (set (image small) i v) j w)
 
--- of two neighbouring stages that are broken the first is told, from "20 wrong length, 24 asset rules" on; the header's are in `Corners`
+-- of two neighbouring stages that are broken the first is told, from "20 wrong length, 24 asset rules" on; the header's are in `BetweenRules`
 pub two-faults : readCode (take 506 (set (image small) 15 2)) ∷ both 15 2 25 0 ∷ both 25 0 127 4 ∷ both 127 4 58 11 ∷ [] ≡ 20 ∷ 24 ∷ 25 ∷ 26 ∷ []
 unfolding small all first sum listed assetsIn entriesIn grantLength assetPosition inBook flagged momentary limit assetLegal assetsLegal
     rangesLegal limitsLegal entriesLegal playerBlank requestLegal takenCode answerLegal insideDates insideInterval useLegal openLegal
