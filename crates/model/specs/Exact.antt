@@ -24,7 +24,8 @@ use Rattle.book.specs.declared.Book.{Book}
 use Rattle.book.specs.declared.Event.{Event}
 use Rattle.book.specs.declared.Gate.the-variants.{Take}
 use Rattle.model.specs.Book.{limitsAt, metersAt, flagged, playersLegal, Legal}
-use Rattle.model.specs.Events.{isOn, gate, expired, shut, released, settled, catalogOf, chosen, choose, grantUntil, more, lastAt, openAt}
+use Rattle.model.specs.Events.{isOn, gate, expired, shut, released, settled, catalogOf, chosen, choose, grantUntil, more}
+use Rattle.model.specs.Events.{lastAt, openAt}
 
 -- ## What is claimed of a use's end, of a begin, of a continue
 
@@ -69,12 +70,16 @@ pub record Exact : Type 0 where
   pub settling : (b : Book) (e : Event) (p : ℕ) → Legal b → Taken b e → expired (e .time) (openAt (b .players) p) ≡ true
       → ExactEnd (openAt (b .players) p .until) (atTurn p b e) (openAt (b .players) p)
   -- these are the entries that settling meets: one turn leads to the next, and the last to the request
-  pub turn : (b : Book) (e : Event) (p : ℕ) → Legal b → p < 16 → atTurn (suc p) b e ≡ released (e .time) (openAt (b .players) p) (atTurn p b e)
+  pub turn : (b : Book) (e : Event) (p : ℕ) → Legal b → p < 16
+      → atTurn (suc p) b e ≡ released (e .time) (openAt (b .players) p) (atTurn p b e)
   pub turns : (b : Book) (e : Event) → Legal b → atTurn 16 b e ≡ atRequest b e
   -- then the request
-  pub begin : (b : Book) (e : Event) (asset kind i : ℕ) → Legal b → Taken b e → choose (catalogOf b) (atRequest b e) (e .time) asset kind ≡ chosen i
-      → ExactBegin (e .time) (atRequest b e) i
-  pub continue : (b : Book) (e : Event) → Legal b → Taken b e → isOn (asking b e) ≡ true → ExactContinue (e .time) (atRequest b e) (asking b e)
-  pub stop : (b : Book) (e : Event) → Legal b → Taken b e → isOn (asking b e) ≡ true → ExactEnd (e .time) (atRequest b e) (asking b e)
+  pub begin : (b : Book) (e : Event) (asset kind i : ℕ) → Legal b → Taken b e
+      → choose (catalogOf b) (atRequest b e) (e .time) asset kind ≡ chosen i → ExactBegin (e .time) (atRequest b e) i
+  pub continue : (b : Book) (e : Event) → Legal b → Taken b e → isOn (asking b e) ≡ true
+      → ExactContinue (e .time) (atRequest b e) (asking b e)
+  pub stop : (b : Book) (e : Event) → Legal b → Taken b e → isOn (asking b e) ≡ true
+      → ExactEnd (e .time) (atRequest b e) (asking b e)
   -- where the rules of players are met, those of meters sum seconds that have run
-  pub lasts : (b : Book) (p : ℕ) → playersLegal b ≡ true → p < 16 → isOn (openAt (b .players) p) ≡ true → openAt (b .players) p .begin ≤ openAt (b .players) p .until
+  pub lasts : (b : Book) (p : ℕ) → playersLegal b ≡ true → p < 16 → isOn (openAt (b .players) p) ≡ true
+      → openAt (b .players) p .begin ≤ openAt (b .players) p .until

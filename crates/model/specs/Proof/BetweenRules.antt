@@ -12,7 +12,11 @@ use Rattle.book.specs.declared.Request.the-variants.{Begin, Continue, Stop}
 use Rattle.book.specs.Blank.{noPlayer}
 use Rattle.model.specs.Book.{assetsIn, entriesIn, grantLength, isParent, assetPosition, flagged, momentary}
 use Rattle.model.specs.Image.{imageLength, markIn, versionIn, assetCountIn, entryCountIn, timeIn, headerBroken, readCode}
-use Rattle.model.specs.Events.{kindOf, requestOf, sameRequest, sameNumber, inLine, timely, gate, amend, begun, continued, ended, expired, shut, released, settled, catalogOf, holds, assetNamed, usable, parentOf, own, suitable, countLeft, timedLeft, inDates, intervalLeft, secondsLeft, grantable, rankOf, ranksBefore, chooseOf, anyOf, choose, leastUntil, grantUntil, moreUntil, refusal, doBegin, doContinue, doStop, done, takenStep, stepBy, step, arrive}
+use Rattle.model.specs.Events.{kindOf, requestOf, sameRequest, sameNumber, inLine, timely, gate, amend, begun, continued}
+use Rattle.model.specs.Events.{ended, expired, shut, released, settled, catalogOf, holds, assetNamed, usable, parentOf, own}
+use Rattle.model.specs.Events.{suitable, countLeft, timedLeft, inDates, intervalLeft, secondsLeft, grantable, rankOf}
+use Rattle.model.specs.Events.{ranksBefore, chooseOf, anyOf, choose, leastUntil, grantUntil, moreUntil, refusal, doBegin}
+use Rattle.model.specs.Events.{doContinue, doStop, done, takenStep, stepBy, step, arrive}
 use Rattle.model.specs.Demand3.{answers}
 use Rattle.model.specs.Proof.Afternoon.{asset, entry, event, granted}
 
@@ -32,14 +36,19 @@ book entries count = record {
 abbrev timed : ℕ → ℕ → ℕ → ℕ → Entry
 timed asset kind count timer = entry asset kind 2 0 count timer 0 0 0 0
 
--- "(ii) earlier end, none last; (iii) interval already started": the print at 10 starts the interval of entry 0; the dates of entry 1 begin at 100.
--- From then on entry 1 goes first, since its end is earlier, though it is inherited and its position is higher.
+-- "(ii) earlier end, none last; (iii) interval already started": the print at 10 starts the interval of
+-- entry 0; the dates of entry 1 begin at 100. From then on entry 1 goes first, since its end is earlier, though it is inherited and its
+-- position is higher.
 abbrev ending : List Entry
 ending = entry 2 4 24 0 0 0 0 5000 1000 0 ∷ entry 9 4 12 0 0 0 100 4000 0 0 ∷ []
 
 pub end-before-interval :
-    answers (book ending 2) (event 0 1 (Begin Print 2) 10 ∷ event 0 2 (Begin Print 2) 99 ∷ event 0 3 (Begin Print 2) 100 ∷ []) ≡ (granted 0 10 ∷ granted 0 99 ∷ granted 1 100 ∷ [])
-unfolding first assetsIn entriesIn grantLength isParent assetPosition flagged momentary sameRequest sameNumber inLine timely gate amend begun continued ended expired shut released settled catalogOf holds assetNamed usable parentOf own suitable countLeft timedLeft inDates intervalLeft secondsLeft grantable rankOf ranksBefore chooseOf anyOf choose leastUntil grantUntil moreUntil doBegin doContinue doStop done takenStep stepBy step arrive answers
+    answers (book ending 2) (event 0 1 (Begin Print 2) 10 ∷ event 0 2 (Begin Print 2) 99 ∷ event 0 3 (Begin Print 2) 100 ∷ [])
+    ≡ (granted 0 10 ∷ granted 0 99 ∷ granted 1 100 ∷ [])
+unfolding first assetsIn entriesIn grantLength isParent assetPosition flagged momentary sameRequest sameNumber inLine timely gate amend
+    begun continued ended expired shut released settled catalogOf holds assetNamed usable parentOf own suitable countLeft timedLeft
+    inDates intervalLeft secondsLeft grantable rankOf ranksBefore chooseOf anyOf choose leastUntil grantUntil moreUntil doBegin doContinue
+    doStop done takenStep stepBy step arrive answers
 end-before-interval = refl
 
 -- "Key 0 and inherit 0 is a *parent*.": 8, which has a key, is used itself and not inherited from; 9 the other way round
@@ -54,7 +63,10 @@ pub parent-key :
     ∷ event 1 1 (Begin Display 2) 13
     ∷ [])
     ≡ (refusal 12 ∷ refusal 10 ∷ granted 0 72 ∷ granted 1 73 ∷ [])
-unfolding first assetsIn entriesIn grantLength isParent assetPosition flagged momentary sameRequest sameNumber inLine timely gate amend begun continued ended expired shut released settled catalogOf holds assetNamed usable parentOf own suitable countLeft timedLeft inDates intervalLeft secondsLeft grantable rankOf ranksBefore chooseOf anyOf choose leastUntil grantUntil moreUntil doBegin doContinue doStop done takenStep stepBy step arrive answers
+unfolding first assetsIn entriesIn grantLength isParent assetPosition flagged momentary sameRequest sameNumber inLine timely gate amend
+    begun continued ended expired shut released settled catalogOf holds assetNamed usable parentOf own suitable countLeft timedLeft
+    inDates intervalLeft secondsLeft grantable rankOf ranksBefore chooseOf anyOf choose leastUntil grantUntil moreUntil doBegin doContinue
+    doStop done takenStep stepBy step arrive answers
 parent-key = refl
 
 -- "with end − begin < timer, its timed count goes back": stopped after 29 of 30 seconds it does, after 30 it does not;
@@ -84,7 +96,10 @@ pub exactly-the-timer :
     ∷ refusal 13
     ∷ granted 2 220
     ∷ [])
-unfolding first assetsIn entriesIn grantLength isParent assetPosition flagged momentary sameRequest sameNumber inLine timely gate amend begun continued ended expired shut released settled catalogOf holds assetNamed usable parentOf own suitable countLeft timedLeft inDates intervalLeft secondsLeft grantable rankOf ranksBefore chooseOf anyOf choose leastUntil grantUntil moreUntil doBegin doContinue doStop done takenStep stepBy step arrive answers
+unfolding first assetsIn entriesIn grantLength isParent assetPosition flagged momentary sameRequest sameNumber inLine timely gate amend
+    begun continued ended expired shut released settled catalogOf holds assetNamed usable parentOf own suitable countLeft timedLeft
+    inDates intervalLeft secondsLeft grantable rankOf ranksBefore chooseOf anyOf choose leastUntil grantUntil moreUntil doBegin doContinue
+    doStop done takenStep stepBy step arrive answers
 exactly-the-timer = refl
 
 -- "players 0 to 15 in turn": two uses of one entry that end at one event give back two timed counts
@@ -101,17 +116,24 @@ pub settled-together :
     ∷ event 4 1 (Begin Play 8) 70
     ∷ [])
     ≡ (granted 0 70 ∷ granted 0 70 ∷ refusal 13 ∷ granted 0 130 ∷ granted 0 130 ∷ refusal 13 ∷ [])
-unfolding first assetsIn entriesIn grantLength isParent assetPosition flagged momentary sameRequest sameNumber inLine timely gate amend begun continued ended expired shut released settled catalogOf holds assetNamed usable parentOf own suitable countLeft timedLeft inDates intervalLeft secondsLeft grantable rankOf ranksBefore chooseOf anyOf choose leastUntil grantUntil moreUntil doBegin doContinue doStop done takenStep stepBy step arrive answers
+unfolding first assetsIn entriesIn grantLength isParent assetPosition flagged momentary sameRequest sameNumber inLine timely gate amend
+    begun continued ended expired shut released settled catalogOf holds assetNamed usable parentOf own suitable countLeft timedLeft
+    inDates intervalLeft secondsLeft grantable rankOf ranksBefore chooseOf anyOf choose leastUntil grantUntil moreUntil doBegin doContinue
+    doStop done takenStep stepBy step arrive answers
 settled-together = refl
 
 -- ## Numbers as kinds and requests
 
 -- what is no kind or no operation has been refused before; it reads as the last one
-pub kinds-read : kindOf 0 ∷ kindOf 1 ∷ kindOf 2 ∷ kindOf 3 ∷ kindOf 4 ∷ kindOf 5 ∷ kindOf 6 ∷ [] ≡ Export ∷ Play ∷ Display ∷ Execute ∷ Print ∷ Export ∷ Export ∷ []
+pub kinds-read :
+    kindOf 0 ∷ kindOf 1 ∷ kindOf 2 ∷ kindOf 3 ∷ kindOf 4 ∷ kindOf 5 ∷ kindOf 6 ∷ []
+    ≡ Export ∷ Play ∷ Display ∷ Execute ∷ Print ∷ Export ∷ Export ∷ []
 unfolding kindOf
 kinds-read = refl
 
-pub requests-read : requestOf 0 7 1 ∷ requestOf 1 7 1 ∷ requestOf 2 7 1 ∷ requestOf 3 7 1 ∷ requestOf 4 7 1 ∷ [] ≡ Stop ∷ Begin Play 7 ∷ Continue ∷ Stop ∷ Stop ∷ []
+pub requests-read :
+    requestOf 0 7 1 ∷ requestOf 1 7 1 ∷ requestOf 2 7 1 ∷ requestOf 3 7 1 ∷ requestOf 4 7 1 ∷ []
+    ≡ Stop ∷ Begin Play 7 ∷ Continue ∷ Stop ∷ Stop ∷ []
 unfolding kindOf requestOf
 requests-read = refl
 

@@ -28,7 +28,8 @@ use Rattle.model.specs.Proof.Kept.{Passed, gate-passed, turn-sound, sett
 
 -- ## The end of a use
 
-end-exact : {T n : ℕ} (es : List Entry) (opn : ℕ → Open) → Sound T n (limitsAt es) (metersAt es) opn → (p e : ℕ) → p < 16 → isOn (opn p) ≡ true → opn p .begin ≤ e → e ≤ opn p .until →
+end-exact : {T n : ℕ} (es : List Entry) (opn : ℕ → Open) → Sound T n (limitsAt es) (metersAt es) opn → (p e : ℕ) → p < 16 →
+    isOn (opn p) ≡ true → opn p .begin ≤ e → e ≤ opn p .until →
     ExactEnd e es (opn p)
 end-exact es opn s p e k on a z = record {
   begun = a;
@@ -46,7 +47,8 @@ settled-both T [] qs es = refl
 settled-both T (x ∷ ps) qs es = settled-both T ps qs (released T (x .current) es)
 
 -- an open use of a book that meets the rules of players runs beyond the book's time
-ran-on : (b : Book) (p : ℕ) → playerPasses b (playerAt (b .players) p) ≡ true → isOn (openAt (b .players) p) ≡ true → openAt (b .players) p .begin ≤ openAt (b .players) p .until
+ran-on : (b : Book) (p : ℕ) → playerPasses b (playerAt (b .players) p) ≡ true → isOn (openAt (b .players) p) ≡ true →
+    openAt (b .players) p .begin ≤ openAt (b .players) p .until
 ran-on b p e on = omega (arith, player-live b (playerAt (b .players) p) e on, player-open b (playerAt (b .players) p) e .runs on .begun)
 
 module _ (b : Book) (e : Event) (h : Legal b) where

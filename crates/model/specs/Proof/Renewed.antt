@@ -14,7 +14,8 @@ use Rattle.book.specs.declared.Entry.{Entry}
 use Rattle.book.specs.declared.Player.{Player}
 use Rattle.book.specs.declared.Book.{Book}
 use Rattle.book.specs.Blank.{noMeters, noEntry, noPlayer}
-use Rattle.model.specs.Book.{limitsAt, metersAt, playerAt, assetsIn, entriesIn, inBook, assetLegal, assetsLegal, limitsLegal, entriesLegal, playerBlank, playerLegal, opens, openUses, openSeconds, Legal, Fresh}
+use Rattle.model.specs.Book.{limitsAt, metersAt, playerAt, assetsIn, entriesIn, inBook, assetLegal, assetsLegal, limitsLegal}
+use Rattle.model.specs.Book.{entriesLegal, playerBlank, playerLegal, opens, openUses, openSeconds, Legal, Fresh}
 use Rattle.model.specs.Image.{entryWidths, entryValues, playerWidths, playerValues, Typed}
 use Rattle.model.specs.Renewed.{unused, renewed, Renewed}
 use Rattle.model.specs.Proof.Grounds.{all-below}
