@@ -80,10 +80,8 @@ fn same(a: &[u8], b: &[u8]) -> bool {
     }
     let mut i: usize = 0;
     while i < a.len() {
-        if i < b.len() {
-            if a[i] != b[i] {
-                return false;
-            }
+        if a[i] != b[i] {
+            return false;
         }
         i = i + 1;
     }

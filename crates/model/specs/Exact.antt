@@ -1,31 +1,85 @@
 -- The definitions of events are total: a subtraction stops at 0, and a continue is answered 15 unless its new until is above the old one.
--- On a legal book neither bends a rule: no subtraction is cut off, and no new until is below the old one. Statements alone; proved in `Proof.KeptExact`.
-use Prim.Native.Nat.{ℕ, _-_, _≤_, _<_}
+-- On a legal book neither bends a rule: no subtraction is cut off at 0, and no new until is below the old one.
+-- Every subtraction of `Events`, what computes it, and the field that says that nothing is cut off:
+--
+--   begun        u - t                        a begin             ExactBegin.until
+--   leastUntil   accumulated - used seconds   a begin             ExactBegin.unused
+--                                             a continue          ExactContinue.unused
+--   continued    v - u                        a continue          ExactContinue.notBelow
+--   ended        e - b                        settling, a stop    ExactEnd.begun
+--   ended        used timed - 1               settling, a stop    ExactEnd.timed
+--   ended        u - e                        settling, a stop    ExactEnd.counted
+--   ended        used seconds - (u - e)       settling, a stop    ExactEnd.seconds
+--
+-- `Book` has one, until - begin of an open use (`lasts`), which the rules of meters sum: Exact.lasts.
+-- Statements alone; proved in `Proof.KeptExact`.
+use Prim.Native.Nat.{ℕ, suc, _-_, _≤_, _<_}
 use mathlib.Core.Path.{_≡_}
 use mathlib.Core.Bool.{true}
 use mathlib.Core.List.{List, map}
+use lib.ListN.{take}
 use Rattle.book.specs.declared.Entry.{Entry}
 use Rattle.book.specs.declared.Open.{Open}
 use Rattle.book.specs.declared.Book.{Book}
 use Rattle.book.specs.declared.Event.{Event}
 use Rattle.book.specs.declared.Gate.the-variants.{Take}
-use Rattle.model.specs.Book.{limitsAt, metersAt, flagged, Legal}
-use Rattle.model.specs.Events.{isOn, gate, shut, settled, more, lastAt, openAt}
+use Rattle.model.specs.Book.{limitsAt, metersAt, flagged, playersLegal, Legal}
+use Rattle.model.specs.Events.{isOn, gate, expired, shut, released, settled, catalogOf, chosen, choose, grantUntil, more}
+use Rattle.model.specs.Events.{lastAt, openAt}
 
--- what holds of the asking player's open use at t, all players being settled
-pub record ExactUse (t : ℕ) (es : List Entry) (o : Open) : Type 0 where
-  -- end − begin and until − t of a stop
-  pub begun : o .begin ≤ t
-  pub running : t < o .until
-  -- what a stop gives back has been counted
+-- ## What is claimed of a use's end, of a begin, of a continue
+
+-- the use o ends at e, while the entries are es: what goes back has been counted
+pub record ExactEnd (e : ℕ) (es : List Entry) (o : Open) : Type 0 where
+  pub begun : o .begin ≤ e
+  pub counted : e ≤ o .until
   pub timed : flagged 2 (limitsAt es (o .entry)) ≡ true → 1 ≤ metersAt es (o .entry) .timed
-  pub seconds : flagged 32 (limitsAt es (o .entry)) ≡ true → o .until - t ≤ metersAt es (o .entry) .seconds
-  -- the unused seconds
+  pub seconds : flagged 32 (limitsAt es (o .entry)) ≡ true → o .until - e ≤ metersAt es (o .entry) .seconds
+
+-- entry i is granted at t
+pub record ExactBegin (t : ℕ) (es : List Entry) (i : ℕ) : Type 0 where
+  pub unused : flagged 32 (limitsAt es i) ≡ true → metersAt es i .seconds ≤ limitsAt es i .accumulated
+  pub until : t ≤ grantUntil t (limitsAt es i) (metersAt es i)
+
+-- the open use o is to go on at t: "Equal to the old: 15. Else used seconds rise by the difference."
+pub record ExactContinue (t : ℕ) (es : List Entry) (o : Open) : Type 0 where
   pub unused : flagged 32 (limitsAt es (o .entry)) ≡ true → metersAt es (o .entry) .seconds ≤ limitsAt es (o .entry) .accumulated
-  -- "Equal to the old: 15. Else used seconds rise by the difference."
   pub notBelow : o .until ≤ more es o t
 
+-- ## When they are computed
+
+-- the event is taken
+abbrev pub Taken : Book → Event → Type 0
+Taken b e = gate (b .time) (lastAt (b .players) (e .player)) e ≡ Take
+
+-- "players 0 to 15 in turn": the entries when it is player p's turn
+abbrev pub atTurn : ℕ → Book → Event → List Entry
+atTurn p b e = settled (e .time) (take p (b .players)) (b .entries)
+
+-- the entries when all are settled, and the asking player's use then
+abbrev pub atRequest : Book → Event → List Entry
+atRequest b e = settled (e .time) (b .players) (b .entries)
+
+abbrev pub asking : Book → Event → Open
+asking b e = openAt (map (shut (e .time)) (b .players)) (e .player)
+
+-- ## The claims
+
 pub record Exact : Type 0 where
-  pub taken : (b : Book) (e : Event) → Legal b → gate (b .time) (lastAt (b .players) (e .player)) e ≡ Take
-      → isOn (openAt (map (shut (e .time)) (b .players)) (e .player)) ≡ true
-      → ExactUse (e .time) (settled (e .time) (b .players) (b .entries)) (openAt (map (shut (e .time)) (b .players)) (e .player))
+  -- a use that is over ends at its until, whatever the players before it gave back to the same entry
+  pub settling : (b : Book) (e : Event) (p : ℕ) → Legal b → Taken b e → expired (e .time) (openAt (b .players) p) ≡ true
+      → ExactEnd (openAt (b .players) p .until) (atTurn p b e) (openAt (b .players) p)
+  -- these are the entries that settling meets: one turn leads to the next, and the last to the request
+  pub turn : (b : Book) (e : Event) (p : ℕ) → Legal b → p < 16
+      → atTurn (suc p) b e ≡ released (e .time) (openAt (b .players) p) (atTurn p b e)
+  pub turns : (b : Book) (e : Event) → Legal b → atTurn 16 b e ≡ atRequest b e
+  -- then the request
+  pub begin : (b : Book) (e : Event) (asset kind i : ℕ) → Legal b → Taken b e
+      → choose (catalogOf b) (atRequest b e) (e .time) asset kind ≡ chosen i → ExactBegin (e .time) (atRequest b e) i
+  pub continue : (b : Book) (e : Event) → Legal b → Taken b e → isOn (asking b e) ≡ true
+      → ExactContinue (e .time) (atRequest b e) (asking b e)
+  pub stop : (b : Book) (e : Event) → Legal b → Taken b e → isOn (asking b e) ≡ true
+      → ExactEnd (e .time) (atRequest b e) (asking b e)
+  -- where the rules of players are met, those of meters sum seconds that have run
+  pub lasts : (b : Book) (p : ℕ) → playersLegal b ≡ true → p < 16 → isOn (openAt (b .players) p) ≡ true
+      → openAt (b .players) p .begin ≤ openAt (b .players) p .until

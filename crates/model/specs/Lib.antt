@@ -8,4 +8,5 @@ pub mod Demand3
 pub mod Run
 pub mod Saved
 pub mod Exact
+pub mod Renewed
 pub mod Proof

@@ -1,6 +1,7 @@
--- Lemmas and proofs about the definitions above: nothing here has to be believed. Afternoon, Cases, Printed, Account and Bounds are closed runs.
+-- Lemmas and proofs about the definitions above: nothing here has to be believed. Afternoon, Cases, BetweenRules, Printed, Account and Bounds are closed runs.
 pub mod Afternoon
 pub mod Cases
+pub mod BetweenRules
 pub mod Header
 pub mod Printed
 pub mod Account
@@ -27,4 +28,5 @@ pub mod KeptMeters
 pub mod KeptEvents
 pub mod Kept
 pub mod KeptExact
+pub mod Renewed
 pub mod Example

@@ -250,3 +250,16 @@ unfolding small all first sum listed assetsIn entriesIn grantLength assetPositio
     joined imageLength headerBytes assetBytes entryBytes playerBytes image lengthOf markIn versionIn assetCountIn entryCountIn timeIn
     assetIn entryIn playerIn assetTable entryTable playerTable entriesFrom playersFrom bookIn headerBroken readCode
 damaged = refl
+
+-- the reader's answer where two bytes of the image are others
+abbrev both : ℕ → ℕ → ℕ → ℕ → ℕ
+both i v j w = readCode (set (set (image small) i v) j w)
+
+-- of two neighbouring stages that are broken the first is told, from "20 wrong length, 24 asset rules" on; the header's are in `BetweenRules`
+pub two-faults : readCode (take 506 (set (image small) 15 2)) ∷ both 15 2 25 0 ∷ both 25 0 127 4 ∷ both 127 4 58 11 ∷ [] ≡ 20 ∷ 24 ∷ 25 ∷ 26 ∷ []
+unfolding small all first sum listed assetsIn entriesIn grantLength assetPosition inBook flagged momentary limit assetLegal assetsLegal
+    rangesLegal limitsLegal entriesLegal playerBlank requestLegal takenCode answerLegal insideDates insideInterval useLegal openLegal
+    playerLegal playersLegal meterLegal startLegal opens openUses openSeconds metersCover entryMetersLegal metersLegal ruleBroken
+    joined imageLength headerBytes assetBytes entryBytes playerBytes image lengthOf markIn versionIn assetCountIn entryCountIn timeIn
+    assetIn entryIn playerIn assetTable entryTable playerTable entriesFrom playersFrom bookIn headerBroken readCode
+two-faults = refl

@@ -4,7 +4,7 @@ use Prim.Native.Nat.{ℕ, _+_, _≤_, _<_}
 use mathlib.Core.Bool.{Bool, true, false, not, cond}
 use mathlib.Core.List.{List, [], _∷_, map}
 use mathlib.Core.Option.{Option, none, some}
-use lib.ListN.{length, getD, set, length-set, length-map}
+use lib.ListN.{length, getD, set, take, length-set, length-map}
 use lib.Seq.{getD-set-same, getD-set-other}
 use lib.Dec.{leb, ltb, eqb}
 use native.Mathlib.Omega.{arith}
@@ -43,7 +43,7 @@ use Rattle.model.specs.Proof.Grounds.{all-below, legal-grounds}
 use Rattle.model.specs.Proof.KeptFacts.{all-of}
 use Rattle.model.specs.Proof.KeptRules.{openPasses, playerPasses, lawfulIn, Counted, MeterOk, OpenOk, Sound, Live, open-to, blank-current, unused-from, used-from, player-to, meter-to, Stages, stages-from, stages-to, entries-counted, no-player, sound-of}
 use Rattle.model.specs.Proof.KeptMeters.{grant-most}
-use Rattle.model.specs.Proof.KeptEvents.{Part, settled-part, settled-live, AnswerOk, DoneOk, done-ok}
+use Rattle.model.specs.Proof.KeptEvents.{Part, stage, turn-part, settled-part, settled-live, AnswerOk, DoneOk, done-ok}
 
 -- ## An event that is taken
 
@@ -202,10 +202,16 @@ module _ (b : Book) (e : Event) (h : Legal b) (t : Passed b e) where
   unfolding entriesIn
   room = omega arith
 
+  -- when it is player p's turn to be settled
+  pub turn-sound : (p : ℕ) → p ≤ 16 → Sound T (entriesIn b) (limitsAt (settled T (take p (b .players)) (b .entries))) (metersAt (settled T (take p (b .players)) (b .entries))) (stage T (openAt (b .players)) p)
+  turn-sound p k =
+      let r = turn-part (b .time) T (entriesIn b) (b .entries) (b .players) room (t .later) (h .entrySlots) (h .playerSlots) (sound-of b h) p k in
+      rw (fun-ext (r .limits)) (r .sound)
+
   before : Part T (entriesIn b) (limitsAt (b .entries)) es (openAt ps)
   before =
-      settled-part (b .time) T (entriesIn b) (b .entries) (b .players) room (t .later) (h .entrySlots) (h .playerSlots)
-      (λ p k. ap (λ (x : Player). x .current) (no-player b h p k)) (sound-of b h)
+      settled-part (b .time) T (entriesIn b) (b .entries) (b .players) room (t .later) (h .entrySlots) (h .playerSlots) (sound-of b h)
+      (λ p k. ap (λ (x : Player). x .current) (no-player b h p k))
 
   pub settled-sound : Sound T (entriesIn b) (limitsAt es) (metersAt es) (openAt ps)
   settled-sound = rw (fun-ext (before .limits)) (before .sound)

@@ -1,9 +1,10 @@
 -- From lists of entries and players to functions of a position: settling all players, and then the event itself, keep the rules.
 use mathlib.Core.Path.{_≡_, refl, sym, ap, _∙_, subst, fun-ext}
-use Prim.Native.Nat.{ℕ, suc, _+_, _≤_, _<_, zero-le}
+use Prim.Native.Nat.{ℕ, zero, suc, _+_, _≤_, _<_, zero-le}
 use mathlib.Core.Bool.{true, false, not, _&&_, _||_, cond}
 use mathlib.Core.List.{List, [], _∷_, map}
-use lib.ListN.{length}
+use lib.ListN.{length, take}
+use lib.Seq.{take-all}
 use lib.Dec.{leb, ltb, eqb}
 use native.Mathlib.Omega.{arith}
 use native.Mathlib.Nat.{add-zero, zero-add}
@@ -72,7 +73,7 @@ stage-none : (T : ℕ) (opn : ℕ → Open) → stage T opn 0 ≡ opn
 unfolding stage
 stage-none T opn = fun-ext (λ p. cond-off (ltb p 0) _ _ (le-ltb p 0 zero-le))
 
-stage-own : (T : ℕ) (opn : ℕ → Open) (q : ℕ) → stage T opn q q ≡ opn q
+pub stage-own : (T : ℕ) (opn : ℕ → Open) (q : ℕ) → stage T opn q q ≡ opn q
 unfolding stage
 stage-own T opn q = cond-off (ltb q q) _ _ (le-ltb q q (omega arith))
 
@@ -122,17 +123,22 @@ module _ (T n : ℕ) (room : n ≤ 64) (lim : ℕ → Limits) where
       entry : expired T o ≡ true → o .entry < n
       entry x = subst (λ (y : Open). y .entry < n) e (h .sound .opens q .runs (ap isOn e ∙ on x) .entry)
 
-  settle-part : (opn : ℕ → Open) (ps : List Player) (q : ℕ) (es : List Entry) → q + length ps ≡ 16 → ((j : ℕ) → openAt ps j ≡ opn (q + j)) → Part T n lim es (stage T opn q) →
-      Part T n lim (settled T ps es) (stage T opn 16)
+  -- the first p of the players ps, who stand from position q on, are settled
+  pub settle-part : (opn : ℕ → Open) (p : ℕ) (ps : List Player) (q : ℕ) (es : List Entry) → p ≤ length ps → q + length ps ≡ 16 → ((j : ℕ) → openAt ps j ≡ opn (q + j)) → Part T n lim es (stage T opn q) →
+      Part T n lim (settled T (take p ps) es) (stage T opn (q + p))
   unfolding settled
-  settle-part opn [] q es k e h = let x : q ≡ 16 = omega (arith, add-zero q) in rw (← x) h
-  settle-part opn (x ∷ ps) q es k e h =
+  settle-part opn zero ps q es r k e h = rw (add-zero q) h
+  settle-part opn (suc p) [] q es r k e h = absurd (omega (arith, r))
+  settle-part opn (suc p) (x ∷ ps) q es r k e h =
       let own : x .current ≡ opn q = e 0 ∙ ap opn (add-zero q) in
       let z : q + suc (length ps) ≡ 16 = k in
-      settle-part opn ps (suc q) (released T (x .current) es) (omega arith)
+      let w : suc p ≤ suc (length ps) = r in
+      let v : suc q + p ≡ q + suc p = omega arith in
+      subst (λ (s : ℕ). Part T n lim (settled T (take p ps) (released T (x .current) es)) (stage T opn s)) v
+      (settle-part opn p ps (suc q) (released T (x .current) es) (omega arith) (omega arith)
       (λ j. let y : q + suc j ≡ suc q + j = omega arith in e (suc j) ∙ ap opn y)
       (subst (Part T n lim (released T (x .current) es)) (ap (λ (y : Open). upd q (shutO T y) (stage T opn q)) own ∙ sym (stage-next T opn q))
-      (release-part (stage T opn q) q (x .current) es (omega arith) (stage-own T opn q ∙ sym own) h))
+      (release-part (stage T opn q) q (x .current) es (omega arith) (stage-own T opn q ∙ sym own) h)))
 
 shut-live : (T : ℕ) (o : Open) → isOn (shutO T o) ≡ true → T < shutO T o .until
 unfolding expired
@@ -150,12 +156,18 @@ module _ (S T n : ℕ) (es : List Entry) (ps : List Player) where
       (λ k. cond-on (ltb p 16) _ _ (lt-ltb p 16 k) ∙ sym (shut-open T ps p))
       (λ k. cond-off (ltb p 16) _ _ (le-ltb p 16 k) ∙ none p k ∙ sym (shut-open T ps p ∙ ap (shutO T) (none p k))))
 
-  pub settled-part : n ≤ 64 → S ≤ T → length es ≡ 64 → length ps ≡ 16 → ((p : ℕ) → 16 ≤ p → openAt ps p ≡ closed) → Sound S n (limitsAt es) (metersAt es) (openAt ps) →
-      Part T n (limitsAt es) (settled T ps es) (openAt (map (shut T) ps))
-  settled-part room later slots players none h =
-      subst (Part T n (limitsAt es) (settled T ps es)) (all-shut none)
-      (settle-part T n room (limitsAt es) (openAt ps) ps 0 es (omega arith) (λ j. ap (openAt ps) (sym (zero-add j)))
-      (record { slots = slots; limits = λ i. refl; sound = subst (Sound T n (limitsAt es) (metersAt es)) (sym (stage-none T (openAt ps))) (later-sound later h) }))
+  module _ (room : n ≤ 64) (later : S ≤ T) (slots : length es ≡ 64) (players : length ps ≡ 16) (h : Sound S n (limitsAt es) (metersAt es) (openAt ps)) where
+    -- when it is player p's turn
+    pub turn-part : (p : ℕ) → p ≤ 16 → Part T n (limitsAt es) (settled T (take p ps) es) (stage T (openAt ps) p)
+    turn-part p k =
+        subst (λ (q : ℕ). Part T n (limitsAt es) (settled T (take p ps) es) (stage T (openAt ps) q)) (zero-add p)
+        (settle-part T n room (limitsAt es) (openAt ps) p ps 0 es (omega arith) (omega arith) (λ j. ap (openAt ps) (sym (zero-add j)))
+        (record { slots = slots; limits = λ i. refl; sound = subst (Sound T n (limitsAt es) (metersAt es)) (sym (stage-none T (openAt ps))) (later-sound later h) }))
+
+    pub settled-part : ((p : ℕ) → 16 ≤ p → openAt ps p ≡ closed) → Part T n (limitsAt es) (settled T ps es) (openAt (map (shut T) ps))
+    settled-part none =
+        subst (Part T n (limitsAt es) (settled T ps es)) (all-shut none)
+        (subst (λ (l : List Player). Part T n (limitsAt es) (settled T l es) (stage T (openAt ps) 16)) (take-all 16 ps (omega arith)) (turn-part 16 (omega arith)))
 
 pub settled-live : (T : ℕ) (ps : List Player) → Live T (openAt (map (shut T) ps))
 settled-live T ps p = subst (λ (o : Open). isOn o ≡ true → T < o .until) (sym (shut-open T ps p)) (shut-live T (openAt ps p))

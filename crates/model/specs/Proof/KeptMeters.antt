@@ -140,6 +140,29 @@ module _ {T n : ℕ} {lim : ℕ → Limits} {met : ℕ → Meters} {opn : ℕ �
   abbrev use₁ : UseOk T n (lim i) (met i) o
   use₁ = h .opens p .runs on
 
+  -- the meters cover the player's own use
+  pub own-timed : flagged 2 (lim i) ≡ true → 1 ≤ met i .timed
+  unfolding opens
+  own-timed f =
+      omega (
+        arith,
+        sum-upd (useIn i) p closed opn 16 pl,
+        own-use i o (λ q. refl),
+        ap one on,
+        h .meters i (use₁ .entry) .timed .covers f,
+      )
+
+  pub own-spent : flagged 32 (lim i) ≡ true → o .until - o .begin ≤ met i .seconds
+  unfolding opens
+  own-spent f =
+      omega (
+        arith,
+        sum-upd (secondsIn i) p closed opn 16 pl,
+        own-seconds i o (λ q. refl),
+        cond-on (isOn o) (o .until - o .begin) 0 on,
+        h .meters i (use₁ .entry) .seconds .covers f,
+      )
+
   pub ended-sound : (e : ℕ) → o .until - e ≤ o .until - o .begin → Sound T n lim (upd i (ended (o .begin) (o .until) e (lim i) (met i)) met) (upd p closed opn)
   unfolding ended
   ended-sound e g =
@@ -261,29 +284,6 @@ module _ {T n : ℕ} {lim : ℕ → Limits} {met : ℕ → Meters} {opn : ℕ �
   more-ge =
       least-ge T (oₚ .until) lₚ mₚ (oₚ .until) (useₚ .near) (useₚ .last)
       (λ f. omega (arith, useₚ .span f, since-first T mₚ (useₚ .started f))) (λ f. omega arith)
-
-  -- the meters cover the player's own use
-  pub own-timed : flagged 2 lₚ ≡ true → 1 ≤ mₚ .timed
-  unfolding opens
-  own-timed f =
-      omega (
-        arith,
-        sum-upd (useIn (oₚ .entry)) p closed opn 16 pl,
-        own-use (oₚ .entry) oₚ (λ q. refl),
-        ap one on,
-        h .meters (oₚ .entry) (useₚ .entry) .timed .covers f,
-      )
-
-  pub own-spent : flagged 32 lₚ ≡ true → oₚ .until - oₚ .begin ≤ mₚ .seconds
-  unfolding opens
-  own-spent f =
-      omega (
-        arith,
-        sum-upd (secondsIn (oₚ .entry)) p closed opn 16 pl,
-        own-seconds (oₚ .entry) oₚ (λ q. refl),
-        cond-on (isOn oₚ) (oₚ .until - oₚ .begin) 0 on,
-        h .meters (oₚ .entry) (useₚ .entry) .seconds .covers f,
-      )
 
   pub more-near : v ≤ T + 300
   unfolding moreUntil

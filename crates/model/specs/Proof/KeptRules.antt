@@ -172,6 +172,9 @@ module _ (b : Book) (o : Open) where
         span = λ f. leb-true _ _ (interval-tests (h .1 .1 .1 .1 .1 .1 .0) f .1 .1 .0);
       }
 
+  use-live : usePasses b o ≡ true → b .time < o .until
+  use-live e = ltb-true _ _ (use-tests e .1 .0)
+
   use-to : UseOk (b .time) (entriesIn b) l m o → b .time < o .until → usePasses b o ≡ true
   unfolding useLegal insideDates insideInterval
   use-to u h =
@@ -209,6 +212,9 @@ module _ (b : Book) (o : Open) where
     runs = λ q. use-from (on-use e q);
   }
 
+  open-live : openPasses b o ≡ true → isOn o ≡ true → b .time < o .until
+  open-live e q = use-live (on-use e q)
+
   pub open-to : OpenOk (b .time) (entriesIn b) (limitsAt (b .entries)) (metersAt (b .entries)) o → (isOn o ≡ true → b .time < o .until) → openPasses b o ≡ true
   unfolding openLegal
   open-to h live =
@@ -244,7 +250,13 @@ module _ (b : Book) (x : Player) where
   unfolding playerLegal
   used-from q e = row-passed _ (answerLegal (entriesIn b) (x .last .answer) ∷ openPasses b (x .current) ∷ []) (sym (cond-off (eqb (x .last .number) 0) _ _ q) ∙ e)
 
-  player-open : playerPasses b x ≡ true → OpenOk (b .time) (entriesIn b) (limitsAt (b .entries)) (metersAt (b .entries)) (x .current)
+  pub player-live : playerPasses b x ≡ true → isOn (x .current) ≡ true → b .time < x .current .until
+  player-live e on =
+      on-test (eqb (x .last .number) 0)
+      (λ q. clash on (ap isOn (blank-current x (unused-from q e))))
+      (λ q. open-live b (x .current) (used-from q e .1 .1 .0) on)
+
+  pub player-open : playerPasses b x ≡ true → OpenOk (b .time) (entriesIn b) (limitsAt (b .entries)) (metersAt (b .entries)) (x .current)
   player-open e =
       on-test (eqb (x .last .number) 0)
       (λ q. rw (blank-current x (unused-from q e)) (closed-ok (b .time) (entriesIn b) (limitsAt (b .entries)) (metersAt (b .entries))))

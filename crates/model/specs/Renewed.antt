@@ -1,0 +1,37 @@
+-- `Fresh` is asked of the first book by demand 3. A `Fresh` that few books meet would leave that theorem nearly empty, so:
+-- every legal book, its time, meters and players blanked, is fresh and legal, and every fresh and legal book is such a one.
+-- Statements alone; proved in `Proof.Renewed`.
+use Prim.Native.Nat.{ℕ}
+use mathlib.Core.Path.{_≡_}
+use mathlib.Core.List.{map}
+use lib.ListN.{replicate}
+use Rattle.book.specs.declared.Entry.{Entry}
+use Rattle.book.specs.declared.Book.{Book}
+use Rattle.book.specs.Blank.{noMeters, noPlayer}
+use Rattle.model.specs.Book.{Legal, Fresh}
+use Rattle.model.specs.Image.{Typed}
+use Rattle.model.specs.Demand3.{Demand3}
+
+-- the entry as nobody has used it
+abbrev pub unused : Entry → Entry
+unused e = record { limits = e .limits; meters = noMeters }
+
+-- the book as it was before its first event: "the time, all meters, all player records ... are 0", all else is kept
+unfoldable pub renewed : Book → Book
+renewed b = record {
+  time = 0;
+  assetcount = b .assetcount;
+  entrycount = b .entrycount;
+  assets = b .assets;
+  entries = map unused (b .entries);
+  players = replicate 16 noPlayer;
+}
+
+pub record Renewed : Type 0 where
+  pub fresh : (b : Book) → Legal b → Fresh (renewed b)
+  pub legal : (b : Book) → Legal b → Legal (renewed b)
+  pub typed : (b : Book) → Typed b → Typed (renewed b)
+  -- nothing else is fresh and legal
+  pub same : (b : Book) → Legal b → Fresh b → renewed b ≡ b
+  -- so demand 3 holds of any legal book's assets and limits
+  pub demand : (b : Book) → Legal b → Demand3 (renewed b)
