@@ -2,6 +2,7 @@
 // Each day is answered twice: in one block, as the run program does, and one event at a time on a book by value. Where the two
 // differ, in the text or in the book that is left, a line says so.
 // A day is the length of its image in 32 bits, big-endian, the image, the length of its event bytes in 32 bits, and these.
+ghost use Prim.Native.Nat.{_<_, _≤_};
 use book::Book;
 use image_read::Loaded;
 use runner::Block;
@@ -51,16 +52,21 @@ fn send(text: &[u8], n: usize) {
     }
 }
 
+// Where the record ends that begins there.
+fn record_end(from: usize, size: usize) -> usize
+    requires { ⌜ from < size ⌝ }
+    ensures { λ r. ⌜ (from < r) × (r ≤ size) ⌝ }
+{
+    if 13 < size - from { from + 13 } else { size }
+}
+
 // Answers the events one at a time, each on the book that the one before it left.
 fn answer_singly(b: Book, events: &[u8], out: &mut [u8]) -> Block {
     let mut book = b;
     let mut at: usize = 0;
     let mut from: usize = 0;
     while from < events.len() {
-        let mut to = events.len();
-        if 13 < to - from {
-            to = from + 13;
-        }
+        let to = record_end(from, events.len());
         let o = events::step_record(book, &events[from..to]);
         let next = o.book;
         book = next;

@@ -1,0 +1,2 @@
+-- A line put into a buffer leaves its length.
+pub mod Kept
