@@ -1,0 +1,95 @@
+"""The answers to a file of events and the book after them, from the proved library for C (crates/embed).
+
+The library and the small program over it (tools/after.c) are built where they are missing or older than their
+sources; what the prover and the compiler say goes into target/tools/after.log.
+"""
+
+import os
+import shutil
+import subprocess
+import sys
+import tempfile
+
+from . import ROOT
+from .files import keep_inputs, kind_of, read_image, reason, write_bytes
+from .texts import REFUSED
+from .words import Trouble
+
+LIBRARY = ROOT / "target" / "staticlib" / "libembed.a"
+SOURCE, HEADER = ROOT / "tools" / "after.c", ROOT / "embed" / "rights.h"
+PROGRAM = ROOT / "target" / "tools" / "after"
+LOG = ROOT / "target" / "tools" / "after.log"
+
+
+def after(book, events, following):
+    if following == "-":
+        raise Trouble("the next book needs the name of a file: standard output is for the answers")
+    if book == events == "-":
+        raise Trouble("only one of the two files can be standard input")
+    keep_inputs(following, book, events)
+    check_records(events)
+    build()
+    image = read_image(book)
+    with tempfile.TemporaryDirectory() as folder, tempfile.TemporaryFile() as answers:
+        paths = [os.path.join(folder, name) for name in ("book", "next")]
+        with open(paths[0], "wb") as file:
+            file.write(image)
+        done = subprocess.run([str(PROGRAM), paths[0], "-" if events == "-" else os.path.abspath(events), paths[1]],
+                              stdout=answers, stderr=subprocess.PIPE, text=True, errors="replace")
+        if done.returncode in REFUSED:
+            raise Trouble(f"{book}: the server refuses this image with {done.returncode}: {REFUSED[done.returncode]}"
+                          + (" (it is text: `book.py make` makes an image of it)" if kind_of(image) == "text" else ""))
+        if done.returncode != 0:
+            raise Trouble(f"{events}: {done.stderr.strip() or f'the program ended with status {done.returncode}'}")
+        with open(paths[1], "rb") as file:
+            write_bytes(following, file.read(), ["a book image"])
+        answers.seek(0)
+        shutil.copyfileobj(answers, sys.stdout.buffer)      # the answers leave only when the book is saved
+
+
+def check_records(events):
+    """A plain word on files that are plainly no event records, before anything is built."""
+    if events == "-":
+        return
+    try:
+        with open(events, "rb") as file:
+            kind = kind_of(file.read(4096))
+    except OSError as problem:
+        raise Trouble(f"{events}: {reason(problem)}") from None
+    if kind in ("text", "a book image"):
+        raise Trouble(f"{events}: this is {kind}; the events are a file of records, as `book.py events` makes it")
+
+
+# ---- Building
+
+def build():
+    sources = [HEADER, *(ROOT / "crates").glob("*/src/*.rt")]
+    if older(LIBRARY, sources):
+        tell("the library", "5 minutes on a fresh machine, half a minute if the rest is proved")
+        run_logged("the Rattle kit's command", "rt", "staticlib", "embed")
+    if older(PROGRAM, [LIBRARY, SOURCE, HEADER]):
+        compiler = os.environ.get("CC") or "cc"
+        made = PROGRAM.with_suffix(f".{os.getpid()}")
+        run_logged("a C compiler", *compiler.split(), "-std=c11", "-O2", "-I", str(HEADER.parent), str(SOURCE),
+                   str(LIBRARY), "-o", str(made))
+        made.replace(PROGRAM)
+
+
+def older(made, sources):
+    return not made.exists() or made.stat().st_mtime < max(path.stat().st_mtime for path in sources)
+
+
+def tell(what, how_long):
+    print(f"building {what} that answers: about {how_long}; log in {os.path.relpath(LOG)}", file=sys.stderr, flush=True)
+
+
+def run_logged(what, *command):
+    PROGRAM.parent.mkdir(parents=True, exist_ok=True)
+    if shutil.which(command[0]) is None:
+        raise Trouble(f"`{command[0]}`, {what}, is not found, and is needed to build the library that answers")
+    with open(LOG, "ab") as log:
+        log.write(f"{' '.join(command)}\n".encode())
+        log.flush()
+        done = subprocess.run(command, cwd=ROOT, stdin=subprocess.DEVNULL, stdout=log, stderr=log)
+    if done.returncode != 0:
+        raise Trouble(f"`{' '.join(command[:3])}` failed; what it said is in {os.path.relpath(LOG)}")
