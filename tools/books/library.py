@@ -40,7 +40,7 @@ def after(book, events, following):
             raise Trouble(f"{book}: the server refuses this image with {done.returncode}: {REFUSED[done.returncode]}"
                           + (" (it is text: `book.py make` makes an image of it)" if kind_of(image) == "text" else ""))
         if done.returncode != 0:
-            raise Trouble(f"{events}: {done.stderr.strip() or f'the program ended with status {done.returncode}'}")
+            raise Trouble(done.stderr.strip() or f"{PROGRAM} ended with status {done.returncode}")
         with open(paths[1], "rb") as file:
             write_bytes(following, file.read(), ["a book image"])
         answers.seek(0)
@@ -63,15 +63,14 @@ def check_records(events):
 # ---- Building
 
 def build():
-    sources = [HEADER, *(ROOT / "crates").glob("*/src/*.rt")]
-    if older(LIBRARY, sources):
-        tell("the library", "5 minutes on a fresh machine, half a minute if the rest is proved")
-        run_logged("the Rattle kit's command", "rt", "staticlib", "embed")
+    if older(LIBRARY, [HEADER, *(ROOT / "crates").glob("*/src/*.rt")]):
+        build_step("the library that answers, a few minutes on a fresh machine, half a minute where the rest is proved",
+                   "the command of the Rattle kit", ["rt", "staticlib", "embed"])
     if older(PROGRAM, [LIBRARY, SOURCE, HEADER]):
-        compiler = os.environ.get("CC") or "cc"
         made = PROGRAM.with_suffix(f".{os.getpid()}")
-        run_logged("a C compiler", *compiler.split(), "-std=c11", "-O2", "-I", str(HEADER.parent), str(SOURCE),
-                   str(LIBRARY), "-o", str(made))
+        compiler = (os.environ.get("CC") or "cc").split()
+        build_step("the program over it, a second", "a C compiler",
+                   [*compiler, "-std=c11", "-O2", "-I", str(HEADER.parent), str(SOURCE), str(LIBRARY), "-o", str(made)])
         made.replace(PROGRAM)
 
 
@@ -79,17 +78,15 @@ def older(made, sources):
     return not made.exists() or made.stat().st_mtime < max(path.stat().st_mtime for path in sources)
 
 
-def tell(what, how_long):
-    print(f"building {what} that answers: about {how_long}; log in {os.path.relpath(LOG)}", file=sys.stderr, flush=True)
-
-
-def run_logged(what, *command):
-    PROGRAM.parent.mkdir(parents=True, exist_ok=True)
+def build_step(what, tool, command):
     if shutil.which(command[0]) is None:
-        raise Trouble(f"`{command[0]}`, {what}, is not found, and is needed to build the library that answers")
+        raise Trouble(f"`{command[0]}`, {tool}, is not found; it is needed to build {what.split(',')[0]}")
+    log_name = os.path.relpath(LOG)
+    print(f"building {what}; log in {log_name}", file=sys.stderr, flush=True)
+    PROGRAM.parent.mkdir(parents=True, exist_ok=True)
     with open(LOG, "ab") as log:
         log.write(f"{' '.join(command)}\n".encode())
         log.flush()
         done = subprocess.run(command, cwd=ROOT, stdin=subprocess.DEVNULL, stdout=log, stderr=log)
     if done.returncode != 0:
-        raise Trouble(f"`{' '.join(command[:3])}` failed; what it said is in {os.path.relpath(LOG)}")
+        raise Trouble(f"`{' '.join(command[:3])}` failed; what it said is in {log_name}")

@@ -60,23 +60,22 @@ def stop_helps(book, position, t):
 
 # ---- An entry in words
 
-def state_words(book, position, t):
+def state_words(book, position, t, at=""):
     """Whether anybody can be granted the entry at t, and when it ends, or why not."""
     found = grounds(book, position, t)
     if not found:
-        return f"can be granted at {date(t)}, {end_words(book.entries[position])}"
+        return f"can be granted{at}, {end_words(book.entries[position])}"
     back = " (a stop of an open use gives some back)" if stop_helps(book, position, t) else ""
-    return f"nobody can use it at {date(t)}: {' and '.join(found)}{back}"
+    return f"nobody can use it{at}: {' and '.join(found)}{back}"
 
 
 def end_words(entry):
     ends = [entry.end] if entry.has(rights.END) else []
     if entry.has(rights.INTERVAL) and entry.started:
         ends.append(entry.first + entry.interval - 1)
-    end = f"ends {date(min(ends))}" if ends else "has no end"
     if entry.has(rights.INTERVAL) and not entry.started:
         return f"ends {span(entry.interval)} after its first use" + (f", at the latest {date(ends[0])}" if ends else "")
-    return end
+    return f"ends {date(min(ends))}" if ends else "no end"
 
 
 def used_words(entry):
@@ -132,7 +131,7 @@ def show(image):
     print(f"\nEntries: {len(book.entries)}")
     for position, entry in enumerate(book.entries):
         print(f"  {position:>5}  rights object {entry.object}, {kind_name(entry.kind)} of asset {entry.asset}:"
-              f" {state_words(book, position, book.time)}")
+              f" {state_words(book, position, book.time, f' at {date(book.time)}')}")
         for line in used_words(entry) + date_words(entry) or ["no limits"]:
             print(f"         {line}")
     asked = [index for index, player in enumerate(book.players) if player.number != 0]
