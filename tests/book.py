@@ -1,9 +1,9 @@
 #!/usr/bin/env python3
 """Tests of tools/book.py: messages, files kept, round trips, what is left, the book after a day.
 
-    python3 tests/book.py [BOOKS]
+    python3 tests/book.py [BOOKS [PART ..]]
 
-BOOKS is how many random books are tried (300 if not given). Builds the library for C if it is missing. The last line
+BOOKS is how many random books are tried (300 if not given), a PART one of the parts that are printed. Builds the library for C if it is missing. The last line
 is `N passed, M failed`; the exit status is 1 where anything failed.
 """
 
@@ -224,13 +224,14 @@ def test_inputs(folder):
     refused("explain: missing answers", "there is no such file", "explain", events, folder / "none")
     refused("after: missing events", "there is no such file", "after", image, folder / "none", out)
     refused("after: events are a folder", "this is a folder", "after", image, folder, out)
-    refused("after: events are text", "this is text", "after", image, AFTERNOON / "events.txt", out)
+    refused("after: events are text", "this is a text", "after", image, AFTERNOON / "events.txt", out)
+    refused("after: events are a book's text", "this is a text", "after", image, text, out)
     refused("after: events are a book", "this is a book image", "after", image, image, out)
     refused("after: next to standard output", "standard output is for the answers", "after", image, events, "-")
     refused("after: both from standard input", "only one", "after", "-", "-", out)
     refused("after: the book is text", "`book.py make`", "after", text, events, out)
     refused("explain: both from standard input", "only one", "explain", "-", "-")
-    refused("explain: text for records", "this is text", "explain", AFTERNOON / "events.txt", AFTERNOON / "expected.txt")
+    refused("explain: text for records", "this is a text", "explain", AFTERNOON / "events.txt", AFTERNOON / "expected.txt")
     refused("explain: answers are bytes", "this is not a text file", "explain", events, events)
     for command in ("show", "text", "left"):
         refused(f"{command}: text for an image", "`book.py make", command, text)
@@ -323,7 +324,7 @@ def test_files(folder):
     (folder / "way").symlink_to(folder)
     before = {path: path.read_bytes() for path in (text, image, events, records_file)}
     for name, same in (("the same name", text), ("a symbolic link", folder / "soft"), ("a hard link", folder / "hard"),
-                       ("another way to it", folder / "way" / "k.txt"), ("a longer name", f"{folder}/./way/../k.txt")):
+                       ("another way to it", folder / "way" / "k.txt"), ("a longer name", f"{folder}/./../{folder.name}/k.txt")):
         refused(f"make: output is the input by {name}", "would be lost", "make", text, same)
         refused(f"events: output is the input by {name}", "would be lost", "events", text, same)
     refused("make: input is the link", "would be lost", "make", folder / "soft", text)
@@ -815,10 +816,13 @@ def main():
              (test_round_trips, how_many), (test_diff, how_many), (test_left, how_many), (test_left_words,),
              (test_after, how_many // 5), (test_building,), (test_explain,), (test_help,), (test_damage, 2 * how_many)]
     for part, *numbers in parts:
+        name = part.__name__.removeprefix("test_")
+        if len(sys.argv) > 2 and name not in sys.argv[2:]:
+            continue
         before, began = passed + failed, time.time()
         with tempfile.TemporaryDirectory() as folder:
             part(Path(folder), *numbers)
-        print(f"  {part.__name__.removeprefix('test_').replace('_', ' ')}: {passed + failed - before} in {time.time() - began:.0f} s", flush=True)
+        print(f"  {name}: {passed + failed - before} in {time.time() - began:.0f} s", flush=True)
     print(f"{passed} passed, {failed} failed")
     sys.exit(1 if failed else 0)
 

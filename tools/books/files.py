@@ -71,13 +71,11 @@ def read_text(path):
 def keep_inputs(output, *inputs):
     """Refuses an output that is one of the inputs, by its name or through a link."""
     for path in inputs:
-        if output == "-" or path == "-":
-            continue
         try:
-            same = os.path.samefile(output, path)
-        except (OSError, ValueError):
+            same = "-" not in (output, path) and os.path.samefile(output, path)
+        except (OSError, ValueError):       # one of them is not there
             same = False
-        if same or os.path.abspath(output) == os.path.abspath(path):
+        if same:
             raise Trouble(f"{output}: this is the file {path} itself, which would be lost; give another name for the output")
 
 

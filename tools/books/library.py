@@ -11,7 +11,8 @@ import sys
 import tempfile
 
 from . import ROOT
-from .files import keep_inputs, kind_of, read_image, reason, write_bytes
+from .files import keep_inputs, kind_of, read_bytes, read_image, write_bytes
+from .records import check_records
 from .texts import REFUSED
 from .words import Trouble
 
@@ -27,7 +28,8 @@ def after(book, events, following):
     if book == events == "-":
         raise Trouble("only one of the two files can be standard input")
     keep_inputs(following, book, events)
-    check_records(events)
+    if events != "-":
+        check_records(events, read_bytes(events, 4096))
     build()
     image = read_image(book)
     with tempfile.TemporaryDirectory() as folder, tempfile.TemporaryFile() as answers:
@@ -45,19 +47,6 @@ def after(book, events, following):
             write_bytes(following, file.read(), ["a book image"])
         answers.seek(0)
         shutil.copyfileobj(answers, sys.stdout.buffer)      # the answers leave only when the book is saved
-
-
-def check_records(events):
-    """A plain word on files that are plainly no event records, before anything is built."""
-    if events == "-":
-        return
-    try:
-        with open(events, "rb") as file:
-            kind = kind_of(file.read(4096))
-    except OSError as problem:
-        raise Trouble(f"{events}: {reason(problem)}") from None
-    if kind in ("text", "a book image"):
-        raise Trouble(f"{events}: this is {kind}; the events are a file of records, as `book.py events` makes it")
 
 
 # ---- Building

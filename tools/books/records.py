@@ -5,7 +5,7 @@ import re
 import rights
 from rights import Event
 
-from .files import keep_inputs, kind_of, read_bytes, read_text, write_bytes
+from .files import keep_inputs, read_bytes, read_text, write_bytes
 from .texts import REFUSED
 from .words import KINDS, OPERATIONS, TOP, Mistake, Trouble, kind_name, lines_of, number, short, when
 
@@ -23,6 +23,9 @@ MEANINGS = {
     14: "refused: the player has no use open",
     15: "refused: no more time can be given",
 }
+
+# A line of a text for `make` or `events`.
+TEXT = re.compile(rb"^\s*((time|asset|entry|player)\s+[0-9]|[0-9]+\.[0-9]+\s+(begin|continue|stop)\s)", re.MULTILINE)
 
 
 class EventText:
@@ -69,14 +72,20 @@ def events(text, records):
     write_bytes(records, b"".join(maker.records), ["event records", "bytes"])
 
 
+def check_records(path, data):
+    """Refuses what is plainly no file of event records. Any other bytes are records, and are answered."""
+    kind = "a book image" if data.startswith(b"RBK\0") else "a text" if TEXT.search(data[:4096]) else None
+    if kind:
+        raise Trouble(f"{path}: this is {kind}, not a file of event records (`book.py events` makes one from its text)")
+
+
 # ---- In words
 
 def explain(records, answers):
     if records == answers == "-":
         raise Trouble("only one of the two files can be standard input")
     data = read_bytes(records)
-    if kind_of(data[:4096]) in ("text", "a book image"):
-        raise Trouble(f"{records}: this is {kind_of(data[:4096])}; the first file is one of event records, as `events` makes it")
+    check_records(records, data)
     told = read_text(answers).splitlines()
     if len(told) == 1 and re.fullmatch("2[0-7]", told[0].strip()):
         code = int(told[0])
