@@ -3,8 +3,8 @@
 
     python3 tests/book.py [BOOKS [PART ..]]
 
-BOOKS is how many random books are tried (300 if not given), a PART one of the parts that are printed. Builds the library for C if it is missing. The last line
-is `N passed, M failed`; the exit status is 1 where anything failed.
+BOOKS is how many random books are tried (300 if not given), a PART one of the parts that are printed. Builds the
+library for C if it is missing. The last line is `N passed, M failed`; the exit status is 1 where anything failed.
 """
 
 import copy
@@ -229,12 +229,12 @@ def test_inputs(folder):
     refused("after: events are a book", "this is a book image", "after", image, image, out)
     refused("after: next to standard output", "standard output is for the answers", "after", image, events, "-")
     refused("after: both from standard input", "only one", "after", "-", "-", out)
-    refused("after: the book is text", "`book.py make`", "after", text, events, out)
+    refused("after: the book is text", "this is a text; `book.py make`", "after", text, events, out)
     refused("explain: both from standard input", "only one", "explain", "-", "-")
     refused("explain: text for records", "this is a text", "explain", AFTERNOON / "events.txt", AFTERNOON / "expected.txt")
     refused("explain: answers are bytes", "this is not a text file", "explain", events, events)
     for command in ("show", "text", "left"):
-        refused(f"{command}: text for an image", "`book.py make", command, text)
+        refused(f"{command}: text for an image", "this is a text; `book.py make`", command, text)
         refused(f"{command}: empty file", "refuses this image with 20", command, "/dev/null")
     refused("make: an image for text", "`book.py text", "make", image, out)
     refused("make: bytes for text", "this is not a text file", "make", events, out)
@@ -346,8 +346,8 @@ def test_files(folder):
     image.chmod(0o640)
     limit = {"preexec_fn": lambda: resource.setrlimit(resource.RLIMIT_FSIZE, (100, 100))}
     for name, args in (("make", ["make", other, image]), ("events", ["events", events, records_file])):
-        refused(f"{name}: the disk is full", "what was there is as it was", *args, **limit)
-    refused("after: the disk is full", "file too large", "after", image, records_file, folder / "n.rbk", **limit)
+        refused(f"{name}: the disk is full", "the file that was there is as it was", *args, **limit)
+    refused("after: the disk is full", "the file would be larger than allowed here", "after", image, records_file, folder / "n.rbk", **limit)
     refused("make: a new file on a full disk", "not written: the file would be larger", "make", other, folder / "n.rbk", **limit)
     check("a failed write leaves the old file", image.read_bytes() == before[image]
           and records_file.read_bytes() == before[records_file] and not (folder / "n.rbk").exists())
@@ -453,13 +453,16 @@ def wild_player(rng, book, player):
 
 def played_book(rng, seed):
     """A book in the middle of a random day of the second program."""
-    while True:
-        image, events, _ = days.make_day(seed, rng.choice((1, 20, 60)), rng.choice(("crowd", "wide", "cabins", "going on", "old")))
-        code, book = rights.read(image)
-        assert code == 0
-        for at in range(0, len(events), 13):
-            rights.answer_record(book, events[at:at + 13])
-        return book
+    kind = rng.choice(("crowd", "wide", "cabins", "going on", "old"))
+    image, events, _ = days.make_day(seed, rng.choice((1, 20, 60)), kind)
+    _, book = rights.read(image)
+    play(book, events)
+    return book
+
+
+def play(book, events):
+    for at in range(0, len(events), 13):
+        rights.answer_record(book, events[at:at + 13])
 
 
 def random_books(how_many):
@@ -490,26 +493,29 @@ def test_round_trips(folder, how_many):
 
 # ---- diff
 
+def fields_of(book):
+    """(what diff names, the record, a field) for the fields of a book that can be one greater in some other book."""
+    yield "time", book, "time"
+    for asset in book.assets:
+        yield f"asset {asset.number}", asset, "inherit"
+    for position, entry in enumerate(book.entries):
+        for field in vars(entry):
+            if getattr(entry, field) and field not in ("kind", "flags", "started"):
+                yield f"entry {position}", entry, field
+    for index, player in enumerate(book.players):
+        fields = ["number"] if player.number else []
+        fields += ["asset"] if player.operation == rights.BEGIN else []
+        fields += ["entry", "answer_until"] if player.number and player.code == 0 else ["code"] if player.code else []
+        fields += ["open_entry", "begin", "until"] if player.open else []
+        yield from ((f"player {index}", player, field) for field in fields)
+
+
 def test_diff(folder, how_many):
     for seed, rng, book in random_books(how_many):
         check(f"diff of book {seed} with itself", list(state.differences(book, copy.deepcopy(book))) == [])
         other = copy.deepcopy(book)
-        where, thing = rng.choice([("time", None)] + [(f"asset {a.number}", a) for a in other.assets]
-                                  + [(f"entry {p}", e) for p, e in enumerate(other.entries)]
-                                  + [(f"player {i}", p) for i, p in enumerate(other.players) if p.number])
-        if thing is None:
-            field = "time"
-            other.time += 1
-        else:
-            field = rng.choice([name for name in vars(thing) if getattr(thing, name) not in (0, 1)] or ["asset"])
-            if isinstance(thing, Asset) and field == "number":
-                field, thing.inherit = "inherit", thing.inherit + 1
-            else:
-                setattr(thing, field, getattr(thing, field) + 1)
-        if isinstance(thing, Player) and (field in ("entry", "answer_until") and thing.code or field == "kind" and thing.kind > 5):
-            continue            # no such books
-        if isinstance(thing, Entry) and field == "flags":
-            continue            # a flag more without its limit is no book
+        where, record, field = rng.choice(list(fields_of(other)))
+        setattr(record, field, getattr(record, field) + 1)
         lines = list(state.differences(book, other))
         check(f"diff of book {seed}: {where}, {field}", len(lines) == 1 and lines[0].startswith(f"{where}: "), str(lines))
     a = Book(assets=[Asset(1, 0, 1), Asset(2, 0, 1)], entries=[Entry(1, 1, 1)])
@@ -648,6 +654,8 @@ entry 9: play of asset 1; seconds 60 of 60 used, 0 left (0 s); open: player 0 un
 entry 10: display of asset 1; count 3 of 3 used, 0 left; timed count 1 of 1 used, 0 left (a use counts from 30 s on); open: nobody; nobody can use it: the count is used up and the timed count is used up
 """
     check("left: a book with every case", done.out.decode() == wanted, done.out.decode())
+    done = call("left", "--at", "1970-01-01", "00:16:40", "(1000)", image)
+    check("left: a time without quotes", done.out.decode() == wanted, done)
     done = call("left", image)
     check("left: this machine's clock", b"UTC, this machine's clock\n" in done.out and b"player 3" not in done.out, done)
     done = call("left", image, "--at=5")
@@ -663,55 +671,52 @@ entry 10: display of asset 1; count 3 of 3 used, 0 left; timed count 1 of 1 used
 # ---- after
 
 def test_after(folder, how_many):
-    following = folder / "next.rbk"
-    done = call("after", AFTERNOON / "rights.rbk", AFTERNOON / "events.bin", following)
+    image, events, following = AFTERNOON / "rights.rbk", AFTERNOON / "events.bin", folder / "next.rbk"
+    done = call("after", image, events, following)
     check("after: the afternoon's answers", done.status == 0 and done.out == (AFTERNOON / "expected.txt").read_bytes(), done)
-    image, events, out = folder / "a.rbk", folder / "a.bin", folder / "a.next"
     for seed in range(how_many):
-        day = days.make_day(seed, random.Random(seed).choice((0, 1, 60, 300)), None if seed % 3 else "crowd")
-        if day[0] is None:
-            continue
-        compare_after(f"after: day {seed}", day, image, events, out)
-    day = days.make_day(4, 17_000, "cabins")
-    compare_after("after: a day of four blocks", (day[0], day[1][:13 * 17_000] + b"\0\0", day[2][:day[2].rfind("\n", 0, -1) + 1]
-                                                  if len(day[1]) % 13 else day[2]), image, events, out)
-    day = days.make_day(4, 5_000, "cabins")
-    compare_after("after: a day of just one block", (day[0], day[1][:13 * 5000], "".join(day[2].splitlines(True)[:5000])),
-                  image, events, out)
-    piped = call("after", AFTERNOON / "rights.rbk", "-", folder / "piped.rbk", stdin=(AFTERNOON / "events.bin").read_bytes())
-    check("after: events from standard input", piped.out == done.out
-          and (folder / "piped.rbk").read_bytes() == following.read_bytes(), piped)
-    piped = call("after", "-", AFTERNOON / "events.bin", folder / "piped.rbk", stdin=(AFTERNOON / "rights.rbk").read_bytes())
-    check("after: the book from standard input", piped.out == done.out, piped)
-    again = call("after", following, "/dev/null", folder / "same.rbk")
-    check("after: no events, the same book", again.out == b"" and (folder / "same.rbk").read_bytes() == following.read_bytes(), again)
+        data, stream, _ = days.make_day(seed, random.Random(seed).choice((0, 1, 60, 300)), None if seed % 3 else "crowd")
+        compare_after(folder, f"after: day {seed}", data or b"", stream)
+    data, stream, _ = days.make_day(4, 17_000, "cabins")
+    compare_after(folder, "after: a day of four blocks", data, stream[:13 * 17_000])
+    compare_after(folder, "after: a day of four blocks, cut short", data, stream[:13 * 16_999 + 5])
+    compare_after(folder, "after: a day of just one block", data, stream[:13 * 5000])
+    compare_after(folder, "after: a record of printable bytes", data, b"Event records")
+
+    named = folder / "named"
+    for name, args, stdin in (("events from standard input", (image, "-", named), events.read_bytes()),
+                              ("the book from standard input", ("-", events, named), image.read_bytes())):
+        named.unlink(missing_ok=True)
+        piped = call("after", *args, stdin=stdin)
+        check(f"after: {name}", piped.out == done.out and named.read_bytes() == following.read_bytes(), piped)
+    named.unlink()
+    piped = subprocess.run(["bash", "-c", f"{TOOL} after <(cat {image}) <(cat {events}) {named}"], capture_output=True)
+    check("after: both from pipes", piped.stdout == done.out and named.read_bytes() == following.read_bytes(), piped)
+    again = call("after", following, "/dev/null", named)
+    check("after: no events, the same book", again.out == b"" and named.read_bytes() == following.read_bytes(), again)
+    named.unlink()
     with open("/dev/full", "wb") as full:
-        ended = subprocess.run([sys.executable, TOOL, "after", AFTERNOON / "rights.rbk", AFTERNOON / "events.bin",
-                                folder / "full.rbk"], stdout=full, stderr=subprocess.PIPE, text=True)
-    check("after: the book is saved before the answers leave", ended.returncode == 2 and "standard output" in ended.stderr
-          and (folder / "full.rbk").read_bytes() == following.read_bytes(), ended)
+        ended = subprocess.run([sys.executable, TOOL, "after", image, events, named], stdout=full, stderr=subprocess.PIPE)
+    check("after: the book is saved before the answers leave", ended.returncode == 2 and b"standard output" in ended.stderr
+          and named.read_bytes() == following.read_bytes(), ended)
 
 
-def compare_after(name, day, image, events, out):
-    """The answers and the next book of `after` are those of the second program and, for the answers, of `run`."""
-    data, stream, expected = day
-    code, book = rights.read(data)
-    if stream and len(stream) % 13 and code == 0 and expected.count("\n") < -(-len(stream) // 13):
-        expected += "6 255 0\n"
+def compare_after(folder, name, data, stream):
+    """The answers and the next book of `after` are those of the second program, and its lines those of `run`."""
+    image, events, out = folder / "rights.rbk", folder / "events.bin", folder / "out.rbk"
     image.write_bytes(data)
     events.write_bytes(stream)
     out.unlink(missing_ok=True)
+    code, book = rights.read(data)
     if code != 0:
         refused(f"{name}, refused with {code}", f"with {code}", "after", image, events, out)
         check(f"{name}, refused: no book is written", not out.exists())
         return
     done = call("after", image, events, out)
-    for at in range(0, len(stream), 13):
-        rights.answer_record(book, stream[at:at + 13])
-    check(f"{name}: answers", done.status == 0 and done.out.decode() == expected, done)
+    play(book, stream)
+    check(f"{name}: answers", done.status == 0 and done.out.decode() == rights.run(data, stream), done)
     check(f"{name}: next book", out.exists() and out.read_bytes() == rights.write(book), done)
-    shutil.copy(image, image.parent / "rights.rbk")
-    ran = subprocess.run([str(RUN)], input=stream, cwd=image.parent, capture_output=True)
+    ran = subprocess.run([str(RUN)], input=stream, cwd=folder, capture_output=True)
     check(f"{name}: the lines of the run program", ran.stdout == done.out, ran)
 
 

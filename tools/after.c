@@ -1,14 +1,13 @@
 /* Answers a file of event records from a book, and writes the book after them, over the proved library:
  *
- *     after BOOK EVENTS NEXT
+ *     after BOOK NEXT < EVENTS > ANSWERS
  *
- * The answers go to standard output. Events named - are standard input. They are read in blocks, so there may be any
- * number; calls on one block of whole records after the other print the same and end with the same book as one call on
- * all of them (crates/embed/specs/Pieces.antt). Ends with 0; with the number of the refusal (20 to 27) where the book is
- * refused; with 1 where a file cannot be read or written. `tools/book.py after` builds and calls it. */
+ * Events are read in blocks, so there may be any number; calls on one block of whole records after the other print the
+ * same and end with the same book as one call on all of them (crates/embed/specs/Pieces.antt). The exit status is 0; 20
+ * to 27 where the book is refused with that number; 1 where a file cannot be read or written. `tools/book.py after`
+ * builds and calls it. */
 #include <stdio.h>
 #include <stdlib.h>
-#include <string.h>
 
 #include "rights.h"
 
@@ -32,8 +31,8 @@ static FILE *opened(const char *name, const char *how)
 
 int main(int count, char **words)
 {
-    if (count != 4) {
-        fprintf(stderr, "usage: after BOOK EVENTS NEXT\n");
+    if (count != 3) {
+        fprintf(stderr, "usage: after BOOK NEXT < EVENTS > ANSWERS\n");
         return 1;
     }
     FILE *book = opened(words[1], "rb");
@@ -41,13 +40,12 @@ int main(int count, char **words)
     if (ferror(book))
         fail(words[1]);
 
-    FILE *events = strcmp(words[2], "-") == 0 ? stdin : opened(words[2], "rb");
     size_t length;
     do {
         uint64_t written = 0;
-        length = fread(records, 1, sizeof records, events); /* shorter than the block only at the end */
-        if (ferror(events))
-            fail(words[2]);
+        length = fread(records, 1, sizeof records, stdin); /* less than the block only at the end */
+        if (ferror(stdin))
+            fail("the events");
         uint8_t code = rights_answer(image, image_length, records, length, out, sizeof out, &written);
         if (code != RIGHTS_OK)
             return code;
@@ -57,8 +55,8 @@ int main(int count, char **words)
     if (fflush(stdout) != 0)
         fail("the answers");
 
-    FILE *next = opened(words[3], "wb");
+    FILE *next = opened(words[2], "wb");
     if (fwrite(image, 1, image_length, next) != image_length || fclose(next) != 0)
-        fail(words[3]);
+        fail(words[2]);
     return 0;
 }

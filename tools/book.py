@@ -55,6 +55,7 @@ Lengths are seconds, or numbers with s, min (or m), h, d: 90, 7d, 2h30m, 1 h 30 
 """
 
 import os
+import re
 import sys
 
 from books.library import after
@@ -93,7 +94,10 @@ def take_time(words):
         if word.startswith("--at="):
             return words[:at] + words[at + 1:], {"at": word.removeprefix("--at=")}
         if word == "--at" and at + 1 < len(words):
-            return words[:at] + words[at + 2:], {"at": words[at + 1]}
+            end = at + 2
+            while end < len(words) and re.fullmatch(r"[0-9]{2}:[0-9:]+Z?|UTC|\([0-9]+\)", words[end]):
+                end += 1        # a time of several words that has no quotes around it
+            return words[:at] + words[end:], {"at": " ".join(words[at + 1:end])}
     return words, {}
 
 

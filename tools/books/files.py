@@ -19,6 +19,8 @@ def reason(problem):
     known = {errno.ENOENT: "there is no such file", errno.EISDIR: "this is a folder, not a file",
              errno.ENOTDIR: "there is no such folder", errno.ENOSPC: "the disk is full",
              errno.EFBIG: "the file would be larger than allowed here", errno.EACCES: "no permission"}
+    if not isinstance(problem, OSError):        # a NUL in the name
+        return "this is no name of a file"
     return known.get(problem.errno, (problem.strerror or str(problem)).lower())
 
 
@@ -28,10 +30,8 @@ def read_bytes(path, most=-1):
             return sys.stdin.buffer.read(most)
         with open(path, "rb") as file:
             return file.read(most)
-    except OSError as problem:
+    except (OSError, ValueError) as problem:
         raise Trouble(f"{path}: {reason(problem)}") from None
-    except ValueError:      # a NUL in the name
-        raise Trouble(f"{path!r}: this is no name of a file") from None
 
 
 def kind_of(data):
@@ -113,11 +113,10 @@ def write_bytes(path, data, over):
         os.replace(beside, place)
         beside = None
         sync_folder(folder)
-    except OSError as problem:
-        why = "there is no such folder" if problem.errno == errno.ENOENT else reason(problem)
-        raise Trouble(f"{path}: not written: {why}{'; what was there is as it was' if os.path.exists(path) else ''}") from None
-    except ValueError:
-        raise Trouble(f"{path!r}: this is no name of a file") from None
+    except (OSError, ValueError) as problem:
+        why = "there is no such folder" if isinstance(problem, FileNotFoundError) else reason(problem)
+        kept = "; the file that was there is as it was" if os.path.lexists(path) else ""
+        raise Trouble(f"{path}: not written: {why}{kept}") from None
     finally:
         if beside is not None:
             os.unlink(beside)

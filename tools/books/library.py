@@ -6,14 +6,16 @@ sources; what the prover and the compiler say goes into target/tools/after.log.
 
 import os
 import shutil
+import stat
 import subprocess
 import sys
 import tempfile
+from pathlib import Path
 
 from . import ROOT
-from .files import keep_inputs, kind_of, read_bytes, read_image, write_bytes
+from .files import keep_inputs, read_image, reason, write_bytes
 from .records import check_records
-from .texts import REFUSED
+from .texts import REFUSED, refusal
 from .words import Trouble
 
 LIBRARY = ROOT / "target" / "staticlib" / "libembed.a"
@@ -28,25 +30,41 @@ def after(book, events, following):
     if book == events == "-":
         raise Trouble("only one of the two files can be standard input")
     keep_inputs(following, book, events)
-    if events != "-":
-        check_records(events, read_bytes(events, 4096))
-    build()
-    image = read_image(book)
-    with tempfile.TemporaryDirectory() as folder, tempfile.TemporaryFile() as answers:
-        paths = [os.path.join(folder, name) for name in ("book", "next")]
-        with open(paths[0], "wb") as file:
-            file.write(image)
-        done = subprocess.run([str(PROGRAM), paths[0], "-" if events == "-" else os.path.abspath(events), paths[1]],
-                              stdout=answers, stderr=subprocess.PIPE, text=True, errors="replace")
+    with open_records(events) as stream, tempfile.TemporaryDirectory() as folder:
+        build()
+        image, work = read_image(book), Path(folder)
+        done = answer(image, stream, work)
         if done.returncode in REFUSED:
-            raise Trouble(f"{book}: the server refuses this image with {done.returncode}: {REFUSED[done.returncode]}"
-                          + (" (it is text: `book.py make` makes an image of it)" if kind_of(image) == "text" else ""))
+            raise Trouble(refusal(book, image, done.returncode))
         if done.returncode != 0:
-            raise Trouble(done.stderr.strip() or f"{PROGRAM} ended with status {done.returncode}")
-        with open(paths[1], "rb") as file:
-            write_bytes(following, file.read(), ["a book image"])
-        answers.seek(0)
-        shutil.copyfileobj(answers, sys.stdout.buffer)      # the answers leave only when the book is saved
+            said = done.stderr.decode(errors="replace").strip()
+            raise Trouble(f"{events}: {said or f'{PROGRAM} ended with status {done.returncode}'}")
+        write_bytes(following, (work / "next").read_bytes(), ["a book image"])
+        with open(work / "answers", "rb") as answers:       # they leave only when the book is saved
+            shutil.copyfileobj(answers, sys.stdout.buffer)
+
+
+def answer(image, stream, work):
+    """Runs the program over the library, with its files in the folder `work`."""
+    try:
+        (work / "book").write_bytes(image)
+        with open(work / "answers", "wb") as answers:
+            return subprocess.run([PROGRAM, work / "book", work / "next"], stdin=stream, stdout=answers, stderr=subprocess.PIPE)
+    except OSError as problem:
+        raise Trouble(f"{problem.filename or work}: {reason(problem)}") from None
+
+
+def open_records(path):
+    """The file of events, opened; one that is plainly no file of records is refused."""
+    if path == "-":
+        return open(sys.stdin.fileno(), "rb", buffering=0, closefd=False)
+    try:
+        stream = open(path, "rb", buffering=0)
+    except (OSError, ValueError) as problem:
+        raise Trouble(f"{path}: {reason(problem)}") from None
+    if stat.S_ISREG(os.fstat(stream.fileno()).st_mode):
+        check_records(path, os.pread(stream.fileno(), 4096, 0))
+    return stream
 
 
 # ---- Building

@@ -243,9 +243,13 @@ def load(path):
     data = read_image(path)
     code, book = rights.read(data)
     if code != 0:
-        hint = f" (it is text: `book.py make {path} IMAGE` makes an image of it)" if kind_of(data) == "text" else ""
-        raise Trouble(f"{path}: the server refuses this image with {code}: {REFUSED[code]}{hint}")
+        raise Trouble(refusal(path, data, code))
     return book
+
+
+def refusal(path, data, code):
+    hint = " (this is a text; `book.py make` makes an image from the text of a book)" if kind_of(data) == "text" else ""
+    return f"{path}: the server refuses this image with {code}: {REFUSED[code]}{hint}"
 
 
 def text(image):
