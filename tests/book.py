@@ -360,8 +360,16 @@ def test_files(folder):
     check("make writes through a link", (folder / "to").is_symlink() and image.read_bytes() == before[image], done)
     done = call("make", text, folder / "fresh.rbk", preexec_fn=lambda: os.umask(0o027))
     check("a new file has the usual mode", (folder / "fresh.rbk").stat().st_mode & 0o777 == 0o640, done)
-    done = call("make", text, "/dev/null")
-    check("make to a device", done.status == 0 and not Path("/dev/null").is_file(), done)
+    pipe = folder / "pipe"
+    os.mkfifo(pipe)
+    reader = subprocess.Popen(["cat", pipe], stdout=subprocess.PIPE)
+    done = call("make", text, pipe)
+    try:
+        got = reader.communicate(timeout=10)[0]
+    except subprocess.TimeoutExpired:
+        reader.kill()
+        got = None
+    check("make to a pipe writes into it and leaves it", done.status == 0 and pipe.is_fifo() and got == before[image], done)
 
 
 def test_streams(folder):
