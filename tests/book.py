@@ -109,11 +109,11 @@ BOOK_LINES = [          # the text behind BOOK, the number of the line that is n
     ("entry 1: object 1, asset 1, play", 3, "this is entry 0"),
     ("entry 300: object 1, asset 1, play", 3, "this is entry 0"),
     (f"entry {NINES}: object 1, asset 1, play", 3, "this is entry 0"),
-    ("entry", 3, "lacks its rights object"),
-    ("entry 0: asset 1, play", 3, "lacks its rights object"),
-    ("entry 0: object 1, play", 3, "lacks its asset"),
+    ("entry", 3, "has no rights object"),
+    ("entry 0: asset 1, play", 3, "has no rights object"),
+    ("entry 0: object 1, play", 3, "has no asset"),
     ("entry 0: object 1, asset 3, play", 3, "asset 3 is not in the book above this line"),
-    ("entry 0: object 1, asset 1", 3, "lacks its kind"),
+    ("entry 0: object 1, asset 1", 3, "has no kind"),
     (f"{ENTRY}, display", 3, "the kind is given twice, as `play` and as `display`"),
     (f"{ENTRY}, play", 3, "`play` is given twice"),
     (f"{ENTRY}, count 2, count 30", 3, "`count` is given twice"),
@@ -142,7 +142,7 @@ BOOK_LINES = [          # the text behind BOOK, the number of the line that is n
     (f"{ENTRY}, first 5", 3, "`first` belongs to an interval"),
     (f"{ENTRY}, used count 1", 3, "`used count` belongs to a limit `count`"),
     (f"{ENTRY}, count 2, used count 3", 3, "3 is used of count, more than its limit, 2"),
-    (f"{ENTRY}, used seconds 3", 3, "`seconds` is no meter; there are: count, timed, accumulated"),
+    (f"{ENTRY}, used seconds 3", 3, "`seconds` is not a known meter; known are: count, timed, accumulated"),
     (f"{ENTRY}, interval 5, first 7", 3, "the first use is after the book's time (0)"),
     (f"{ENTRY}, cont 2", 3, "`cont` is not understood in an entry"),
     ("entry 0: object 1, asset 1, print, accumulated 5", 3, "print and export take no time"),
@@ -152,8 +152,8 @@ BOOK_LINES = [          # the text behind BOOK, the number of the line that is n
     ("player 0: stop, refused 14", 3, "`number` and the player's last number are expected"),
     ("player 0: number 0, stop, refused 14", 3, "leave out a player that has not asked yet"),
     ("player 0: number 4294967296, stop, refused 14", 3, "4294967295 is the greatest"),
-    ("player 0: number 1, halt, refused 14", 3, "`halt` is no operation; there are: begin, continue, stop"),
-    ("player 0: number 1, begin 1 watch, refused 13", 3, "`watch` is no kind; there are: play"),
+    ("player 0: number 1, halt, refused 14", 3, "`halt` is not a known operation; known are: begin, continue, stop"),
+    ("player 0: number 1, begin 1 watch, refused 13", 3, "`watch` is not a known kind; known are: play"),
     ("player 0: number 1, stop", 3, "the last answer is expected here"),
     ("player 0: number 1, stop, refused 7", 3, "a stored refusal is 10 to 15, not 7"),
     ("player 0: number 1, stop, refused 16", 3, "a stored refusal is 10 to 15, not 16"),
@@ -176,8 +176,8 @@ EVENT_LINES = [
     ("begin 1 play 5", 1, "an event begins with player and number"),
     ("0 begin 1 play 5", 1, "an event begins with player and number"),
     ("0.1", 1, "the line ends where the operation is expected"),
-    ("0.1 start 1 play 5", 1, "`start` is no operation"),
-    ("0.1 begin 1 watch 5", 1, "`watch` is no kind"),
+    ("0.1 start 1 play 5", 1, "`start` is not a known operation"),
+    ("0.1 begin 1 watch 5", 1, "`watch` is not a known kind"),
     ("0.1 begin 1 play", 1, "the line ends where the time is expected"),
     ("0.1 begin 65536 play 5", 1, "65535 is the greatest"),
     ("256.1 stop 5", 1, "255 is the greatest"),
@@ -187,9 +187,9 @@ EVENT_LINES = [
     ("0.1 stop 4294967296", 1, "4294967295 is the greatest"),
     ("0.1 stop 5 6", 1, "`6` is not understood here"),
     ("0.1 stop 1 play 5", 1, "`play 5` is not understood here"),
-    ("raw 0", 1, "two digits"),
-    ("raw", 1, "here are 0"),
-    ("raw " + "00" * 14, 1, "here are 14"),
+    ("raw 0", 1, "each as two of the digits"),
+    ("raw", 1, "this one has 0"),
+    ("raw " + "00" * 14, 1, "this one has 14"),
     ("raw 00\n0.1 stop 5", 2, "only the last record"),
 ]
 
@@ -239,15 +239,15 @@ def test_inputs(folder):
     refused("make: an image for text", "`book.py text", "make", image, out)
     refused("make: bytes for text", "this is not a text file", "make", events, out)
     refused("events: an image for text", "this is a book image", "events", image, out)
-    refused("unknown command", "`print` is no command; there are: left, after", "print", image)
-    refused("command with a capital", "`Show` is no command", "Show", image)
+    refused("unknown command", "`print` is not a command; the commands are: left, after", "print", image)
+    refused("command with a capital", "`Show` is not a command", "Show", image)
     refused("left: no time", "usage: book.py left", "left", image, "--at")
     refused("left: bad time", "--at: the time should be seconds", "left", image, "--at", "noon")
     refused("left: late time", "4000000000 is the greatest", "left", image, "--at", "4000000001")
     refused("left: long time", "4000000000 is the greatest", "left", image, "--at", NINES)
     refused("left: words behind the time", "`6` is not understood", "left", image, "--at", "5 6")
     (folder / "latin.txt").write_bytes("asset 1 key\nasset 2 key # f\u00fcr\n".encode("latin-1"))
-    refused("make: not UTF-8", "latin.txt, line 2: byte 0xfc is no UTF-8", "make", folder / "latin.txt", out)
+    refused("make: not UTF-8", "latin.txt, line 2: byte 0xfc is not UTF-8", "make", folder / "latin.txt", out)
     (folder / "wide.txt").write_text("asset 1 key\n", encoding="utf-16")
     refused("make: UTF-16", "UTF-16; save it as UTF-8", "make", folder / "wide.txt", out)
     for cut, code in ((b"", 20), (b"RBK", 20), (b"RBX" + bytes(400), 21), (b"RBK\0\2" + bytes(400), 22)):
@@ -651,7 +651,7 @@ player 3: number 1, begin 1 play, granted 0 1040, open 0 980 1040
     wanted = """At 1970-01-01 00:16:40 (1000), UTC, as asked
 entry 0: play of asset 9 (for 1); count 1 of 2 used, 1 left; open: player 3 until 1970-01-01 00:17:20; can be granted, no end
 entry 1: play of asset 1; no count and no seconds to use up; open: nobody; can be granted, no end
-entry 2: play of asset 7; no count and no seconds to use up; open: nobody; nobody can use it: asset 7 is illegal (no key, yet inherits)
+entry 2: play of asset 7; no count and no seconds to use up; open: nobody; nobody can use it: asset 7 is illegal (it inherits but has no key)
 entry 3: play of asset 8; count 0 of 2 used, 2 left; open: nobody; nobody can use it: nothing with a key inherits from asset 8
 entry 4: play of asset 1; no count and no seconds to use up; open: nobody; nobody can use it: it starts 1970-01-01 00:33:20
 entry 5: play of asset 1; no count and no seconds to use up; open: nobody; nobody can use it: it ended 1970-01-01 00:16:39
@@ -770,8 +770,8 @@ def test_explain(folder):
     check("explain: a resend", lines[3] == "         0 0 1060: granted by entry 0 until 1970-01-01 00:17:40 (1060)"
           " (asked again: the same answer as before)", lines[3])
     for answers, fragment in ((b"20\n", "refused its book with 20: the file's length is wrong"), (b"", "no answer"),
-                              (b"0 0 1060\r\n", "granted by entry 0"), (NINES.encode(), "is no answer"),
-                              (b"0 0 99999999999\n", "is no answer"), (b"1 2\n", "is no answer"),
+                              (b"0 0 1060\r\n", "granted by entry 0"), (NINES.encode(), "is not an answer"),
+                              (b"0 0 99999999999\n", "is not an answer"), (b"1 2\n", "is not an answer"),
                               (b"99 255 0\n", "an unknown answer"), (b"0 0 1\n" * 23, "there is no event for this answer")):
         done = call("explain", AFTERNOON / "events.bin", "-", stdin=answers)
         check(f"explain: answers {answers[:20]}", done.status == 0 and fragment in done.out.decode() and done.err == "", done)

@@ -26,7 +26,7 @@ The text of a book, one thing a line; `#` starts a comment, commas and colons ma
     asset 9 parent                       others may inherit from it; it is never shown itself
     asset 1 key, inherits 9              has a key; what 9 has may be used for it too
     asset 3 key                          has a key, inherits from nothing
-    asset 7 inherits 9                   no key, yet inherits: illegal, never used
+    asset 7 inherits 9                   inherits but has no key: illegal, never used
     entry 0: object 1, asset 9, play, count 2
     entry 1: object 1, asset 9, play, accumulated 2h
     entry 2: object 1, asset 1, display, timed 1, timer 30
@@ -77,7 +77,7 @@ def run(words):
         return 0
     name, words = words[0], words[1:]
     if name not in COMMANDS:
-        raise Trouble(f"`{name}` is no command; there are: {', '.join(COMMANDS)} (and --help)")
+        raise Trouble(f"`{name}` is not a command; the commands are: {', '.join(COMMANDS)} (and --help)")
     command, usage = COMMANDS[name]
     options = {}
     if name == "left":

@@ -20,7 +20,7 @@ def reason(problem):
              errno.ENOTDIR: "there is no such folder", errno.ENOSPC: "the disk is full",
              errno.EFBIG: "the file would be larger than allowed here", errno.EACCES: "no permission"}
     if not isinstance(problem, OSError):        # a NUL in the name
-        return "this is no name of a file"
+        return "this is not a file name"
     return known.get(problem.errno, (problem.strerror or str(problem)).lower())
 
 
@@ -61,7 +61,7 @@ def read_text(path):
         text = data.decode("utf-8")
     except UnicodeDecodeError as problem:
         line = data[:problem.start].count(b"\n") + 1
-        raise Trouble(f"{path}, line {line}: byte {data[problem.start]:#04x} is no UTF-8; save the text as UTF-8") from None
+        raise Trouble(f"{path}, line {line}: byte {data[problem.start]:#04x} is not UTF-8; save the text as UTF-8") from None
     if text.startswith("\ufeff"):
         print(f"note: {path} begins with a byte order mark, which is ignored", file=sys.stderr)
         text = text[1:]

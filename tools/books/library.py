@@ -55,7 +55,7 @@ def answer(image, stream, work):
 
 
 def open_records(path):
-    """The file of events, opened; one that is plainly no file of records is refused."""
+    """The file of events, opened; one that is plainly not a file of records is refused."""
     if path == "-":
         return open(sys.stdin.fileno(), "rb", buffering=0, closefd=False)
     try:
@@ -70,8 +70,8 @@ def open_records(path):
 # ---- Building
 
 def build():
-    if older(LIBRARY, [HEADER, *(ROOT / "crates").glob("*/src/*.rt")]):
-        build_step("the library that answers, a few minutes on a fresh machine, half a minute where the rest is proved",
+    if older(LIBRARY, (ROOT / "crates").glob("*/src/*.rt")):
+        build_step("the library that answers, about 4 minutes on a fresh machine, or 1 where the run program is built",
                    "the command of the Rattle kit", ["rt", "staticlib", "embed"])
     if older(PROGRAM, [LIBRARY, SOURCE, HEADER]):
         made = PROGRAM.with_suffix(f".{os.getpid()}")
@@ -82,7 +82,7 @@ def build():
 
 
 def older(made, sources):
-    return not made.exists() or made.stat().st_mtime < max(path.stat().st_mtime for path in sources)
+    return not made.exists() or made.stat().st_mtime < max((path.stat().st_mtime for path in sources), default=0)
 
 
 def build_step(what, tool, command):

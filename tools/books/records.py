@@ -57,10 +57,10 @@ class EventText:
         try:
             record = bytes.fromhex("".join(words.words))
         except ValueError:
-            raise Mistake("bytes are expected after raw, each as two digits 0 to 9 and a to f") from None
+            raise Mistake("after raw come bytes, each as two of the digits 0 to 9 and a to f") from None
         words.words.clear()
         if not 1 <= len(record) <= 13:
-            raise Mistake(f"a record has 13 bytes, and the last one may have fewer; here are {len(record)}")
+            raise Mistake(f"a record has 13 bytes, and the last one may have fewer; this one has {len(record)}")
         self.cut = len(record) < 13
         self.records.append(record)
 
@@ -73,7 +73,7 @@ def events(text, records):
 
 
 def check_records(path, data):
-    """Refuses what is plainly no file of event records. Any other bytes are records, and are answered."""
+    """Refuses what is plainly not a file of event records. Any other bytes are records, and are answered."""
     kind = "a book image" if data.startswith(b"RBK\0") else "a text" if TEXT.search(data[:4096]) else None
     if kind:
         raise Trouble(f"{path}: this is {kind}, not a file of event records (`book.py events` makes one from its text)")
@@ -135,7 +135,7 @@ def line_words(line, record, latest):
         return "no answer"
     found = re.fullmatch("([0-9]{1,3}) ([0-9]{1,3}) ([0-9]{1,10})", line)
     if not found or int(found[3]) > TOP:
-        return f"`{short(line)}` is no answer (code, entry, until)"
+        return f"`{short(line)}` is not an answer (code, entry, until)"
     code, entry, until = map(int, found.groups())
     if len(record) != 13:
         return f"{line}: {MEANINGS.get(code, 'an unknown answer')}"

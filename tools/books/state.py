@@ -33,7 +33,7 @@ def grounds(book, position, t):
     if asset.is_parent() and not heirs(book, asset):
         found.append(f"nothing with a key inherits from asset {asset.number}")
     if not asset.is_parent() and not asset.key:
-        found.append(f"asset {asset.number} is illegal (no key, yet inherits)")
+        found.append(f"asset {asset.number} is illegal (it inherits but has no key)")
     if entry.has(rights.COUNT) and entry.used_count >= entry.count:
         found.append("the count is used up")
     if entry.has(rights.TIMED) and entry.used_timed >= entry.timed:
@@ -109,14 +109,14 @@ def asset_words(book, asset):
         numbers = ", ".join(map(str, heirs(book, asset)))
         return f"parent, for {numbers}" if numbers else "parent, nothing with a key inherits from it"
     if asset.key == 0:
-        return f"illegal (no key, yet inherits from {asset.inherit}): never used"
+        return f"illegal (it inherits from {asset.inherit} but has no key): never used"
     if asset.inherit == 0:
         return "has a key"
     above = book.asset(asset.inherit)
     if above is None:
         return f"has a key; inherits from {asset.inherit}, which is not in the book: nothing"
     if not above.is_parent():
-        return f"has a key; inherits from {asset.inherit}, which is no parent: nothing"
+        return f"has a key; inherits from {asset.inherit}, which is not a parent: nothing"
     return f"has a key, inherits from {asset.inherit}"
 
 
@@ -167,7 +167,7 @@ def told_time(at):
     try:
         t = words.time("the time")
         if words:
-            raise Mistake(f"`{' '.join(words.words)}` is not understood behind the time")
+            raise Mistake(f"`{' '.join(words.words)}` is not understood after the time")
         return t
     except Mistake as mistake:
         raise Trouble(f"--at: {mistake}") from None

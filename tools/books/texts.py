@@ -153,13 +153,13 @@ class BookText:
 
 def check_entry(book, entry):
     if entry.object == 0:
-        raise Mistake("the entry lacks its rights object: `object` and a number from 1 to 65535")
+        raise Mistake("the entry has no rights object: `object` and a number from 1 to 65535")
     if entry.asset == 0:
-        raise Mistake("the entry lacks its asset: `asset` and its number")
+        raise Mistake("the entry has no asset: `asset` and its number")
     if book.asset(entry.asset) is None:
         raise Mistake(f"asset {entry.asset} is not in the book above this line")
     if entry.kind == 0:
-        raise Mistake(f"the entry lacks its kind: {', '.join(KINDS)}")
+        raise Mistake(f"the entry has no kind: one of {', '.join(KINDS)}")
     if entry.timer and not entry.has(rights.TIMED):
         raise Mistake("a timer belongs to a timed count: `timed` is missing")
     if entry.has(rights.START) and entry.has(rights.END) and entry.start > entry.end:
@@ -168,11 +168,11 @@ def check_entry(book, entry):
         raise Mistake("print and export take no time: no accumulated and no timer")
     for name, meter in METERS.items():
         if getattr(entry, meter) and not entry.has(FLAGS[name]):
-            raise Mistake(f"`used {name}` belongs to a limit `{name}`, which this entry lacks")
+            raise Mistake(f"`used {name}` belongs to a limit `{name}`, which this entry does not have")
         if getattr(entry, meter) > getattr(entry, name):
             raise Mistake(f"{getattr(entry, meter)} is used of {name}, more than its limit, {getattr(entry, name)}")
     if entry.started and not entry.has(rights.INTERVAL):
-        raise Mistake("`first` belongs to an interval, which this entry lacks")
+        raise Mistake("`first` belongs to an interval, which this entry does not have")
 
 
 def player_fault(book, player):

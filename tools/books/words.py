@@ -72,7 +72,7 @@ class Words:
     def of(self, table, what):
         word = self.take(f"the {what}")
         if word not in table:
-            raise Mistake(f"`{short(word)}` is no {what}; there are: {', '.join(table)}")
+            raise Mistake(f"`{short(word)}` is not a known {what}; known are: {', '.join(table)}")
         return table[word]
 
     def number(self, greatest, what, least=0):
