@@ -26,7 +26,7 @@ sys.path.insert(0, str(ROOT / "oracle"))
 import days
 import rights
 from books import library, records, state, texts, words
-from rights import LATEST, Asset, Book, Entry, Event, Player
+from rights import LATEST, Asset, Book, Entry, Event
 
 AFTERNOON = ROOT / "examples" / "afternoon"
 RUN = ROOT / "target" / "bin" / "run"
@@ -59,8 +59,11 @@ class Done:
 
 
 def call(*args, stdin=b"", tool=TOOL, **how):
-    return Done(subprocess.run([sys.executable, str(tool), *map(str, args)], input=stdin, capture_output=True, timeout=600,
-                               **how))
+    command = [sys.executable, str(tool), *map(str, args)]
+    try:
+        return Done(subprocess.run(command, input=stdin, capture_output=True, timeout=60, **how))
+    except subprocess.TimeoutExpired:
+        return Done(subprocess.CompletedProcess(command, None, b"", b"not ended after 60 seconds"))
 
 
 def refused(name, fragment, *args, **how):
@@ -293,6 +296,7 @@ def test_times(folder):
             ("end 2027-04-30T00:00", "end", day), ("end 2027-04-30 00:00:00", "end", day),
             ("end 2027-04-30T18:30:05Z", "end", day + 66_605), ("end 2027-04-30 18:30 UTC", "end", day + 66_600),
             (f"start 2027-04-30 18:30:05 ({day + 66_605})", "start", day + 66_605), ("start 77", "start", 77),
+            (f"start 2027-04-30 18:30:05 ({day + 66_605}), UTC", "start", day + 66_605),
             ("interval 5, first 2027-04-30", "first", day), ("interval 7d", "interval", 604_800),
             ("interval 1 h 30 min", "interval", 5400), ("interval 1h30m", "interval", 5400), ("interval 90", "interval", 90),
             ("interval 2 min, count 5", "interval", 120), ("accumulated 1 d 1 s", "accumulated", 86_401),
@@ -374,8 +378,8 @@ def test_files(folder):
 
 def test_streams(folder):
     """Standard output that is closed or full."""
-    for args in (["show", AFTERNOON / "rights.rbk"], ["--help"], ["explain", AFTERNOON / "events.bin", AFTERNOON / "expected.txt"],
-                 ["make", AFTERNOON / "book.txt", "-"]):
+    for args in (["show", AFTERNOON / "rights.rbk"], ["--help"], ["make", AFTERNOON / "book.txt", "-"],
+                 ["explain", AFTERNOON / "events.bin", AFTERNOON / "expected.txt"]):
         with open("/dev/full", "wb") as full:
             done = subprocess.run([sys.executable, TOOL, *args], stdout=full, stderr=subprocess.PIPE, text=True)
         check(f"{args[0]}: a full disk behind standard output",
@@ -385,7 +389,8 @@ def test_streams(folder):
     check("a pipe that is closed early", done.stderr == "" and done.stdout.startswith("    1  player 0"), done)
     long = folder / "long.bin"
     long.write_bytes((AFTERNOON / "events.bin").read_bytes() * 2000)
-    done = subprocess.run(f"{sys.executable} {TOOL} explain {long} /dev/null | head -1", shell=True, capture_output=True, text=True)
+    shell = f"{sys.executable} {TOOL} explain {long} /dev/null | head -1"
+    done = subprocess.run(shell, shell=True, capture_output=True, text=True)
     check("a long pipe that is closed early", done.stderr == "" and done.stdout.count("\n") == 1, done)
 
 
@@ -533,7 +538,8 @@ def test_diff(folder, how_many):
         "assets: in another order, 1 2 -> 2 1", "entry 1: only in the second: object 1, asset 2, display, count 5"], str(lines))
     lines = list(state.differences(b, Book(assets=[Asset(2, 9, 1)], entries=[])))
     check("diff: less", lines == [
-        "asset 2: key -> key, inherits 9", "asset 1: only in the first: key", "entry 0: only in the first: object 1, asset 1, play",
+        "asset 2: key -> key, inherits 9", "asset 1: only in the first: key",
+        "entry 0: only in the first: object 1, asset 1, play",
         "entry 1: only in the first: object 1, asset 2, display, count 5"], str(lines))
     first, second = AFTERNOON / "rights.rbk", folder / "second.rbk"
     second.write_bytes(rights.write(Book(time=5)))
@@ -672,7 +678,8 @@ entry 10: display of asset 1; count 3 of 3 used, 0 left; timed count 1 of 1 used
         b" turned away with 5.\n"), done)
     out = call("show", image).out.decode()
     check("show: names the time it judges at", "can be granted at 1970-01-01 00:16:40, no end" in out, out)
-    check("show: an entry on an illegal asset", "play of asset 7: nobody can use it at 1970-01-01 00:16:40: asset 7 is illegal" in out, out)
+    check("show: an entry on an illegal asset",
+          "play of asset 7: nobody can use it at 1970-01-01 00:16:40: asset 7 is illegal" in out, out)
     check("show: an entry on a parent without heirs", "play of asset 8: nobody can use it at" in out, out)
 
 
@@ -797,7 +804,7 @@ def test_damage(folder, how_many):
     """Damaged texts and images get a plain message, whatever is wrong with them."""
     rng = random.Random(9)
     path = folder / "damaged"
-    sources = [(AFTERNOON / "book.txt").read_bytes(), (AFTERNOON / "events.txt").read_bytes(), (AFTERNOON / "rights.rbk").read_bytes()]
+    sources = [(AFTERNOON / name).read_bytes() for name in ("book.txt", "events.txt", "rights.rbk")]
     sources += ["\n".join(texts.text_lines(book)).encode() for _, _, book in random_books(6)]
     plain = 0
     for _ in range(how_many):

@@ -99,6 +99,7 @@ class Words:
             again = self.words.pop(0)
             if again != f"({seconds})":
                 raise Mistake(f"{date(seconds)} is second {seconds}, not {short(again[1:-1])}; leave one of the two out")
+            self.accept("UTC")
         return seconds
 
     def length(self, what, greatest, least=0):
