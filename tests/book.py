@@ -328,7 +328,8 @@ def test_files(folder):
     (folder / "way").symlink_to(folder)
     before = {path: path.read_bytes() for path in (text, image, events, records_file)}
     for name, same in (("the same name", text), ("a symbolic link", folder / "soft"), ("a hard link", folder / "hard"),
-                       ("another way to it", folder / "way" / "k.txt"), ("a longer name", f"{folder}/./../{folder.name}/k.txt")):
+                       ("another way to it", folder / "way" / "k.txt"),
+                       ("a longer name", f"{folder}/./../{folder.name}/k.txt")):
         refused(f"make: output is the input by {name}", "would be lost", "make", text, same)
         refused(f"events: output is the input by {name}", "would be lost", "events", text, same)
     refused("make: input is the link", "would be lost", "make", folder / "soft", text)
@@ -351,10 +352,11 @@ def test_files(folder):
     limit = {"preexec_fn": lambda: resource.setrlimit(resource.RLIMIT_FSIZE, (100, 100))}
     for name, args in (("make", ["make", other, image]), ("events", ["events", events, records_file])):
         refused(f"{name}: the disk is full", "the file that was there is as it was", *args, **limit)
-    refused("after: the disk is full", "the file would be larger than allowed here", "after", image, records_file, folder / "n.rbk", **limit)
-    refused("make: a new file on a full disk", "not written: the file would be larger", "make", other, folder / "n.rbk", **limit)
+    new = folder / "n.rbk"
+    refused("after: the disk is full", "the file would be larger than allowed", "after", image, records_file, new, **limit)
+    refused("make: a new file on a full disk", "not written: the file would be larger", "make", other, new, **limit)
     check("a failed write leaves the old file", image.read_bytes() == before[image]
-          and records_file.read_bytes() == before[records_file] and not (folder / "n.rbk").exists())
+          and records_file.read_bytes() == before[records_file] and not new.exists())
     check("a failed write leaves nothing beside it", not [path for path in folder.iterdir() if path.name.startswith(".")])
     done = call("make", other, image)
     check("make replaces a book", done.status == 0 and len(image.read_bytes()) == 400, done)
@@ -374,6 +376,8 @@ def test_files(folder):
         reader.kill()
         got = None
     check("make to a pipe writes into it and leaves it", done.status == 0 and pipe.is_fifo() and got == before[image], done)
+    done = subprocess.run(f"{TOOL} make {text} /proc/self/fd/1 | cat", shell=True, capture_output=True)
+    check("make to an open pipe", done.stdout == before[image] and done.stderr == b"", done)
 
 
 def test_streams(folder):
@@ -413,8 +417,9 @@ def wild_book(rng):
         seconds = sum(p.until - p.begin for p in uses)
         if rng.random() < 0.2:      # to be used up often enough
             entry.used_count, entry.used_timed, entry.used_seconds = entry.count, entry.timed, entry.accumulated
-        if (entry.has(rights.COUNT) and entry.used_count < len(uses) or entry.has(rights.TIMED) and entry.used_timed < len(uses)
-                or entry.has(rights.ACCUMULATED) and entry.used_seconds < seconds):
+        if any(entry.has(flag) and used < least for flag, used, least in (
+                (rights.COUNT, entry.used_count, len(uses)), (rights.TIMED, entry.used_timed, len(uses)),
+                (rights.ACCUMULATED, entry.used_seconds, seconds))):
             for player in uses:
                 player.open = player.open_entry = player.begin = player.until = 0
     assert rights.read(rights.write(book))[0] == 0
@@ -781,7 +786,8 @@ def test_explain(folder):
                               (b"0 0 99999999999\n", "is not an answer"), (b"1 2\n", "is not an answer"),
                               (b"99 255 0\n", "an unknown answer"), (b"0 0 1\n" * 23, "there is no event for this answer")):
         done = call("explain", AFTERNOON / "events.bin", "-", stdin=answers)
-        check(f"explain: answers {answers[:20]}", done.status == 0 and fragment in done.out.decode() and done.err == "", done)
+        plain = done.status == 0 and done.err == ""
+        check(f"explain: answers {answers[:20]}", plain and fragment in done.out.decode(), done)
 
 
 def test_help(folder):
@@ -812,7 +818,8 @@ def test_damage(folder, how_many):
         for _ in range(rng.randint(1, 6)):
             at = rng.randrange(len(data) + 1)
             piece = rng.choice((b"", bytes([rng.randrange(256)]), b" ", b"\n", b"9" * 30, b"#", b",", b":", b"-1", b"\xff",
-                                b"count 2", b"2026-12-24", b"18:30", b"(5)", "\u0663".encode(), bytes(data[:rng.randrange(40)])))
+                                b"count 2", b"2026-12-24", b"18:30", b"(5)", "\u0663".encode(),
+                                bytes(data[:rng.randrange(40)])))
             data[at:at + rng.choice((0, 0, 1, 5))] = piece
         path.write_bytes(data)
         for work in (lambda: texts.book_of_text(path), lambda: list(state.left_lines(texts.load(path), 5)),

@@ -84,42 +84,51 @@ def write_bytes(path, data, over):
     if path == "-":
         sys.stdout.buffer.write(data)
         return
-    beside = None
     try:
-        if path.endswith(os.sep):
-            raise Trouble(f"{path}: this names a folder, not a file")
-        place = os.path.realpath(path)      # a link stays, and what it leads to is written
-        there = os.stat(place) if os.path.exists(place) else None
-        if there and stat.S_ISDIR(there.st_mode):
-            raise Trouble(f"{path}: this is a folder, not a file")
+        there = what_is_there(path, over)
         if there and not stat.S_ISREG(there.st_mode):      # a device or a pipe
-            with open(place, "wb") as file:
+            with open(path, "wb") as file:
                 file.write(data)
-            return
-        if there:
-            with open(place, "rb") as file:
-                kind = kind_of(file.read(IMAGE_MOST))
-            if kind not in ("empty", *over):
-                kind = "a file of another kind" if kind == "bytes" else kind
-                raise Trouble(f"{path}: {kind} is there already, which is not replaced by {over[0]};"
-                              " give another name for the output, or remove it first")
-        folder = os.path.dirname(place)
-        handle, beside = tempfile.mkstemp(prefix=f".{os.path.basename(place)[:100]}.", dir=folder)
-        with open(handle, "wb") as file:
-            file.write(data)
-            file.flush()
-            os.fchmod(file.fileno(), stat.S_IMODE(there.st_mode) if there else 0o666 & ~umask())
-            os.fsync(file.fileno())
-        os.replace(beside, place)
-        beside = None
-        sync_folder(folder)
+        else:       # a link stays, and what it leads to is written
+            write_beside(os.path.realpath(path), data, stat.S_IMODE(there.st_mode) if there else 0o666 & ~umask())
     except (OSError, ValueError) as problem:
         why = "there is no such folder" if isinstance(problem, FileNotFoundError) else reason(problem)
         kept = "; the file that was there is as it was" if os.path.lexists(path) else ""
         raise Trouble(f"{path}: not written: {why}{kept}") from None
-    finally:
-        if beside is not None:
-            os.unlink(beside)
+
+
+def what_is_there(path, over):
+    """The state of the file that is there already and may be replaced; None if there is none."""
+    if path.endswith(os.sep):
+        raise Trouble(f"{path}: this names a folder, not a file")
+    there = os.stat(path) if os.path.exists(path) else None
+    if there and stat.S_ISDIR(there.st_mode):
+        raise Trouble(f"{path}: this is a folder, not a file")
+    if there and stat.S_ISREG(there.st_mode):
+        with open(path, "rb") as file:
+            kind = kind_of(file.read(IMAGE_MOST))
+        if kind not in ("empty", *over):
+            kind = "a file of another kind" if kind == "bytes" else kind
+            raise Trouble(f"{path}: {kind} is there already, which is not replaced by {over[0]};"
+                          " give another name for the output, or remove it first")
+    return there
+
+
+def write_beside(place, data, mode):
+    """Writes a new file in the same folder, syncs it, and gives it the name."""
+    folder, name = os.path.split(place)
+    handle, beside = tempfile.mkstemp(prefix=f".{name[:100]}.", dir=folder)
+    try:
+        with open(handle, "wb") as file:
+            file.write(data)
+            file.flush()
+            os.fchmod(handle, mode)
+            os.fsync(handle)
+        os.replace(beside, place)
+    except BaseException:
+        os.unlink(beside)
+        raise
+    sync_folder(folder)
 
 
 def umask():
@@ -129,11 +138,14 @@ def umask():
 
 
 def sync_folder(folder):
-    """So that the new name is on the disk too."""
-    handle = os.open(folder, os.O_RDONLY)
+    """So that the new name is on the disk too, where the file system can do that."""
+    try:
+        handle = os.open(folder, os.O_RDONLY)
+    except OSError:
+        return
     try:
         os.fsync(handle)
-    except OSError:         # some file systems cannot sync a folder
+    except OSError:
         pass
     finally:
         os.close(handle)

@@ -49,7 +49,8 @@ def answer(image, stream, work):
     try:
         (work / "book").write_bytes(image)
         with open(work / "answers", "wb") as answers:
-            return subprocess.run([PROGRAM, work / "book", work / "next"], stdin=stream, stdout=answers, stderr=subprocess.PIPE)
+            return subprocess.run([PROGRAM, work / "book", work / "next"], stdin=stream, stdout=answers,
+                                  stderr=subprocess.PIPE)
     except OSError as problem:
         raise Trouble(f"{problem.filename or work}: {reason(problem)}") from None
 
