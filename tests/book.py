@@ -311,6 +311,8 @@ def test_times(folder):
             parts += [(words.Words(text).time("the time", last_second=last) == t, text) for last in (False, True)]
         parts.append((words.Words(words.span(length)).length("the length", 100_000_000) == length, words.span(length)))
     check_all("times and lengths as they are shown are read again", parts)
+    check("text has dates, and seconds where they are few",
+          (words.time_text(1798137000), words.time_text(1141)) == ("2026-12-24T18:30:00", "1141"))
 
 
 # ---- Files kept
@@ -531,11 +533,14 @@ def fields_of(book):
 def test_diff(folder, how_many):
     for seed, rng, book in random_books(how_many):
         check(f"diff of book {seed} with itself", list(state.differences(book, copy.deepcopy(book))) == [])
-        other = copy.deepcopy(book)
-        where, record, field = rng.choice(list(fields_of(other)))
-        setattr(record, field, getattr(record, field) + 1)
-        lines = list(state.differences(book, other))
-        check(f"diff of book {seed}: {where}, {field}", len(lines) == 1 and lines[0].startswith(f"{where}: "), str(lines))
+        other, parts = copy.deepcopy(book), []
+        fields = list(fields_of(other))
+        for where, record, field in rng.sample(fields, min(20, len(fields))):
+            setattr(record, field, getattr(record, field) + 1)
+            lines = list(state.differences(book, other))
+            parts.append((len(lines) == 1 and lines[0].startswith(f"{where}: "), f"{where}, {field}: {lines}"))
+            setattr(record, field, getattr(record, field) - 1)
+        check_all(f"diff of book {seed} with a field changed", parts)
     a = Book(assets=[Asset(1, 0, 1), Asset(2, 0, 1)], entries=[Entry(1, 1, 1)])
     b = Book(assets=[Asset(2, 0, 1), Asset(1, 0, 1)], entries=[Entry(1, 1, 1), Entry(1, 2, 2, 1, count=5)])
     lines = list(state.differences(a, b))
@@ -784,6 +789,7 @@ def test_explain(folder):
     for answers, fragment in ((b"20\n", "refused its book with 20: the file's length is wrong"), (b"", "no answer"),
                               (b"0 0 1060\r\n", "granted by entry 0"), (NINES.encode(), "is not an answer"),
                               (b"0 0 99999999999\n", "is not an answer"), (b"1 2\n", "is not an answer"),
+                              (b"0 0 " + NINES.encode(), "is not an answer"),
                               (b"99 255 0\n", "an unknown answer"), (b"0 0 1\n" * 23, "there is no event for this answer")):
         done = call("explain", AFTERNOON / "events.bin", "-", stdin=answers)
         plain = done.status == 0 and done.err == ""
