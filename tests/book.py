@@ -746,9 +746,10 @@ def compare_after(folder, name, data, stream):
 
 
 def test_building(folder):
-    """The library is built where it is missing; without its tools, or if they fail, that is said."""
+    """On a fresh copy, with a stand-in for rt: what is missing is built, quietly; without its tools, or if they fail,
+    that is said."""
     root = folder / "root"
-    for part in ("tools", "embed", "oracle"):
+    for part in ("tools", "embed", "oracle", "examples"):
         shutil.copytree(ROOT / part, root / part, ignore=shutil.ignore_patterns("__pycache__"))
     (root / "crates" / "x" / "src").mkdir(parents=True)
     (root / "crates" / "x" / "src" / "lib.rt").write_text("")
@@ -763,19 +764,32 @@ def test_building(folder):
     rt.chmod(0o755)
     refused("after: rt fails", "`rt staticlib embed` failed; what it said is in", *args, tool=tool, env=clean)
     check("after: what rt said is in the log", "words of the prover" in (root / "target/tools/after.log").read_text())
-    rt.write_text(f"#!/bin/sh\nexport PATH={os.environ['PATH']}\nmkdir -p target/staticlib\n"
-                  f"cp {library.LIBRARY} target/staticlib/libembed.a\necho words of the prover\n")
+    rt.write_text(f"#!/bin/sh\nexport PATH={os.environ['PATH']}\nmkdir -p target/staticlib target/bin\n"
+                  f"[ $1 = check ] && cp {RUN} target/bin/run || cp {library.LIBRARY} target/staticlib/libembed.a\n"
+                  "echo words of the prover; echo more words >&2\n")
     refused("after: no C compiler", "`cc`, a C compiler, is not found", *args, tool=tool, env=clean)
     check("after: nothing is written before all is built", not out.exists())
-    done = call(*args, tool=tool, env={**os.environ, "PATH": f"{bare}:{os.environ['PATH']}"})
+    able = {**os.environ, "PATH": f"{bare}:{os.environ['PATH']}"}
+    done = call(*args, tool=tool, env=able)
     check("after: built on demand", done.status == 0 and done.out == (AFTERNOON / "expected.txt").read_bytes()
           and done.err.count("building") == 1 and "words" not in done.err, done)
     done = call(*args, tool=tool)
     check("after: built once", done.status == 0 and done.err == "", done)
     later = out.stat().st_mtime + 10
     os.utime(root / "crates" / "x" / "src" / "lib.rt", (later, later))
-    done = call(*args, tool=tool, env={**os.environ, "PATH": f"{bare}:{os.environ['PATH']}"})
+    done = call(*args, tool=tool, env=able)
     check("after: built again where a source is newer", done.status == 0 and "building the library" in done.err, done)
+
+    shutil.rmtree(root / "target")
+    done = Done(subprocess.run([root / "examples" / "try"], env=able, capture_output=True))
+    check("try: prints the day and nothing else", done.out == (AFTERNOON / "try.txt").read_bytes(), done)
+    check("try: a line for each thing that is built", re.fullmatch(
+        "building the run program, about 3 minutes .*; log in target/try.log\nbuilding the library .*\nbuilding the program .*\n",
+        done.err) is not None, done)
+    rt.write_text("#!/bin/sh\necho words of the prover\nexit 1\n")
+    done = Done(subprocess.run([root / "examples" / "try"], env=able, capture_output=True))
+    check("try: rt fails", done.status == 1 and done.out == b"" and "said is in target/try.log" in done.err
+          and "words" not in done.err, done)
 
 
 # ---- The rest
