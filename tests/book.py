@@ -1,0 +1,878 @@
+#!/usr/bin/env python3
+"""Tests of tools/book.py: messages, files kept, round trips, what is left, the book after a day.
+
+    python3 tests/book.py [BOOKS [PART ..]]
+
+BOOKS is how many random books are tried (300 if not given), a PART one of the parts that are printed. Builds the
+library for C if it is missing. The last line is `N passed, M failed`; the exit status is 1 where anything failed.
+"""
+
+import copy
+import os
+import random
+import re
+import resource
+import shutil
+import subprocess
+import sys
+import tempfile
+import time
+from pathlib import Path
+
+ROOT = Path(__file__).resolve().parent.parent
+TOOL = ROOT / "tools" / "book.py"
+sys.path.insert(0, str(ROOT / "tools"))
+sys.path.insert(0, str(ROOT / "oracle"))
+import days
+import rights
+from books import library, records, state, texts, words
+from rights import LATEST, Asset, Book, Entry, Event
+
+AFTERNOON = ROOT / "examples" / "afternoon"
+RUN = ROOT / "target" / "bin" / "run"
+passed = failed = 0
+
+
+def check_all(name, parts):
+    """One test of many parts, each whether it holds and what it is about."""
+    wrong = [detail for ok, detail in parts if not ok]
+    check(name, not wrong, "; ".join(map(str, wrong[:3])))
+
+
+def check(name, ok, detail=""):
+    global passed, failed
+    if ok:
+        passed += 1
+    else:
+        failed += 1
+        print(f"FAILED: {name}\n    {detail}" if detail else f"FAILED: {name}")
+
+
+class Done:
+    """What a call of book.py did."""
+
+    def __init__(self, done):
+        self.status, self.out, self.err = done.returncode, done.stdout, done.stderr.decode(errors="replace")
+
+    def __repr__(self):
+        return f"status {self.status}, out {self.out[:300]!r}, err {self.err[:600]!r}"
+
+
+def call(*args, stdin=b"", tool=TOOL, **how):
+    command = [sys.executable, str(tool), *map(str, args)]
+    try:
+        return Done(subprocess.run(command, input=stdin, capture_output=True, timeout=60, **how))
+    except subprocess.TimeoutExpired:
+        return Done(subprocess.CompletedProcess(command, None, b"", b"not ended after 60 seconds"))
+
+
+def refused(name, fragment, *args, **how):
+    """The call ends with 2, prints nothing on standard output, and says this, plainly."""
+    done = call(*args, **how)
+    plain = "Traceback" not in done.err and len(done.err) < 600 and 0 < done.err.count("\n") <= 3
+    check(name, done.status == 2 and done.out == b"" and fragment in done.err and plain, f"wanted `{fragment}`, got {done}")
+    return done
+
+
+# ---- Messages
+
+BOOK = "asset 1 key\nasset 9 parent\n"
+ENTRY = "entry 0: object 1, asset 1, play"
+NINES = "9" * 5000
+BOOK_LINES = [          # the text behind BOOK, the number of the line that is named, a part of the message
+    ("count 2", 3, "a line begins with time, asset, entry or player, not with `count`"),
+    ("time", 3, "the line ends where the time is expected"),
+    ("time 5\ntime 6", 4, "`time` is given twice"),
+    ("time 4000000001", 3, "4000000000 is the greatest"),
+    ("time 1969-12-31", 3, "before 1970"),
+    ("time 2200-01-01", 3, "after 2096-10-02"),
+    ("time 2026-02-30", 3, "there is no 2026-02-30"),
+    ("time 2026-12-24T25:00", 3, "there is no 2026-12-24 25:00"),
+    ("time 24.12.2026", 3, "should be seconds since 1970 or a date"),
+    ("time 2026-12-24 18:30:00 (5)", 3, "is second 1798137000, not 5"),
+    ("time 5 6", 3, "`6` is not understood here"),
+    ("time -5", 3, "should be seconds since 1970"),
+    (f"time {NINES}", 3, "4000000000 is the greatest"),
+    ("asset", 3, "the line ends where the asset's number is expected"),
+    ("asset x key", 3, "should be a number, not `x`"),
+    ("asset 0 key", 3, "1 is the least"),
+    ("asset 65536 key", 3, "65535 is the greatest"),
+    (f"asset {NINES} key", 3, "65535 is the greatest"),
+    ("asset \u0663 key", 3, "should be a number"),
+    ("asset 1 parent", 3, "asset 1 is in the book already"),
+    ("asset 2", 3, "an asset is `parent`"),
+    ("asset 2 parent key", 3, "an asset is `parent`"),
+    ("asset 2 parent parent", 3, "`parent` is given twice"),
+    ("asset 2 key key", 3, "`key` is given twice"),
+    ("asset 2 key inherits 9 inherits 1", 3, "`inherits` is given twice"),
+    ("asset 2 key inherits", 3, "the line ends where the asset that it inherits from is expected"),
+    ("asset 2 key inherits 0", 3, "1 is the least"),
+    ("asset 2 kee", 3, "`kee` is not understood in an asset"),
+    ("\n".join(f"asset {n} key" for n in range(100, 163)), 65, "at most 64 assets"),
+    ("entry 1: object 1, asset 1, play", 3, "this is entry 0"),
+    ("entry 300: object 1, asset 1, play", 3, "this is entry 0"),
+    (f"entry {NINES}: object 1, asset 1, play", 3, "this is entry 0"),
+    ("entry", 3, "has no rights object"),
+    ("entry 0: asset 1, play", 3, "has no rights object"),
+    ("entry 0: object 1, play", 3, "has no asset"),
+    ("entry 0: object 1, asset 3, play", 3, "asset 3 is not in the book above this line"),
+    ("entry 0: object 1, asset 1", 3, "has no kind"),
+    (f"{ENTRY}, display", 3, "the kind is given twice, as `play` and as `display`"),
+    (f"{ENTRY}, play", 3, "`play` is given twice"),
+    (f"{ENTRY}, count 2, count 30", 3, "`count` is given twice"),
+    (f"{ENTRY}, object 2", 3, "`object` is given twice"),
+    (f"{ENTRY}, start 5, start 5", 3, "`start` is given twice"),
+    (f"{ENTRY}, end 5, end 5", 3, "`end` is given twice"),
+    (f"{ENTRY}, interval 5, interval 5", 3, "`interval` is given twice"),
+    (f"{ENTRY}, accumulated 5, accumulated 5", 3, "`accumulated` is given twice"),
+    (f"{ENTRY}, timed 5, timer 1, timer 1", 3, "`timer` is given twice"),
+    (f"{ENTRY}, timed 5, timed 5", 3, "`timed` is given twice"),
+    (f"{ENTRY}, interval 5, first 0, first 0", 3, "`first` is given twice"),
+    (f"{ENTRY}, count 5, used count 1, used count 2", 3, "`used count` is given twice"),
+    (f"{ENTRY}, count 0", 3, "1 is the least"),
+    (f"{ENTRY}, count 1000001", 3, "1000000 is the greatest"),
+    (f"{ENTRY}, count {NINES}", 3, "1000000 is the greatest"),
+    (f"{ENTRY}, count", 3, "the line ends where the count is expected"),
+    (f"{ENTRY}, count two", 3, "should be a number, not `two`"),
+    (f"{ENTRY}, count 1.5", 3, "should be a number, not `1.5`"),
+    (f"{ENTRY}, interval 0", 3, "1 is the least"),
+    (f"{ENTRY}, interval 1158d", 3, "100000000 is the greatest"),
+    (f"{ENTRY}, interval {NINES}d", 3, "100000000 is the greatest"),
+    (f"{ENTRY}, interval week", 3, "should be seconds, or a number with s, min, h or d"),
+    (f"{ENTRY}, accumulated {NINES}", 3, "100000000 is the greatest"),
+    (f"{ENTRY}, start 6, end 5", 3, "the start is after the end"),
+    (f"{ENTRY}, timer 5", 3, "a timer belongs to a timed count"),
+    (f"{ENTRY}, first 5", 3, "`first` belongs to an interval"),
+    (f"{ENTRY}, used count 1", 3, "`used count` belongs to a limit `count`"),
+    (f"{ENTRY}, count 2, used count 3", 3, "3 is used of count, more than its limit, 2"),
+    (f"{ENTRY}, used seconds 3", 3, "`seconds` is not a known meter; known are: count, timed, accumulated"),
+    (f"{ENTRY}, interval 5, first 7", 3, "the first use is after the book's time (0)"),
+    (f"{ENTRY}, cont 2", 3, "`cont` is not understood in an entry"),
+    ("entry 0: object 1, asset 1, print, accumulated 5", 3, "print and export take no time"),
+    ("entry 0: object 1, asset 1, export, timed 5, timer 5", 3, "print and export take no time"),
+    ("\n".join(["entry object 1 asset 1 play"] * 65), 67, "at most 64 entries"),
+    ("player 16: number 1, stop, refused 14", 3, "15 is the greatest"),
+    ("player 0: stop, refused 14", 3, "`number` and the player's last number are expected"),
+    ("player 0: number 0, stop, refused 14", 3, "leave out a player that has not asked yet"),
+    ("player 0: number 4294967296, stop, refused 14", 3, "4294967295 is the greatest"),
+    ("player 0: number 1, halt, refused 14", 3, "`halt` is not a known operation; known are: begin, continue, stop"),
+    ("player 0: number 1, begin 1 watch, refused 13", 3, "`watch` is not a known kind; known are: play"),
+    ("player 0: number 1, stop", 3, "the last answer is expected here"),
+    ("player 0: number 1, stop, refused 7", 3, "a stored refusal is 10 to 15, not 7"),
+    ("player 0: number 1, stop, refused 16", 3, "a stored refusal is 10 to 15, not 16"),
+    (f"player 0: number 1, stop, refused {NINES}", 3, "4294967295 is the greatest"),
+    ("player 0: number 1, stop, refused 14, refused 14", 3, "`refused 14` is not understood here"),
+    ("player 0: number 1, stop, refused 14\nplayer 0: number 1, stop, refused 14", 4, "player 0 is in the book already"),
+    ("player 0: number 1, stop, granted 0 5", 3, "granted entry 0, but the book has 0 entries"),
+    ("player 0: number 1, stop, refused 14, open 0 0 5", 3, "has entry 0 open, but the book has 0 entries"),
+    (f"{ENTRY}\nplayer 0: number 1, stop, refused 14, open 0 5 6", 4, "begins at or before the book's time (0)"),
+    (f"{ENTRY}\nplayer 0: number 1, stop, refused 14, open 0 0 61", 4, "at most 60 seconds past the book's time"),
+    (f"{ENTRY}, start 5, end 90\ntime 10\nplayer 0: number 1, stop, refused 14, open 0 4 20", 5, "outside the dates"),
+    (f"{ENTRY}, interval 5\nplayer 0: number 1, stop, refused 14, open 0 0 5", 4, "`first` is missing there"),
+    (f"{ENTRY}, interval 5, first 0\nplayer 0: number 1, stop, refused 14, open 0 0 6", 4, "outside the interval"),
+    ("entry 0: object 1, asset 1, print\nplayer 0: number 1, stop, refused 14, open 0 0 6", 4, "a print is never open"),
+    (f"{ENTRY}, count 5\nplayer 0: number 1, stop, refused 14, open 0 0 6", 3, "`used count` is less than"),
+    (f"{ENTRY}, timed 5\nplayer 0: number 1, stop, refused 14, open 0 0 6", 3, "`used timed` is less than"),
+    (f"{ENTRY}, accumulated 9, used accumulated 5\nplayer 0: number 1, stop, refused 14, open 0 0 6", 3, "which is 6"),
+]
+EVENT_LINES = [
+    ("begin 1 play 5", 1, "an event begins with player and number"),
+    ("0 begin 1 play 5", 1, "an event begins with player and number"),
+    ("0.1", 1, "the line ends where the operation is expected"),
+    ("0.1 start 1 play 5", 1, "`start` is not a known operation"),
+    ("0.1 begin 1 watch 5", 1, "`watch` is not a known kind"),
+    ("0.1 begin 1 play", 1, "the line ends where the time is expected"),
+    ("0.1 begin 65536 play 5", 1, "65535 is the greatest"),
+    ("256.1 stop 5", 1, "255 is the greatest"),
+    ("0.4294967296 stop 5", 1, "4294967295 is the greatest"),
+    (f"0.{NINES} stop 5", 1, "4294967295 is the greatest"),
+    (f"0.1 stop {NINES}", 1, "4294967295 is the greatest"),
+    ("0.1 stop 4294967296", 1, "4294967295 is the greatest"),
+    ("0.1 stop 5 6", 1, "`6` is not understood here"),
+    ("0.1 stop 1 play 5", 1, "`play 5` is not understood here"),
+    ("raw 0", 1, "each as two of the digits"),
+    ("raw", 1, "this one has 0"),
+    ("raw " + "00" * 14, 1, "this one has 14"),
+    ("raw 00\n0.1 stop 5", 2, "only the last record"),
+]
+
+
+def test_lines(folder):
+    source = folder / "lines.txt"
+    for command, before, lines in (("make", BOOK, BOOK_LINES), ("events", "", EVENT_LINES)):
+        for line, at, fragment in lines:
+            source.write_text(before + line + "\n", encoding="utf-8")
+            done = refused(f"{command}: {line[:70]!r}", fragment, command, source, folder / "made")
+            check(f"{command}: {line[:70]!r}, the line's number", f"lines.txt, line {at}: " in done.err, done)
+    check("a refused text leaves no file", not (folder / "made").exists())
+
+
+def test_inputs(folder):
+    """Files that are missing, folders, or of the wrong kind."""
+    image, text, events = folder / "b.rbk", folder / "b.txt", folder / "e.bin"
+    shutil.copy(AFTERNOON / "rights.rbk", image)
+    shutil.copy(AFTERNOON / "book.txt", text)
+    shutil.copy(AFTERNOON / "events.bin", events)
+    out = folder / "out"
+    for command in ("show", "text", "left", "diff", "explain", "make", "events", "after"):
+        rest = {"diff": [image], "explain": [AFTERNOON / "expected.txt"], "make": [out], "events": [out],
+                "after": [events, out]}.get(command, [])
+        refused(f"{command}: missing file", "there is no such file", command, folder / "none", *rest)
+        refused(f"{command}: folder", "this is a folder", command, folder, *rest)
+        refused(f"{command}: empty name", "there is no such file", command, "", *rest)
+        refused(f"{command}: too many words", f"usage: book.py {command}", command, image, *rest, "more", "words")
+        refused(f"{command}: too few words", f"usage: book.py {command}", command)
+        refused(f"{command}: unknown option", f"usage: book.py {command}", command, image, *rest[1:], "--all")
+    refused("diff: missing second file", "there is no such file", "diff", image, folder / "none")
+    refused("explain: missing answers", "there is no such file", "explain", events, folder / "none")
+    refused("after: missing events", "there is no such file", "after", image, folder / "none", out)
+    refused("after: events are a folder", "this is a folder", "after", image, folder, out)
+    refused("after: events are text", "this is a text", "after", image, AFTERNOON / "events.txt", out)
+    refused("after: events are a book's text", "this is a text", "after", image, text, out)
+    refused("after: events are a book", "this is a book image", "after", image, image, out)
+    refused("after: next to standard output", "standard output is for the answers", "after", image, events, "-")
+    refused("after: both from standard input", "only one", "after", "-", "-", out)
+    refused("after: the book is text", "this is a text; `book.py make`", "after", text, events, out)
+    refused("explain: both from standard input", "only one", "explain", "-", "-")
+    refused("explain: text for records", "this is a text", "explain", AFTERNOON / "events.txt", AFTERNOON / "expected.txt")
+    refused("explain: answers are bytes", "this is not a text file", "explain", events, events)
+    for command in ("show", "text", "left"):
+        refused(f"{command}: text for an image", "this is a text; `book.py make`", command, text)
+        refused(f"{command}: empty file", "refuses this image with 20", command, "/dev/null")
+    refused("make: an image for text", "`book.py text", "make", image, out)
+    refused("make: bytes for text", "this is not a text file", "make", events, out)
+    refused("events: an image for text", "this is a book image", "events", image, out)
+    refused("unknown command", "`print` is not a command; the commands are: left, after", "print", image)
+    refused("command with a capital", "`Show` is not a command", "Show", image)
+    refused("left: no time", "usage: book.py left", "left", image, "--at")
+    refused("left: bad time", "--at: the time should be seconds", "left", image, "--at", "noon")
+    refused("left: late time", "4000000000 is the greatest", "left", image, "--at", "4000000001")
+    refused("left: long time", "4000000000 is the greatest", "left", image, "--at", NINES)
+    refused("left: words behind the time", "`6` is not understood", "left", image, "--at", "5 6")
+    (folder / "latin.txt").write_bytes("asset 1 key\nasset 2 key # f\u00fcr\n".encode("latin-1"))
+    refused("make: not UTF-8", "latin.txt, line 2: byte 0xfc is not UTF-8", "make", folder / "latin.txt", out)
+    (folder / "wide.txt").write_text("asset 1 key\n", encoding="utf-16")
+    refused("make: UTF-16", "UTF-16; save it as UTF-8", "make", folder / "wide.txt", out)
+    for cut, code in ((b"", 20), (b"RBK", 20), (b"RBX" + bytes(400), 21), (b"RBK\0\2" + bytes(400), 22)):
+        (folder / "bad.rbk").write_bytes(cut)
+        refused(f"show: an image refused with {code}", f"with {code}", "show", folder / "bad.rbk")
+        refused(f"after: an image refused with {code}", f"with {code}", "after", folder / "bad.rbk", events, out)
+    check("a refused command leaves no file", not out.exists())
+    for args in ([], ["--help"], ["help"], ["left", "--help"]):
+        done = call(*args)
+        check(f"help for {args}", done.status == 0 and b"tools/book.py after BOOK EVENTS NEXT" in done.out, done)
+
+
+def test_forgiving(folder):
+    """What a text may have: Windows line ends, tabs, a byte order mark, an empty file, no line feed at the end."""
+    plain = "time 5\nasset 1 key\nentry 0: object 1, asset 1, play, count 2\n"
+    wanted = call("make", "-", "-", stdin=plain.encode())
+    check("make from and to standard streams", wanted.status == 0 and wanted.err == "" and len(wanted.out) == 451, wanted)
+    for name, text in (("Windows line ends", plain.replace("\n", "\r\n")), ("old line ends", plain.replace("\n", "\r")),
+                       ("tabs", plain.replace(" ", "\t")), ("no colons or commas", re.sub("[:,]", "", plain)),
+                       ("no line feed at the end", plain[:-1]), ("empty lines", plain.replace("\n", "\n\n  \n# x\n"))):
+        done = call("make", "-", "-", stdin=text.encode())
+        check(f"make: {name}", done.status == 0 and done.out == wanted.out and done.err == "", done)
+    done = call("make", "-", "-", stdin=plain.encode("utf-8-sig"))
+    check("make: a byte order mark", done.status == 0 and done.out == wanted.out and "byte order mark" in done.err, done)
+    done = call("make", "-", "-", stdin=b"")
+    check("make: an empty text is an empty book", done.status == 0 and len(done.out) == 395, done)
+    done = call("events", "-", "-", stdin=b"")
+    check("events: an empty text", done.status == 0 and done.out == b"" and done.err == "", done)
+    done = call("left", "-", stdin=call("make", "-", "-", stdin=b"").out)
+    check("left: a book without entries", done.status == 0 and b"no entries" in done.out, done)
+
+
+def test_times(folder):
+    """Times as `show` prints them are read again; a date alone is the day's first second, after `end` its last."""
+    def entry(line):
+        path = folder / "times.txt"
+        path.write_text(f"time 4000000000\nasset 1 key\nentry 0: object 1, asset 1, play, {line}\n")
+        return texts.book_of_text(path).entries[0]
+
+    day = 1809043200        # 2027-04-30
+    for line, field, value in (
+            ("end 2027-04-30", "end", day + 86_399), ("start 2027-04-30", "start", day),
+            ("end 2027-04-30T00:00", "end", day), ("end 2027-04-30 00:00:00", "end", day),
+            ("end 2027-04-30T18:30:05Z", "end", day + 66_605), ("end 2027-04-30 18:30 UTC", "end", day + 66_600),
+            (f"start 2027-04-30 18:30:05 ({day + 66_605})", "start", day + 66_605), ("start 77", "start", 77),
+            (f"start 2027-04-30 18:30:05 ({day + 66_605}), UTC", "start", day + 66_605),
+            ("interval 5, first 2027-04-30", "first", day), ("interval 7d", "interval", 604_800),
+            ("interval 1 h 30 min", "interval", 5400), ("interval 1h30m", "interval", 5400), ("interval 90", "interval", 90),
+            ("interval 2 min, count 5", "interval", 120), ("accumulated 1 d 1 s", "accumulated", 86_401),
+            ("timed 3, timer 1min", "timer", 60), ("accumulated 2h, used accumulated 1 h", "used_seconds", 3600)):
+        got = getattr(entry(line), field)
+        check(f"times: {line}", got == value, f"wanted {value}, got {got}")
+    rng, parts = random.Random(5), []
+    for _ in range(200):
+        t = rng.choice((rng.randrange(LATEST + 1), rng.randrange(200_000_000), 0, LATEST))
+        length = rng.choice((rng.randint(1, 100_000_000), rng.randint(1, 100_000)))
+        for text in (words.when(t), words.date(t), words.time_text(t)):
+            parts += [(words.Words(text).time("the time", last_second=last) == t, text) for last in (False, True)]
+        parts.append((words.Words(words.span(length)).length("the length", 100_000_000) == length, words.span(length)))
+    check_all("times and lengths as they are shown are read again", parts)
+    check("text has dates, and seconds where they are few",
+          (words.time_text(1798137000), words.time_text(1141)) == ("2026-12-24T18:30:00", "1141"))
+
+
+# ---- Files kept
+
+def test_files(folder):
+    text, image, events, records_file = (folder / name for name in ("k.txt", "k.rbk", "k.events", "k.bin"))
+    shutil.copy(AFTERNOON / "book.txt", text)
+    shutil.copy(AFTERNOON / "events.txt", events)
+    call("make", text, image)
+    call("events", events, records_file)
+    check("make gives the shipped image", image.read_bytes() == (AFTERNOON / "rights.rbk").read_bytes())
+    check("events gives the shipped records", records_file.read_bytes() == (AFTERNOON / "events.bin").read_bytes())
+    (folder / "soft").symlink_to(text)
+    os.link(text, folder / "hard")
+    (folder / "way").symlink_to(folder)
+    before = {path: path.read_bytes() for path in (text, image, events, records_file)}
+    for name, same in (("the same name", text), ("a symbolic link", folder / "soft"), ("a hard link", folder / "hard"),
+                       ("another way to it", folder / "way" / "k.txt"),
+                       ("a longer name", f"{folder}/./../{folder.name}/k.txt")):
+        refused(f"make: output is the input by {name}", "would be lost", "make", text, same)
+        refused(f"events: output is the input by {name}", "would be lost", "events", text, same)
+    refused("make: input is the link", "would be lost", "make", folder / "soft", text)
+    refused("make: output is the input, relative", "would be lost", "make", "k.txt", "./k.txt", cwd=folder)
+    refused("after: the next book is the book", "would be lost", "after", image, records_file, image)
+    refused("after: the next book is the events", "would be lost", "after", image, records_file, records_file)
+    refused("make: over another text", "text is there already", "make", text, events)
+    refused("make: over records", "a file of another kind is there already", "make", text, records_file)
+    refused("events: over a book", "a book image is there already", "events", events, image)
+    refused("events: over a text", "text is there already", "events", events, text)
+    refused("after: over a text", "text is there already", "after", image, records_file, text)
+    refused("make: output is a folder", "this is a folder", "make", text, folder)
+    refused("make: output in no folder", "there is no such folder", "make", text, folder / "none" / "k.rbk")
+    refused("make: output is a folder's name", "this names a folder", "make", text, f"{folder}/new/")
+    check("refused outputs leave every file", all(path.read_bytes() == data for path, data in before.items()))
+
+    other = folder / "o.txt"
+    other.write_text("asset 5 key\n")
+    image.chmod(0o640)
+    limit = {"preexec_fn": lambda: resource.setrlimit(resource.RLIMIT_FSIZE, (100, 100))}
+    for name, args in (("make", ["make", other, image]), ("events", ["events", events, records_file])):
+        refused(f"{name}: the disk is full", "the file that was there is as it was", *args, **limit)
+    new = folder / "n.rbk"
+    refused("after: the disk is full", "the file would be larger than allowed", "after", image, records_file, new, **limit)
+    refused("make: a new file on a full disk", "not written: the file would be larger", "make", other, new, **limit)
+    check("a failed write leaves the old file", image.read_bytes() == before[image]
+          and records_file.read_bytes() == before[records_file] and not new.exists())
+    check("a failed write leaves nothing beside it", not [path for path in folder.iterdir() if path.name.startswith(".")])
+    done = call("make", other, image)
+    check("make replaces a book", done.status == 0 and len(image.read_bytes()) == 400, done)
+    check("make keeps the file's mode", image.stat().st_mode & 0o777 == 0o640)
+    (folder / "to").symlink_to(image)
+    done = call("make", text, folder / "to")
+    check("make writes through a link", (folder / "to").is_symlink() and image.read_bytes() == before[image], done)
+    done = call("make", text, folder / "fresh.rbk", preexec_fn=lambda: os.umask(0o027))
+    check("a new file has the usual mode", (folder / "fresh.rbk").stat().st_mode & 0o777 == 0o640, done)
+    pipe = folder / "pipe"
+    os.mkfifo(pipe)
+    reader = subprocess.Popen(["cat", pipe], stdout=subprocess.PIPE)
+    done = call("make", text, pipe)
+    try:
+        got = reader.communicate(timeout=10)[0]
+    except subprocess.TimeoutExpired:
+        reader.kill()
+        got = None
+    check("make to a pipe writes into it and leaves it", done.status == 0 and pipe.is_fifo() and got == before[image], done)
+    done = subprocess.run(f"{TOOL} make {text} /proc/self/fd/1 | cat", shell=True, capture_output=True)
+    check("make to an open pipe", done.stdout == before[image] and done.stderr == b"", done)
+
+
+def test_streams(folder):
+    """Standard output that is closed or full."""
+    for args in (["show", AFTERNOON / "rights.rbk"], ["--help"], ["make", AFTERNOON / "book.txt", "-"],
+                 ["explain", AFTERNOON / "events.bin", AFTERNOON / "expected.txt"]):
+        with open("/dev/full", "wb") as full:
+            done = subprocess.run([sys.executable, TOOL, *args], stdout=full, stderr=subprocess.PIPE, text=True)
+        check(f"{args[0]}: a full disk behind standard output",
+              done.returncode == 2 and done.stderr == "standard output: no space left on device\n", done)
+    shell = f'{sys.executable} {TOOL} explain {AFTERNOON / "events.bin"} - < {AFTERNOON / "expected.txt"} | head -1'
+    done = subprocess.run(shell, shell=True, capture_output=True, text=True)
+    check("a pipe that is closed early", done.stderr == "" and done.stdout.startswith("    1  player 0"), done)
+    long = folder / "long.bin"
+    long.write_bytes((AFTERNOON / "events.bin").read_bytes() * 2000)
+    shell = f"{sys.executable} {TOOL} explain {long} /dev/null | head -1"
+    done = subprocess.run(shell, shell=True, capture_output=True, text=True)
+    check("a long pipe that is closed early", done.stderr == "" and done.stdout.count("\n") == 1, done)
+
+
+# ---- Random books
+
+def wild_book(rng):
+    """A legal book with any value in any field that the rules allow."""
+    book = Book(time=rng.choice((0, 60, rng.randrange(LATEST + 1), LATEST)))
+    numbers = rng.sample(range(1, 65_536), rng.choice((0, 1, 2, 5, 64)))
+    for number in numbers:
+        inherit = rng.choice((0, 0, rng.choice(numbers), rng.randint(1, 65_535)))
+        book.assets.append(Asset(number, inherit, rng.randint(0, 1)))
+    for _ in range(rng.choice((0, 1, 3, 12, 64)) if numbers else 0):
+        book.entries.append(wild_entry(rng, rng.choice(numbers), book.time))
+    for player in book.players:
+        if rng.random() < 0.6:
+            wild_player(rng, book, player)
+    for position, entry in enumerate(book.entries):
+        uses = [p for p in book.players if p.open and p.open_entry == position]
+        seconds = sum(p.until - p.begin for p in uses)
+        if rng.random() < 0.2:      # to be used up often enough
+            entry.used_count, entry.used_timed, entry.used_seconds = entry.count, entry.timed, entry.accumulated
+        if any(entry.has(flag) and used < least for flag, used, least in (
+                (rights.COUNT, entry.used_count, len(uses)), (rights.TIMED, entry.used_timed, len(uses)),
+                (rights.ACCUMULATED, entry.used_seconds, seconds))):
+            for player in uses:
+                player.open = player.open_entry = player.begin = player.until = 0
+    assert rights.read(rights.write(book))[0] == 0
+    return book
+
+
+def wild_entry(rng, asset, now):
+    kind = rng.randint(1, 5)
+    flags = rng.randrange(64) & (~rights.ACCUMULATED if kind >= 4 else 63)
+    entry = Entry(rng.randint(1, 65_535), asset, kind, flags)
+    near = lambda: max(0, min(LATEST, now + rng.choice((-1, 0, 1, -100, 100, rng.randint(-10**8, 10**8)))))
+    if flags & rights.COUNT:
+        entry.count = rng.choice((1, 20, 1_000_000))
+        entry.used_count = rng.randint(0, entry.count)
+    if flags & rights.TIMED:
+        entry.timed, entry.timer = rng.choice((1, 20, 1_000_000)), rng.choice((0, 1, 45, 1_000_000)) if kind < 4 else 0
+        entry.used_timed = rng.randint(0, entry.timed)
+    if flags & rights.START:
+        entry.start = near()
+    if flags & rights.END:
+        entry.end = max(entry.start, near())
+    if flags & rights.INTERVAL:
+        entry.interval = rng.choice((1, 90, 100_000_000))
+        entry.started = rng.randint(0, 1)
+        entry.first = entry.started * max(0, now - rng.choice((0, 1, 89, 90, rng.randint(0, 10**8))))
+    if flags & rights.ACCUMULATED:
+        entry.accumulated = rng.choice((1, 500, 100_000_000))
+        entry.used_seconds = rng.randint(0, entry.accumulated)
+    return entry
+
+
+def wild_player(rng, book, player):
+    player.number = rng.choice((1, 7, rng.randint(1, 2**32 - 1), 2**32 - 1))
+    player.operation = rng.randint(1, 3)
+    if player.operation == 1:
+        player.asset, player.kind = rng.randrange(65_536), rng.randint(1, 5)
+    player.code, player.entry = rng.randint(10, 15), 255
+    if book.entries and rng.random() < 0.5:
+        player.code, player.entry = 0, rng.randrange(len(book.entries))
+        player.answer_until = rng.choice((0, 1119, rng.randrange(2**32), 2**32 - 1))
+    if book.entries and rng.random() < 0.7:
+        position = rng.randrange(len(book.entries))
+        player.open, player.open_entry = 1, position
+        player.begin = max(0, book.time - rng.choice((0, 1, 30, 59, 10**6)))
+        player.until = book.time + rng.choice((1, 30, 60))
+        if not rights.open_use_is_good(book, player):
+            player.open = player.open_entry = player.begin = player.until = 0
+
+
+def played_book(rng, seed):
+    """A book in the middle of a random day of the second program."""
+    kind = rng.choice(("crowd", "wide", "cabins", "going on", "old"))
+    image, events, _ = days.make_day(seed, rng.choice((1, 20, 60)), kind)
+    _, book = rights.read(image)
+    play(book, events)
+    return book
+
+
+def play(book, events):
+    for at in range(0, len(events), 13):
+        rights.answer_record(book, events[at:at + 13])
+
+
+def random_books(how_many):
+    for seed in range(how_many):
+        rng = random.Random(f"book {seed}")
+        yield seed, rng, wild_book(rng) if seed % 2 else played_book(rng, seed)
+
+
+def test_round_trips(folder, how_many):
+    path, image = folder / "trip.txt", folder / "trip.rbk"
+    opened = 0
+    for seed, rng, book in random_books(how_many):
+        data = rights.write(book)
+        opened += any(player.open for player in book.players)
+        text = "\n".join(texts.text_lines(book)) + "\n"
+        path.write_text(text)
+        again = texts.book_of_text(path)
+        check(f"round trip of book {seed}", rights.write(again) == data and again == book)
+        if seed < 10:
+            image.write_bytes(data)
+            done = call("text", image)
+            check(f"text of book {seed}", done.status == 0 and done.out.decode() == text, done)
+            check(f"make of book {seed}", call("make", "-", "-", stdin=done.out).out == data)
+            done = call("show", image)
+            check(f"show of book {seed}", done.status == 0 and done.err == "", done)
+    check("many of the books have open uses", opened > how_many / 4, str(opened))
+
+
+# ---- diff
+
+def fields_of(book):
+    """(what diff names, the record, a field) for the fields of a book that can be one greater in some other book."""
+    yield "time", book, "time"
+    for asset in book.assets:
+        yield f"asset {asset.number}", asset, "inherit"
+    for position, entry in enumerate(book.entries):
+        for field in vars(entry):
+            if getattr(entry, field) and field not in ("kind", "flags", "started"):
+                yield f"entry {position}", entry, field
+    for index, player in enumerate(book.players):
+        fields = ["number"] if player.number else []
+        fields += ["asset"] if player.operation == rights.BEGIN else []
+        fields += ["entry", "answer_until"] if player.number and player.code == 0 else ["code"] if player.code else []
+        fields += ["open_entry", "begin", "until"] if player.open else []
+        yield from ((f"player {index}", player, field) for field in fields)
+
+
+def test_diff(folder, how_many):
+    for seed, rng, book in random_books(how_many):
+        check(f"diff of book {seed} with itself", list(state.differences(book, copy.deepcopy(book))) == [])
+        other, parts = copy.deepcopy(book), []
+        fields = list(fields_of(other))
+        for where, record, field in rng.sample(fields, min(20, len(fields))):
+            setattr(record, field, getattr(record, field) + 1)
+            lines = list(state.differences(book, other))
+            parts.append((len(lines) == 1 and lines[0].startswith(f"{where}: "), f"{where}, {field}: {lines}"))
+            setattr(record, field, getattr(record, field) - 1)
+        check_all(f"diff of book {seed} with a field changed", parts)
+    a = Book(assets=[Asset(1, 0, 1), Asset(2, 0, 1)], entries=[Entry(1, 1, 1)])
+    b = Book(assets=[Asset(2, 0, 1), Asset(1, 0, 1)], entries=[Entry(1, 1, 1), Entry(1, 2, 2, 1, count=5)])
+    lines = list(state.differences(a, b))
+    check("diff: order of assets, one entry more", lines == [
+        "assets: in another order, 1 2 -> 2 1", "entry 1: only in the second: object 1, asset 2, display, count 5"], str(lines))
+    lines = list(state.differences(b, Book(assets=[Asset(2, 9, 1)], entries=[])))
+    check("diff: less", lines == [
+        "asset 2: key -> key, inherits 9", "asset 1: only in the first: key",
+        "entry 0: only in the first: object 1, asset 1, play",
+        "entry 1: only in the first: object 1, asset 2, display, count 5"], str(lines))
+    first, second = AFTERNOON / "rights.rbk", folder / "second.rbk"
+    second.write_bytes(rights.write(Book(time=5)))
+    check("diff: the same", (lambda done: (done.status, done.out, done.err))(call("diff", first, first)) == (0, b"", ""))
+    done = call("diff", first, second)
+    check("diff: status 1 where books differ", done.status == 1 and done.out.startswith(b"time: ") and done.err == "", done)
+
+
+# ---- left
+
+OTHER_KIND = {1: 2, 2: 3, 3: 1, 4: 5, 5: 4}
+
+
+def copy_of(book):
+    return Book(book.time, book.assets, [copy.copy(entry) for entry in book.entries], [copy.copy(p) for p in book.players])
+
+
+def free_player(book, t):
+    """A player that can ask at t and has nothing open then."""
+    for index, player in enumerate(book.players):
+        if not (player.open and player.until > t) and player.number < rights.LAST_NUMBER:
+            return index, player.number + 1
+    return None
+
+
+def asked_alone(rng, book, position, t):
+    """(a book in which no other entry has this entry's kind, a begin of that kind at t for each asset that could have to
+    do with it, and for a few others)."""
+    book, wanted = copy_of(book), book.entries[position]
+    for other, entry in enumerate(book.entries):
+        if other != position and entry.kind == wanted.kind:
+            entry.kind = OTHER_KIND[entry.kind]
+    numbers = [asset.number for asset in book.assets if wanted.asset in (asset.number, asset.inherit)]
+    numbers += rng.sample([asset.number for asset in book.assets], min(3, len(book.assets)))
+    return book, [Event(*free_player(book, t), rights.BEGIN, number, wanted.kind, t) for number in numbers]
+
+
+def granted_by_oracle(book, events):
+    return any(rights.step(copy_of(book), event)[0] == 0 for event in events)
+
+
+def granted_by_run(folder, book, events):
+    """The same asked of the proved program, one run for each request."""
+    (folder / "rights.rbk").write_bytes(rights.write(book))
+    for event in events:
+        done = subprocess.run([str(RUN)], input=rights.encode(event), cwd=folder, capture_output=True)
+        if done.stdout.startswith(b"0 "):
+            return True
+    return False
+
+
+def test_left(folder, how_many):
+    seen = {True: 0, False: 0}
+    for seed, rng, book in random_books(how_many):
+        t = rng.choice((book.time, book.time + 1, book.time + 30, book.time + 60, rng.randrange(LATEST + 1),
+                        *days.edges(book, book.time)))
+        t = min(LATEST, max(t, book.time))
+        if free_player(book, t) is None:
+            continue
+        lines = list(state.left_lines(state.settled(book, t), t))
+        parts = [(len(lines) == max(1, len(book.entries)), "a line for each entry")]
+        for position, line in enumerate(lines[:len(book.entries)]):
+            says = "; can be granted, " in line
+            seen[says] += 1
+            alone = asked_alone(rng, book, position, t)
+            parts.append((says != ("; nobody can use it: " in line), f"one of two: {line}"))
+            parts.append((says == granted_by_oracle(*alone), f"by the second program, at {t}: {line}"))
+            if position < 3 and len(alone[1]) < 8:
+                parts.append((says == granted_by_run(folder, *alone), f"by the run program, at {t}: {line}"))
+        check_all(f"left of book {seed}: who can be granted what", parts)
+        check_all(f"left of book {seed}: figures", figures(copy_of(book), t, lines))
+    check("left: both cases are met often", min(seen.values()) > how_many, str(seen))
+
+
+def figures(book, t, lines):
+    """The figures of `left` are the meters after a request at t that itself changes none."""
+    answer = rights.step(book, Event(*free_player(book, t), rights.STOP, 0, 0, t))
+    yield answer[0] == 14, "nothing to stop"
+    for position, entry in enumerate(book.entries):
+        line = lines[position]
+        for name, flag, used, most in (("; count", rights.COUNT, entry.used_count, entry.count),
+                                       ("; timed count", rights.TIMED, entry.used_timed, entry.timed),
+                                       ("; seconds", rights.ACCUMULATED, entry.used_seconds, entry.accumulated)):
+            wanted = f"{name} {used} of {most} used, {most - used} left"
+            yield (wanted in line) if entry.has(flag) else (f"{name} " not in line), f"`{wanted}`: {line}"
+        users = [index for index, player in enumerate(book.players) if player.open and player.open_entry == position]
+        yield users == [int(number) for number in re.findall("player ([0-9]+) until", line)], f"open by {users}: {line}"
+
+
+def test_left_words(folder):
+    """One book with every case, word for word."""
+    path = folder / "cases.txt"
+    path.write_text("""time 1000
+asset 1 key, inherits 9
+asset 9 parent
+asset 7 inherits 9
+asset 8 parent
+entry 0: object 1, asset 9, play, count 2, used count 1
+entry 1: object 1, asset 1, play
+entry 2: object 1, asset 7, play
+entry 3: object 1, asset 8, play, count 2
+entry 4: object 1, asset 1, play, start 2000
+entry 5: object 1, asset 1, play, end 999
+entry 6: object 1, asset 1, play, interval 1h, end 9000
+entry 7: object 1, asset 1, play, interval 1h, first 900, end 9000
+entry 8: object 1, asset 1, play, interval 100, first 900
+entry 9: object 1, asset 1, play, accumulated 60, used accumulated 60
+entry 10: object 1, asset 1, display, timed 1, timer 30, used timed 1, count 3, used count 3
+player 0: number 1, begin 1 play, granted 9 1060, open 9 1000 1060
+player 3: number 1, begin 1 play, granted 0 1040, open 0 980 1040
+""")
+    image = folder / "cases.rbk"
+    call("make", path, image)
+    done = call("left", image, "--at", "1970-01-01 00:16:40 (1000)")
+    wanted = """At 1970-01-01 00:16:40 (1000), UTC, as asked
+entry 0: play of asset 9 (for 1); count 1 of 2 used, 1 left; open: player 3 until 1970-01-01 00:17:20; can be granted, no end
+entry 1: play of asset 1; no count and no seconds to use up; open: nobody; can be granted, no end
+entry 2: play of asset 7; no count and no seconds to use up; open: nobody; nobody can use it: asset 7 is illegal (it inherits but has no key)
+entry 3: play of asset 8; count 0 of 2 used, 2 left; open: nobody; nobody can use it: nothing with a key inherits from asset 8
+entry 4: play of asset 1; no count and no seconds to use up; open: nobody; nobody can use it: it starts 1970-01-01 00:33:20
+entry 5: play of asset 1; no count and no seconds to use up; open: nobody; nobody can use it: it ended 1970-01-01 00:16:39
+entry 6: play of asset 1; no count and no seconds to use up; open: nobody; can be granted, ends 1 h after its first use, at the latest 1970-01-01 02:30:00
+entry 7: play of asset 1; no count and no seconds to use up; open: nobody; can be granted, ends 1970-01-01 01:14:59
+entry 8: play of asset 1; no count and no seconds to use up; open: nobody; nobody can use it: its interval ended 1970-01-01 00:16:39
+entry 9: play of asset 1; seconds 60 of 60 used, 0 left (0 s); open: player 0 until 1970-01-01 00:17:40; nobody can use it: the seconds are used up (a stop of an open use gives some back)
+entry 10: display of asset 1; count 3 of 3 used, 0 left; timed count 1 of 1 used, 0 left (a use counts from 30 s on); open: nobody; nobody can use it: the count is used up and the timed count is used up
+"""
+    check("left: a book with every case", done.out.decode() == wanted, done.out.decode())
+    done = call("left", "--at", "1970-01-01", "00:16:40", "(1000)", image)
+    check("left: a time without quotes", done.out.decode() == wanted, done)
+    done = call("left", image)
+    check("left: this machine's clock", b"UTC, this machine's clock\n" in done.out and b"player 3" not in done.out, done)
+    done = call("left", image, "--at=5")
+    check("left: a time before the book's", done.out.startswith(
+        b"At 1970-01-01 00:16:40 (1000), UTC, the book's time: at 1970-01-01 00:00:05 (5), as asked, a new request would be"
+        b" turned away with 5.\n"), done)
+    out = call("show", image).out.decode()
+    check("show: names the time it judges at", "can be granted at 1970-01-01 00:16:40, no end" in out, out)
+    check("show: an entry on an illegal asset",
+          "play of asset 7: nobody can use it at 1970-01-01 00:16:40: asset 7 is illegal" in out, out)
+    check("show: an entry on a parent without heirs", "play of asset 8: nobody can use it at" in out, out)
+
+
+# ---- after
+
+def test_after(folder, how_many):
+    image, events, following = AFTERNOON / "rights.rbk", AFTERNOON / "events.bin", folder / "next.rbk"
+    done = call("after", image, events, following)
+    check("after: the afternoon's answers", done.status == 0 and done.out == (AFTERNOON / "expected.txt").read_bytes(), done)
+    for seed in range(how_many):
+        data, stream, _ = days.make_day(seed, random.Random(seed).choice((0, 1, 60, 300)), None if seed % 3 else "crowd")
+        compare_after(folder, f"after: day {seed}", data or b"", stream)
+    data, stream, _ = days.make_day(4, 17_000, "cabins")
+    compare_after(folder, "after: a day of four blocks", data, stream[:13 * 17_000])
+    compare_after(folder, "after: a day of four blocks, cut short", data, stream[:13 * 16_999 + 5])
+    compare_after(folder, "after: a day of just one block", data, stream[:13 * 5000])
+    compare_after(folder, "after: a record of printable bytes", data, b"Event records")
+
+    named = folder / "named"
+    for name, args, stdin in (("events from standard input", (image, "-", named), events.read_bytes()),
+                              ("the book from standard input", ("-", events, named), image.read_bytes())):
+        named.unlink(missing_ok=True)
+        piped = call("after", *args, stdin=stdin)
+        check(f"after: {name}", piped.out == done.out and named.read_bytes() == following.read_bytes(), piped)
+    named.unlink()
+    piped = subprocess.run(["bash", "-c", f"{TOOL} after <(cat {image}) <(cat {events}) {named}"], capture_output=True)
+    check("after: both from pipes", piped.stdout == done.out and named.read_bytes() == following.read_bytes(), piped)
+    again = call("after", following, "/dev/null", named)
+    check("after: no events, the same book", again.out == b"" and named.read_bytes() == following.read_bytes(), again)
+    named.unlink()
+    with open("/dev/full", "wb") as full:
+        ended = subprocess.run([sys.executable, TOOL, "after", image, events, named], stdout=full, stderr=subprocess.PIPE)
+    check("after: the book is saved before the answers leave", ended.returncode == 2 and b"standard output" in ended.stderr
+          and named.read_bytes() == following.read_bytes(), ended)
+
+
+def compare_after(folder, name, data, stream):
+    """The answers and the next book of `after` are those of the second program, and its lines those of `run`."""
+    image, events, out = folder / "rights.rbk", folder / "events.bin", folder / "out.rbk"
+    image.write_bytes(data)
+    events.write_bytes(stream)
+    out.unlink(missing_ok=True)
+    code, book = rights.read(data)
+    if code != 0:
+        refused(f"{name}, refused with {code}", f"with {code}", "after", image, events, out)
+        check(f"{name}, refused: no book is written", not out.exists())
+        return
+    done = call("after", image, events, out)
+    play(book, stream)
+    check(f"{name}: answers", done.status == 0 and done.out.decode() == rights.run(data, stream), done)
+    check(f"{name}: next book", out.exists() and out.read_bytes() == rights.write(book), done)
+    ran = subprocess.run([str(RUN)], input=stream, cwd=folder, capture_output=True)
+    check(f"{name}: the lines of the run program", ran.stdout == done.out, ran)
+
+
+def test_building(folder):
+    """On a fresh copy, with a stand-in for rt: what is missing is built, quietly; without its tools, or if they fail,
+    that is said."""
+    root = folder / "root"
+    for part in ("tools", "embed", "oracle", "examples"):
+        shutil.copytree(ROOT / part, root / part, ignore=shutil.ignore_patterns("__pycache__"))
+    (root / "crates" / "x" / "src").mkdir(parents=True)
+    (root / "crates" / "x" / "src" / "lib.rt").write_text("")
+    tool, out = root / "tools" / "book.py", folder / "built.rbk"
+    args = ["after", AFTERNOON / "rights.rbk", AFTERNOON / "events.bin", out]
+    bare = folder / "bin"
+    bare.mkdir()
+    clean = {**os.environ, "PATH": str(bare)}
+    refused("after: no rt", "`rt`, the command of the Rattle kit, is not found", *args, tool=tool, env=clean)
+    rt = bare / "rt"
+    rt.write_text("#!/bin/sh\necho words of the prover\nexit 1\n")
+    rt.chmod(0o755)
+    refused("after: rt fails", "`rt staticlib embed` failed; what it said is in", *args, tool=tool, env=clean)
+    check("after: what rt said is in the log", "words of the prover" in (root / "target/tools/after.log").read_text())
+    rt.write_text(f"#!/bin/sh\nexport PATH={os.environ['PATH']}\nmkdir -p target/staticlib target/bin\n"
+                  f"[ $1 = check ] && cp {RUN} target/bin/run || cp {library.LIBRARY} target/staticlib/libembed.a\n"
+                  "echo words of the prover; echo more words >&2\n")
+    refused("after: no C compiler", "`cc`, a C compiler, is not found", *args, tool=tool, env=clean)
+    check("after: nothing is written before all is built", not out.exists())
+    able = {**os.environ, "PATH": f"{bare}:{os.environ['PATH']}"}
+    done = call(*args, tool=tool, env=able)
+    check("after: built on demand", done.status == 0 and done.out == (AFTERNOON / "expected.txt").read_bytes()
+          and done.err.count("building") == 1 and "words" not in done.err, done)
+    done = call(*args, tool=tool)
+    check("after: built once", done.status == 0 and done.err == "", done)
+    later = out.stat().st_mtime + 10
+    os.utime(root / "crates" / "x" / "src" / "lib.rt", (later, later))
+    done = call(*args, tool=tool, env=able)
+    check("after: built again where a source is newer", done.status == 0 and "building the library" in done.err, done)
+
+    shutil.rmtree(root / "target")
+    done = Done(subprocess.run([root / "examples" / "try"], env=able, capture_output=True))
+    check("try: prints the day and nothing else", done.out == (AFTERNOON / "try.txt").read_bytes(), done)
+    check("try: a line for each thing that is built", re.fullmatch(
+        "building the run program, about 3 minutes .*; log in target/try.log\nbuilding the library .*\nbuilding the program .*\n",
+        done.err) is not None, done)
+    rt.write_text("#!/bin/sh\necho words of the prover\nexit 1\n")
+    done = Done(subprocess.run([root / "examples" / "try"], env=able, capture_output=True))
+    check("try: rt fails", done.status == 1 and done.out == b"" and "said is in target/try.log" in done.err
+          and "words" not in done.err, done)
+
+
+# ---- The rest
+
+def test_explain(folder):
+    done = call("explain", AFTERNOON / "events.bin", AFTERNOON / "expected.txt")
+    lines = done.out.decode().splitlines()
+    check("explain: two lines an event", done.status == 0 and len(lines) == 44, done)
+    check("explain: a resend", lines[3] == "         0 0 1060: granted by entry 0 until 1970-01-01 00:17:40 (1060)"
+          " (asked again: the same answer as before)", lines[3])
+    for answers, fragment in ((b"20\n", "refused its book with 20: the file's length is wrong"), (b"", "no answer"),
+                              (b"0 0 1060\r\n", "granted by entry 0"), (NINES.encode(), "is not an answer"),
+                              (b"0 0 99999999999\n", "is not an answer"), (b"1 2\n", "is not an answer"),
+                              (b"0 0 " + NINES.encode(), "is not an answer"),
+                              (b"99 255 0\n", "an unknown answer"), (b"0 0 1\n" * 23, "there is no event for this answer")):
+        done = call("explain", AFTERNOON / "events.bin", "-", stdin=answers)
+        plain = done.status == 0 and done.err == ""
+        check(f"explain: answers {answers[:20]}", plain and fragment in done.out.decode(), done)
+
+
+def test_help(folder):
+    """What --help shows as text is read."""
+    shown = call("--help").out.decode()
+    lines = [re.sub("  .*", "", line.strip()) for line in shown.splitlines() if line.startswith("    ")]
+    book = [line for line in lines if line.split()[0] in ("time", "asset", "entry")]
+    done = call("make", "-", "-", stdin="\n".join(book).encode())
+    check("help: its book is a book", done.status == 0 and len(book) == 9 and len(done.out) == 395 + 20 + 204, done)
+    events = [line for line in lines if re.match("[0-9]|raw", line)]
+    done = call("events", "-", "-", stdin="\n".join(events).encode())
+    check("help: its events are events", done.status == 0 and len(events) == 4 and len(done.out) == 52, done)
+    players = [line for line in lines if line.startswith("player")]
+    text = "\n".join(["time 1070", "asset 1 key", "entry 0: object 1 asset 1 play count 2 used count 1", *players])
+    done = call("make", "-", "-", stdin=text.encode())
+    check("help: its players are players", done.status == 0 and len(players) == 2, done)
+
+
+def test_damage(folder, how_many):
+    """Damaged texts and images get a plain message, whatever is wrong with them."""
+    rng = random.Random(9)
+    path = folder / "damaged"
+    sources = [(AFTERNOON / name).read_bytes() for name in ("book.txt", "events.txt", "rights.rbk")]
+    sources += ["\n".join(texts.text_lines(book)).encode() for _, _, book in random_books(6)]
+    plain = 0
+    for _ in range(how_many):
+        data = bytearray(rng.choice(sources))
+        for _ in range(rng.randint(1, 6)):
+            at = rng.randrange(len(data) + 1)
+            piece = rng.choice((b"", bytes([rng.randrange(256)]), b" ", b"\n", b"9" * 30, b"#", b",", b":", b"-1", b"\xff",
+                                b"count 2", b"2026-12-24", b"18:30", b"(5)", "\u0663".encode(),
+                                bytes(data[:rng.randrange(40)])))
+            data[at:at + rng.choice((0, 0, 1, 5))] = piece
+        path.write_bytes(data)
+        for work in (lambda: texts.book_of_text(path), lambda: list(state.left_lines(texts.load(path), 5)),
+                     lambda: words.lines_of(path, texts.read_text(path), records.EventText().line)):
+            try:
+                work()
+                plain += 1
+            except words.Trouble as trouble:
+                plain += len(str(trouble)) < 1000
+            except Exception as problem:
+                check("a damaged file gets a plain message", False, f"{problem!r} for {bytes(data)!r}")
+    check("damaged files get plain messages", plain == 3 * how_many, str(plain))
+
+
+def main():
+    how_many = int(sys.argv[1]) if len(sys.argv) > 1 else 300
+    library.build()
+    if not RUN.exists():
+        sys.exit(f"there is no {RUN}: `rt check run` makes it")
+    parts = [(test_lines,), (test_inputs,), (test_forgiving,), (test_times,), (test_files,), (test_streams,),
+             (test_round_trips, how_many), (test_diff, how_many), (test_left, how_many), (test_left_words,),
+             (test_after, how_many // 5), (test_building,), (test_explain,), (test_help,), (test_damage, 2 * how_many)]
+    for part, *numbers in parts:
+        name = part.__name__.removeprefix("test_")
+        if len(sys.argv) > 2 and name not in sys.argv[2:]:
+            continue
+        before, began = passed + failed, time.time()
+        with tempfile.TemporaryDirectory() as folder:
+            part(Path(folder), *numbers)
+        print(f"  {name}: {passed + failed - before} in {time.time() - began:.0f} s", flush=True)
+    print(f"{passed} passed, {failed} failed")
+    sys.exit(1 if failed else 0)
+
+
+if __name__ == "__main__":
+    main()

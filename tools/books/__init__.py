@@ -1,0 +1,15 @@
+"""The parts of tools/book.py: helpers for people, in Python, not proved.
+
+words    a text line by line and word by word, with a plain message for what cannot be read
+files    reading and writing files; nothing is lost where a write fails
+texts    a book from its text, and a book as text
+state    who can use an entry, what is left of it, what differs between two books
+records  event records from their text, and in words with their answers
+library  the answers and the next book, from the proved library for C
+"""
+
+import sys
+from pathlib import Path
+
+ROOT = Path(__file__).resolve().parent.parent.parent
+sys.path.insert(0, str(ROOT / "oracle"))

@@ -1,0 +1,100 @@
+"""The answers to a file of events and the book after them, from the proved library for C (crates/embed).
+
+The library and the small program over it (tools/after.c) are built where they are missing or older than their
+sources; what the prover and the compiler say goes into target/tools/after.log.
+"""
+
+import os
+import shutil
+import stat
+import subprocess
+import sys
+import tempfile
+from pathlib import Path
+
+from . import ROOT
+from .files import keep_inputs, read_image, reason, write_bytes
+from .records import check_records
+from .texts import REFUSED, refusal
+from .words import Trouble
+
+LIBRARY = ROOT / "target" / "staticlib" / "libembed.a"
+SOURCE, HEADER = ROOT / "tools" / "after.c", ROOT / "embed" / "rights.h"
+PROGRAM = ROOT / "target" / "tools" / "after"
+LOG = ROOT / "target" / "tools" / "after.log"
+
+
+def after(book, events, following):
+    if following == "-":
+        raise Trouble("the next book needs the name of a file: standard output is for the answers")
+    if book == events == "-":
+        raise Trouble("only one of the two files can be standard input")
+    keep_inputs(following, book, events)
+    with open_records(events) as stream, tempfile.TemporaryDirectory() as folder:
+        build()
+        image, work = read_image(book), Path(folder)
+        done = answer(image, stream, work)
+        if done.returncode in REFUSED:
+            raise Trouble(refusal(book, image, done.returncode))
+        if done.returncode != 0:
+            said = done.stderr.decode(errors="replace").strip()
+            raise Trouble(f"{events}: {said or f'{PROGRAM} ended with status {done.returncode}'}")
+        write_bytes(following, (work / "next").read_bytes(), ["a book image"])
+        with open(work / "answers", "rb") as answers:       # they leave only when the book is saved
+            shutil.copyfileobj(answers, sys.stdout.buffer)
+
+
+def answer(image, stream, work):
+    """Runs the program over the library, with its files in the folder `work`."""
+    try:
+        (work / "book").write_bytes(image)
+        with open(work / "answers", "wb") as answers:
+            return subprocess.run([PROGRAM, work / "book", work / "next"], stdin=stream, stdout=answers,
+                                  stderr=subprocess.PIPE)
+    except OSError as problem:
+        raise Trouble(f"{problem.filename or work}: {reason(problem)}") from None
+
+
+def open_records(path):
+    """The file of events, opened; one that is plainly not a file of records is refused."""
+    if path == "-":
+        return open(sys.stdin.fileno(), "rb", buffering=0, closefd=False)
+    try:
+        stream = open(path, "rb", buffering=0)
+    except (OSError, ValueError) as problem:
+        raise Trouble(f"{path}: {reason(problem)}") from None
+    if stat.S_ISREG(os.fstat(stream.fileno()).st_mode):
+        check_records(path, os.pread(stream.fileno(), 4096, 0))
+    return stream
+
+
+# ---- Building
+
+def build():
+    if older(LIBRARY, (ROOT / "crates").glob("*/src/*.rt")):
+        build_step("the library that answers, about 4 minutes on a fresh machine, or 1 where the run program is built",
+                   "the command of the Rattle kit", ["rt", "staticlib", "embed"])
+    if older(PROGRAM, [LIBRARY, SOURCE, HEADER]):
+        made = PROGRAM.with_suffix(f".{os.getpid()}")
+        compiler = (os.environ.get("CC") or "cc").split()
+        build_step("the program over it, a second", "a C compiler",
+                   [*compiler, "-std=c11", "-O2", "-I", str(HEADER.parent), str(SOURCE), str(LIBRARY), "-o", str(made)])
+        made.replace(PROGRAM)
+
+
+def older(made, sources):
+    return not made.exists() or made.stat().st_mtime < max((path.stat().st_mtime for path in sources), default=0)
+
+
+def build_step(what, tool, command):
+    if shutil.which(command[0]) is None:
+        raise Trouble(f"`{command[0]}`, {tool}, is not found; it is needed to build {what.split(',')[0]}")
+    log_name = os.path.relpath(LOG)
+    print(f"building {what}; log in {log_name}", file=sys.stderr, flush=True)
+    PROGRAM.parent.mkdir(parents=True, exist_ok=True)
+    with open(LOG, "ab") as log:
+        log.write(f"{' '.join(command)}\n".encode())
+        log.flush()
+        done = subprocess.run(command, cwd=ROOT, stdin=subprocess.DEVNULL, stdout=log, stderr=log)
+    if done.returncode != 0:
+        raise Trouble(f"`{' '.join(command[:3])}` failed; what it said is in {log_name}")

@@ -1,0 +1,147 @@
+"""Event records from their text (`events`), and each event in words with what its answer means (`explain`)."""
+
+import re
+
+import rights
+from rights import Event
+
+from .files import keep_inputs, read_bytes, read_text, write_bytes
+from .texts import REFUSED
+from .words import KINDS, OPERATIONS, TOP, Mistake, Trouble, kind_name, lines_of, number, short, when
+
+MEANINGS = {
+    1: "turned away: not a valid begin, continue or stop",
+    2: "turned away: there is no such player (0 to 15)",
+    3: "turned away: its number is not the player's next one",
+    4: "turned away: the player used this number for another request",
+    5: "turned away: its time is before the book's time, or too late",
+    6: "turned away: the record is not 13 bytes long",
+    10: "refused: the asset is not in the book, or has no key",
+    11: "refused: the player has a use open",
+    12: "refused: the book has no entry of this kind for the asset",
+    13: "refused: every entry for it is used up or out of its dates",
+    14: "refused: the player has no use open",
+    15: "refused: no more time can be given",
+}
+
+# A line of a text for `make` or `events`.
+TEXT = re.compile(rb"^\s*((time|asset|entry|player)\s+[0-9]|[0-9]+\.[0-9]+\s+(begin|continue|stop)\s)", re.MULTILINE)
+
+
+class EventText:
+    def __init__(self):
+        self.records = []
+        self.cut = False
+
+    def line(self, words):
+        if self.cut:
+            raise Mistake("only the last record may have fewer than 13 bytes, and one above this line has")
+        first = words.take("a player and a number")
+        if first == "raw":
+            self.raw(words)
+            return
+        found = re.fullmatch(r"([0-9]+)\.([0-9]+)", first)
+        if not found:
+            raise Mistake(f"an event begins with player and number, like 0.1, or with raw; not `{short(first)}`")
+        player = number(found[1], 255, "the player")
+        count = number(found[2], rights.LAST_NUMBER, "the number")
+        operation = words.of(OPERATIONS, "operation")
+        asset = kind = 0
+        if operation == rights.BEGIN:
+            asset = words.number(65_535, "the asset")
+            kind = words.of(KINDS, "kind")
+        t = words.time("the time", TOP)
+        self.records.append(rights.encode(Event(player, count, operation, asset, kind, t)))
+
+    def raw(self, words):
+        try:
+            record = bytes.fromhex("".join(words.words))
+        except ValueError:
+            raise Mistake("after raw come bytes, each as two of the digits 0 to 9 and a to f") from None
+        words.words.clear()
+        if not 1 <= len(record) <= 13:
+            raise Mistake(f"a record has 13 bytes, and the last one may have fewer; this one has {len(record)}")
+        self.cut = len(record) < 13
+        self.records.append(record)
+
+
+def events(text, records):
+    keep_inputs(records, text)
+    maker = EventText()
+    lines_of(text, read_text(text), maker.line)
+    write_bytes(records, b"".join(maker.records), ["event records", "bytes"])
+
+
+def check_records(path, data):
+    """Refuses what is plainly not a file of event records. Any other bytes are records, and are answered."""
+    kind = "a book image" if data.startswith(b"RBK\0") else "a text" if TEXT.search(data[:4096]) else None
+    if kind:
+        raise Trouble(f"{path}: this is {kind}, not a file of event records (`book.py events` makes one from its text)")
+
+
+# ---- In words
+
+def explain(records, answers):
+    if records == answers == "-":
+        raise Trouble("only one of the two files can be standard input")
+    data = read_bytes(records)
+    check_records(records, data)
+    told = read_text(answers).splitlines()
+    if len(told) == 1 and re.fullmatch("2[0-7]", told[0].strip()):
+        code = int(told[0])
+        print(f"The server refused its book with {code}: {REFUSED[code]}. No event was answered.")
+        return
+    latest = {}
+    for at in range(0, max(len(data), 13 * len(told)), 13):
+        record, line = data[at:at + 13], told[at // 13].strip() if at // 13 < len(told) else None
+        print(f"{at // 13 + 1:>5}  {record_words(record)}")
+        print(f"         {line_words(line, record, latest)}")
+
+
+def record_words(record):
+    if len(record) == 0:
+        return "there is no event for this answer"
+    if len(record) != 13:
+        return f"a record cut short, {len(record)} bytes: {record.hex(' ')}"
+    event = event_of(record)
+    request = request_words(event.operation, event.asset, event.kind)
+    return f"player {event.player}, request {event.number}: {request}, at {when(event.time)}"
+
+
+def event_of(record):
+    numbers = [int.from_bytes(record[a:b], "big") for a, b in ((0, 1), (1, 5), (5, 6), (6, 8), (8, 9), (9, 13))]
+    return Event(*numbers)
+
+
+def request_words(operation, asset, kind):
+    if operation == rights.BEGIN:
+        return f"begin, {kind_name(kind)} asset {asset}"
+    name = {2: "continue", 3: "stop"}.get(operation, f"operation {operation}")
+    return name if asset == 0 and kind == 0 else f"{name}, asset {asset}, kind {kind}"
+
+
+def answer_words(operation, kind, code, entry, until):
+    if code != 0:
+        return MEANINGS.get(code, "an unknown answer")
+    if operation == rights.STOP:
+        return f"stopped at {when(until)}, under entry {entry}"
+    if operation == rights.BEGIN and kind >= rights.PRINT:
+        return f"granted by entry {entry}, once, at {when(until)}"
+    return f"granted by entry {entry} until {when(until)}"
+
+
+def line_words(line, record, latest):
+    if line is None:
+        return "no answer"
+    found = re.fullmatch("([0-9]{1,3}) ([0-9]{1,3}) ([0-9]{1,10})", line)
+    if not found or int(found[3]) > TOP:
+        return f"`{short(line)}` is not an answer (code, entry, until)"
+    code, entry, until = map(int, found.groups())
+    if len(record) != 13:
+        return f"{line}: {MEANINGS.get(code, 'an unknown answer')}"
+    event = event_of(record)
+    request = (event.number, event.operation, event.asset, event.kind)
+    again = " (asked again: the same answer as before)" if latest.get(event.player) == request else ""
+    if code == 0 or code >= 10:
+        latest[event.player] = request
+    return f"{line}: {answer_words(event.operation, event.kind, code, entry, until)}{again}"
