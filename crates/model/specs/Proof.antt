@@ -1,6 +1,7 @@
 -- Lemmas and proofs about the definitions above: nothing here has to be believed. Afternoon, Cases, Printed, Account and Bounds are closed runs.
 pub mod Afternoon
 pub mod Cases
+pub mod BeginCodes
 pub mod Header
 pub mod Printed
 pub mod Account
