@@ -1,4 +1,4 @@
--- Lemmas and proofs about the definitions above: nothing here has to be believed. Afternoon, Cases, Printed, Account and Bounds are closed runs.
+-- Lemmas and proofs about the definitions above: nothing here has to be believed. Afternoon, Cases, BeginCodes, Printed, Account and Bounds are closed runs.
 pub mod Afternoon
 pub mod Cases
 pub mod BeginCodes
@@ -29,3 +29,4 @@ pub mod KeptEvents
 pub mod Kept
 pub mod KeptExact
 pub mod Example
+pub mod BeginGrounds

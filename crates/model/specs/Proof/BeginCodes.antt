@@ -1,20 +1,13 @@
 -- "**Begin**, in order: 11, 10, 12, 13.": begins with more than one ground against them, on the afternoon's book, as one computed list.
--- Then demand 3's grounds for three of them.
 use mathlib.Core.Path.{_≡_, refl}
-use mathlib.Core.Logic.{inl}
-use mathlib.Core.List.{List, [], _∷_}
+use mathlib.Core.List.{[], _∷_}
 use Rattle.laws.specs.Count.{first}
-use Rattle.book.specs.declared.Event.{Event}
 use Rattle.book.specs.declared.Kind.the-variants.{Play, Display, Execute, Print}
 use Rattle.book.specs.declared.Request.the-variants.{Begin}
-use Rattle.book.specs.declared.Decoded.{Decoded}
-use Rattle.book.specs.declared.Decoded.the-variants.{Valid}
 use Rattle.model.specs.Book.{assetsIn, entriesIn, grantLength, isParent, assetPosition, flagged, momentary}
 use Rattle.model.specs.Events.{sameRequest, sameNumber, inLine, timely, gate, amend, begun, continued, ended, expired, shut, released, settled, catalogOf, holds, assetNamed, usable, parentOf, own, suitable, countLeft, timedLeft, inDates, intervalLeft, secondsLeft, grantable, rankOf, ranksBefore, chooseOf, anyOf, choose, leastUntil, grantUntil, refusal, doBegin, done, takenStep, stepBy, step, arrive}
-use Rattle.model.specs.Ledger.{latestTaken, resent, calledTaken, isOpen, posted, note, noteArrival}
-use Rattle.model.specs.Demand3.{State, advance, after, starting, answers, Unknown, Unsuited}
+use Rattle.model.specs.Demand3.{answers}
 use Rattle.model.specs.Proof.Afternoon.{start, event, granted}
-use Rattle.model.specs.Proof.Example.{afternoon}
 
 -- Player 0 has a use open from 1000 to 1060: 11, whatever it asks for. Asset 5 is not in the book, 7 is illegal, 9 a parent: 10, also
 -- where an entry of 9 itself would be suitable (play) and where none would be (print). Of asset 1 nothing is printed or executed: 12. Its one
@@ -53,33 +46,3 @@ pub in-order :
     ∷ [])
 unfolding first assetsIn entriesIn grantLength isParent assetPosition flagged momentary sameRequest sameNumber inLine timely gate amend begun continued ended expired shut released settled catalogOf holds assetNamed usable parentOf own suitable countLeft timedLeft inDates intervalLeft secondsLeft grantable rankOf ranksBefore chooseOf anyOf choose leastUntil grantUntil doBegin done takenStep stepBy step arrive answers
 in-order = refl
-
--- ## The grounds, by the theorem
-
--- player 0 has begun
-abbrev begun-at-1000 : State
-begun-at-1000 = after (starting start) (event 0 1 (Begin Play 1) 1000 ∷ [])
-
--- it has a use open, and asks for an asset that is not in the book: 11 by the ledger alone
-pub busy-first : step (begun-at-1000 .book) (record { player = 0; number = 2; request = Begin Play 5; time = 1001 }) .answer ≡ refusal 11
-unfolding first assetsIn entriesIn grantLength isParent assetPosition flagged momentary sameRequest sameNumber inLine timely gate amend begun continued ended expired shut released settled catalogOf holds assetNamed usable parentOf own suitable countLeft timedLeft inDates intervalLeft secondsLeft grantable rankOf ranksBefore chooseOf anyOf choose leastUntil grantUntil doBegin done takenStep stepBy step arrive latestTaken resent calledTaken isOpen posted note noteArrival advance after
-busy-first =
-    afternoon .begins (event 0 1 (Begin Play 1) 1000 ∷ []) (record { player = 0; number = 2; request = Begin Play 5; time = 1001 }) Play 5 refl
-    (record { new = refl; taken = refl })
-    .busy .1 (inl (refl, refl))
-
--- another player has not, and asks for the same: answered 10, so it is unknown
-pub then-unknown : Unknown begun-at-1000 (record { player = 1; number = 1; request = Begin Play 5; time = 1001 }) 5
-unfolding first assetsIn entriesIn grantLength isParent assetPosition flagged momentary sameRequest sameNumber inLine timely gate amend begun continued ended expired shut released settled catalogOf holds assetNamed usable parentOf own suitable countLeft timedLeft inDates intervalLeft secondsLeft grantable rankOf ranksBefore chooseOf anyOf choose leastUntil grantUntil doBegin done takenStep stepBy step arrive latestTaken resent calledTaken isOpen posted note noteArrival advance after
-then-unknown =
-    afternoon .begins (event 0 1 (Begin Play 1) 1000 ∷ []) (record { player = 1; number = 1; request = Begin Play 5; time = 1001 }) Play 5 refl
-    (record { new = refl; taken = refl })
-    .unknown .0 refl
-
--- and asks to print asset 1: answered 12, so the asset is known and nothing suits
-pub then-unsuited : Unsuited begun-at-1000 (record { player = 1; number = 1; request = Begin Print 1; time = 1001 }) 1 4
-unfolding first assetsIn entriesIn grantLength isParent assetPosition flagged momentary sameRequest sameNumber inLine timely gate amend begun continued ended expired shut released settled catalogOf holds assetNamed usable parentOf own suitable countLeft timedLeft inDates intervalLeft secondsLeft grantable rankOf ranksBefore chooseOf anyOf choose leastUntil grantUntil doBegin done takenStep stepBy step arrive latestTaken resent calledTaken isOpen posted note noteArrival advance after
-then-unsuited =
-    afternoon .begins (event 0 1 (Begin Play 1) 1000 ∷ []) (record { player = 1; number = 1; request = Begin Print 1; time = 1001 }) Print 1 refl
-    (record { new = refl; taken = refl })
-    .unsuited .0 refl
