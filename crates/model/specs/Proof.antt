@@ -22,6 +22,7 @@ pub mod Until
 pub mod Run
 pub mod Current
 pub mod Demand3
+pub mod Demand1
 pub mod KeptFacts
 pub mod KeptRules
 pub mod KeptMeters
