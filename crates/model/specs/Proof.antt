@@ -1,7 +1,8 @@
--- Lemmas and proofs about the definitions above: nothing here has to be believed. Afternoon, Cases, BeginCodes, Printed, Account and Bounds are closed runs.
+-- Lemmas and proofs about the definitions above: nothing here has to be believed. Afternoon, Cases, BeginCodes, RecordCodes, Printed, Account and Bounds are closed runs.
 pub mod Afternoon
 pub mod Cases
 pub mod BeginCodes
+pub mod RecordCodes
 pub mod Header
 pub mod Printed
 pub mod Account
@@ -31,3 +32,4 @@ pub mod Kept
 pub mod KeptExact
 pub mod Example
 pub mod BeginGrounds
+pub mod RecordGrounds

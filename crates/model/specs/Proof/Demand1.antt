@@ -4,11 +4,11 @@ use mathlib.Core.Logic.{_↔_, _⊎_, inl, inr}
 use Prim.Native.Nat.{ℕ, _+_, _≤_, _<_}
 use mathlib.Core.Bool.{Bool, true, false, not, _&&_, _||_, cond, or-false, and-false}
 use mathlib.Core.List.{List, map}
-use lib.ListN.{length, getD, length-set, length-map}
+use lib.ListN.{length, getD, length-map}
 use lib.Seq.{getD-set-same, getD-set-other}
 use lib.Dec.{leb, ltb, eqb}
 use native.Mathlib.Omega.{arith}
-use borrow.Author.Tests.{eqb-true, eqb-false, ltb-true, ltb-false, leb-true, leb-false, not-false, eq-eqb, ne-eqb, lt-ltb, le-ltb, le-leb}
+use borrow.Author.Tests.{eqb-true, ltb-true, ltb-false, leb-true, leb-false, not-false, eq-eqb, ne-eqb, lt-ltb, le-ltb, le-leb}
 use Rattle.laws.specs.Fields.{size}
 use Rattle.book.specs.declared.Answer.{Answer}
 use Rattle.book.specs.declared.Last.{Last}
@@ -20,13 +20,12 @@ use Rattle.book.specs.declared.Event.{Event}
 use Rattle.book.specs.declared.Outcome.{Outcome}
 use Rattle.book.specs.declared.Request.{Request}
 use Rattle.book.specs.declared.Request.the-variants.{Begin, Continue, Stop}
-use Rattle.book.specs.declared.Decoded.the-variants.{Invalid, Valid}
 use Rattle.book.specs.declared.Gate.{Gate}
 use Rattle.book.specs.declared.Gate.the-variants.{Refuse, Resend, Take}
 use Rattle.book.specs.Blank.{noEntry, noPlayer, noBook, closed}
 use Rattle.model.specs.Book.{limitsAt, metersAt, playerAt, latestTime, momentary, between, assetsLegal, entriesLegal, requestLegal, takenCode, answerLegal, playersLegal, metersLegal, ruleBroken, Legal}
-use Rattle.model.specs.Image.{headerWidths, newest, imageLength, Bytes, image, markIn, versionIn, assetCountIn, entryCountIn, timeIn, headerBroken, readCode, readBook, bookIn}
-use Rattle.model.specs.Events.{kindNumber, operationNumber, requestAsset, requestKind, kindOf, requestOf, eventIn, decoded, sameRequest, sameNumber, inLine, timely, gate, amend, isOn, expired, shut, settled, Catalog, catalogOf, usable, parentOf, own, suitable, grantable, suits, allowed, goesBefore, anyOf, choose, Choice, nobody, chosen, refusal, Done, unchanged, granted, doBegin, more, doContinue, doStop, done, lastAt, openAt, noted, takenStep, stepBy, step, arrive, stepRecord}
+use Rattle.model.specs.Image.{headerWidths, newest, imageLength, Bytes, markIn, versionIn, assetCountIn, entryCountIn, timeIn, headerBroken, readCode, readBook, bookIn}
+use Rattle.model.specs.Events.{kindNumber, operationNumber, requestAsset, requestKind, kindOf, requestOf, eventIn, decoded, sameRequest, sameNumber, gate, amend, isOn, expired, shut, settled, Catalog, catalogOf, usable, parentOf, own, suitable, grantable, suits, allowed, goesBefore, anyOf, choose, Choice, nobody, chosen, Done, unchanged, granted, doBegin, more, doContinue, doStop, done, openAt, noted, takenStep, stepBy, step, arrive, stepRecord}
 use Rattle.model.specs.Demand1.{askedPlayer, askedNumber, askedOperation, askedAsset, askedKind, askedTime, LegalRequest, begin, continue, stop, IsEvent, asker, SameNumber, SameRequest, InLine, InTime, Against, cut, no-player, no-request, unlike, out-of-line, out-of-time, IsResend, IsTaken, Fate, turned-away, resend, taken, refused, TakenCode, Settles, settledEntries, LeavesSettled, Opens, Stored, Answered, ImageCode, IsImage, Demand1}
 use Rattle.model.specs.Proof.Facts.{on-test, on-same, clash, and-left, and-right, and-both}
 use Rattle.model.specs.Proof.Concrete.{Sure, choose-sound, shut-at}
