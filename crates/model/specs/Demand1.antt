@@ -1,8 +1,9 @@
--- Demand 1 as a statement: "Every event and every book image that meets the rules of document 01 is accepted, and gets the answer and the new
--- book that those rules fix. Everything else is turned away with the number in its table, and the book and every byte lent to the server are
--- then what they were." Claimed of every book, legal or not, and every list of numbers as a record. It is proved in `Proof.Demand1`.
--- Uses no file of proofs. What a record says and the checks before an event is taken are stated here a second time, by the bytes' positions and
--- by numbers; of the rules only the step itself and what settling makes of the entries is named.
+-- Demand 1 as a statement: "Every event and every book image that meets the rules of document 01 is accepted, and gets the answer and
+-- the new book that those rules fix. Everything else is turned away with the number in its table, and the book and every byte lent to
+-- the server are then what they were." Claimed of every book, legal or not, and every list of numbers as a record. It is proved in
+-- `Proof.Demand1`. Uses no file of proofs. What a record says and the checks before an event is taken are stated here a second time, by
+-- the places of the bytes and by numbers. Of the rules only the step itself is named, and what settling makes of the entries.
+-- Which entry a begin gets, until when, and which of 10 to 15 a taken event gets, is said by `Demand3`, by the ledger.
 use mathlib.Core.Path.{_≡_}
 use mathlib.Core.Logic.{_↔_, _⊎_}
 use Prim.Native.Nat.{ℕ, _+_, _*_, _≤_, _<_}
@@ -87,7 +88,8 @@ pub record InTime (b : Book) (s : List ℕ) : Type 0 where
 pub data Against (b : Book) (s : List ℕ) (code : ℕ) : Type 0 where
   cut : code ≡ 6 → (length s ≡ 13 → ⊥) → Against b s code
   no-player : code ≡ 2 → length s ≡ 13 → 15 < askedPlayer s → Against b s code
-  no-request : code ≡ 1 → length s ≡ 13 → askedPlayer s ≤ 15 → (LegalRequest (askedOperation s) (askedAsset s) (askedKind s) → ⊥) → Against b s code
+  no-request : code ≡ 1 → length s ≡ 13 → askedPlayer s ≤ 15 → (LegalRequest (askedOperation s) (askedAsset s) (askedKind s) → ⊥)
+      → Against b s code
   unlike : code ≡ 4 → IsEvent s → SameNumber b s → (SameRequest b s → ⊥) → Against b s code
   out-of-line : code ≡ 3 → IsEvent s → (SameNumber b s → ⊥) → (InLine b s → ⊥) → Against b s code
   out-of-time : code ≡ 5 → IsEvent s → InLine b s → (InTime b s → ⊥) → Against b s code
@@ -105,10 +107,10 @@ pub record IsTaken (b : Book) (s : List ℕ) : Type 0 where
   pub time : InTime b s
 
 -- there is nothing else
-pub data Fate (b : Book) (s : List ℕ) : Type 0 where
-  turned-away : (code : ℕ) → Against b s code → Fate b s
-  resend : IsResend b s → Fate b s
-  taken : IsTaken b s → Fate b s
+pub data Verdict (b : Book) (s : List ℕ) : Type 0 where
+  turned-away : (code : ℕ) → Against b s code → Verdict b s
+  resend : IsResend b s → Verdict b s
+  taken : IsTaken b s → Verdict b s
 
 -- ## What a taken event leaves
 
@@ -116,7 +118,7 @@ pub data Fate (b : Book) (s : List ℕ) : Type 0 where
 abbrev pub refused : ℕ → Answer
 refused code = record { code = code; entry = 255; until = 0 }
 
--- the codes that the table calls taken, and 0
+-- 0, and the codes that the table calls taken
 abbrev pub TakenCode : ℕ → Type 0
 TakenCode code = (code ≡ 0) ⊎ ((10 ≤ code) × (code ≤ 15))
 
@@ -144,7 +146,7 @@ pub record Opens (b : Book) (s : List ℕ) (o : Outcome) : Type 0 where
       → asker (o .book) s .current ≡ record { on = 1; entry = o .answer .entry; begin = asker b s .current .begin; until = o .answer .until }
   pub stopped : askedOperation s ≡ 3 → asker (o .book) s .current ≡ closed
 
--- What a taken event leaves. That there are 16 players, the type of a book in the program says; the definitions' books are lists of any length.
+-- What a taken event leaves. In the program the type of a book says that there are 16 players; here a list may have any length.
 pub record Stored (b : Book) (s : List ℕ) (o : Outcome) : Type 0 where
   -- "its number, request (operation, asset, kind) and answer are stored"
   pub last : length (b .players) ≡ 16 → asker (o .book) s .last ≡
@@ -153,7 +155,8 @@ pub record Stored (b : Book) (s : List ℕ) (o : Outcome) : Type 0 where
   pub time : o .book .time ≡ askedTime s
   -- "One player's record is settled on its own, the others untouched."
   pub lasts : (p : ℕ) → (p ≡ askedPlayer s → ⊥) → playerAt (o .book .players) p .last ≡ playerAt (b .players) p .last
-  pub currents : (p : ℕ) → (p ≡ askedPlayer s → ⊥) → Settles (askedTime s) (playerAt (b .players) p .current) (playerAt (o .book .players) p .current)
+  pub currents : (p : ℕ) → (p ≡ askedPlayer s → ⊥)
+      → Settles (askedTime s) (playerAt (b .players) p .current) (playerAt (o .book .players) p .current)
   -- what no event changes
   pub assets : o .book .assets ≡ b .assets
   pub assetcount : o .book .assetcount ≡ b .assetcount
@@ -163,25 +166,32 @@ pub record Stored (b : Book) (s : List ℕ) (o : Outcome) : Type 0 where
   pub playerSlots : length (o .book .players) ≡ length (b .players)
   -- the answer: 0, which changes no entry but the one it names, or one of 10 to 15, which changes none
   pub code : TakenCode (o .answer .code)
-  pub grants : o .answer .code ≡ 0 → (i : ℕ) → (i ≡ o .answer .entry → ⊥) → getD (o .book .entries) i noEntry ≡ getD (settledEntries b s) i noEntry
+  pub grants : o .answer .code ≡ 0 → (i : ℕ) → (i ≡ o .answer .entry → ⊥)
+      → getD (o .book .entries) i noEntry ≡ getD (settledEntries b s) i noEntry
   pub opens : o .answer .code ≡ 0 → length (b .players) ≡ 16 → Opens b s o
   pub refuses : (o .answer .code ≡ 0 → ⊥) → LeavesSettled b s o
 
 -- ## The demand
 
+-- 0 to 6 and 10 to 15
+abbrev pub TableCode : ℕ → Type 0
+TableCode code = (code ≤ 6) ⊎ ((10 ≤ code) × (code ≤ 15))
+
 -- a record on a book
 pub record Answered (b : Book) (s : List ℕ) : Type 0 where
   -- it is one of the three
-  pub fate : Fate b s
+  pub verdict : Verdict b s
   -- "nothing changed"
   pub turned-away : (code : ℕ) → Against b s code → stepRecord b s ≡ record { answer = refused code; book = b }
   -- and 1 to 6 are returned in no other case, but that a resend gets what is stored
   pub only : (code : ℕ) → 1 ≤ code → code ≤ 6 → stepRecord b s .answer .code ≡ code → (IsResend b s → ⊥) → Against b s code
   -- "It gets the stored answer, t is not read, and nothing changes"
   pub again : IsResend b s → stepRecord b s ≡ record { answer = asker b s .last .answer; book = b }
-  -- what a legal book has stored is no refusal: there each of 1 to 6 is returned exactly when
+  -- what a legal book has stored is none of 1 to 6, so there they are returned in no other case at all
   pub stored-code : Legal b → IsResend b s → TakenCode (asker b s .last .answer .code)
   pub taken : IsTaken b s → Stored b s (stepRecord b s)
+  -- every answer is 0 or one of the table's
+  pub code : (IsResend b s → Legal b) → TableCode (stepRecord b s .answer .code)
 
 -- 0, or a row of the table
 abbrev pub ImageCode : ℕ → Type 0

@@ -26,7 +26,7 @@ use Rattle.book.specs.Blank.{noEntry, noPlayer, noBook, closed}
 use Rattle.model.specs.Book.{limitsAt, metersAt, playerAt, latestTime, momentary, between, assetsLegal, entriesLegal, requestLegal, takenCode, answerLegal, playersLegal, metersLegal, ruleBroken, Legal}
 use Rattle.model.specs.Image.{headerWidths, newest, imageLength, Bytes, markIn, versionIn, assetCountIn, entryCountIn, timeIn, headerBroken, readCode, readBook, bookIn}
 use Rattle.model.specs.Events.{kindNumber, operationNumber, requestAsset, requestKind, kindOf, requestOf, eventIn, decoded, sameRequest, sameNumber, gate, amend, isOn, expired, shut, settled, Catalog, catalogOf, usable, parentOf, own, suitable, grantable, suits, allowed, goesBefore, anyOf, choose, Choice, nobody, chosen, Done, unchanged, granted, doBegin, more, doContinue, doStop, done, openAt, noted, takenStep, stepBy, step, arrive, stepRecord}
-use Rattle.model.specs.Demand1.{askedPlayer, askedNumber, askedOperation, askedAsset, askedKind, askedTime, LegalRequest, begin, continue, stop, IsEvent, asker, SameNumber, SameRequest, InLine, InTime, Against, cut, no-player, no-request, unlike, out-of-line, out-of-time, IsResend, IsTaken, Fate, turned-away, resend, taken, refused, TakenCode, Settles, settledEntries, LeavesSettled, Opens, Stored, Answered, ImageCode, IsImage, Demand1}
+use Rattle.model.specs.Demand1.{askedPlayer, askedNumber, askedOperation, askedAsset, askedKind, askedTime, LegalRequest, begin, continue, stop, IsEvent, asker, SameNumber, SameRequest, InLine, InTime, Against, cut, no-player, no-request, unlike, out-of-line, out-of-time, IsResend, IsTaken, Verdict, turned-away, resend, taken, refused, TakenCode, Settles, settledEntries, LeavesSettled, Opens, Stored, TableCode, Answered, ImageCode, IsImage, Demand1}
 use Rattle.model.specs.Proof.Facts.{on-test, on-same, clash, and-left, and-right, and-both}
 use Rattle.model.specs.Proof.Concrete.{Sure, choose-sound, shut-at}
 use Rattle.model.specs.Proof.Grounds.{Static, step-static}
@@ -334,31 +334,31 @@ module _ (b : Book) (s : List ℕ) where
       (λ y. inr (λ i. omega (arith, i .not-late, leb-false (askedTime s) 4000000000 y))))
       (λ z. inr (λ i. omega (arith, i .not-back, leb-false (b .time) (askedTime s) z)))
 
-  event-fate : IsEvent s → Fate b s
-  event-fate v = numbered number-or
+  event-verdict : IsEvent s → Verdict b s
+  event-verdict v = numbered number-or
     where
-      timed : InLine b s → InTime b s ⊎ (InTime b s → ⊥) → Fate b s
+      timed : InLine b s → InTime b s ⊎ (InTime b s → ⊥) → Verdict b s
       timed i (inl t) = taken (record { event = v; line = i; time = t })
       timed i (inr n) = turned-away 5 (out-of-time refl v i n)
 
-      lined : (SameNumber b s → ⊥) → InLine b s ⊎ (InLine b s → ⊥) → Fate b s
+      lined : (SameNumber b s → ⊥) → InLine b s ⊎ (InLine b s → ⊥) → Verdict b s
       lined n (inl i) = timed i time-or
       lined n (inr d) = turned-away 3 (out-of-line refl v n d)
 
-      numbered : SameNumber b s ⊎ (SameNumber b s → ⊥) → Fate b s
+      numbered : SameNumber b s ⊎ (SameNumber b s → ⊥) → Verdict b s
       numbered (inl n) =
           on-test (sameRequest l (e .request))
           (λ q. resend (record { event = v; number = n; request = request-same v q }))
           (λ q. turned-away 4 (unlike refl v n (λ r. clash (same-request v r) q)))
       numbered (inr n) = lined n line-or
 
-  fate : Fate b s
-  fate =
+  verdict : Verdict b s
+  verdict =
       on-same (length s) 13
       (λ w. on-test (ltb 15 (askedPlayer s))
       (λ p. turned-away 2 (no-player refl w (ltb-true 15 (askedPlayer s) p)))
       (λ p. on-test (requestLegal (askedOperation s) (askedAsset s) (askedKind s))
-      (λ r. event-fate (record { whole = w; player = ltb-false 15 (askedPlayer s) p; request = test-legal (askedOperation s) (askedAsset s) (askedKind s) r }))
+      (λ r. event-verdict (record { whole = w; player = ltb-false 15 (askedPlayer s) p; request = test-legal (askedOperation s) (askedAsset s) (askedKind s) r }))
       (λ r. turned-away 1 (no-request refl w (ltb-false 15 (askedPlayer s) p) (λ y. clash (legal-test (askedOperation s) (askedAsset s) (askedKind s) y) r)))))
       (λ n. turned-away 6 (cut refl n))
 
@@ -505,13 +505,13 @@ module _ (b : Book) (s : List ℕ) where
   against-range code (out-of-time c v i n) = (omega arith, omega arith)
 
   only : (code : ℕ) → 1 ≤ code → code ≤ 6 → stepRecord b s .answer .code ≡ code → (IsResend b s → ⊥) → Against b s code
-  only code low high x n = go fate
+  only code low high x n = go verdict
     where
       taken-not : TakenCode (stepRecord b s .answer .code) → ⊥
       taken-not (inl z) = omega (arith, z, x, low)
       taken-not (inr z) = omega (arith, z .0, x, high)
 
-      go : Fate b s → Against b s code
+      go : Verdict b s → Against b s code
       go (turned-away c y) = subst (Against b s) (sym (ap (λ (o : Outcome). o .answer .code) (away c y)) ∙ x) y
       go (resend r) = absurd (n r)
       go (taken t) = absurd (taken-not (subst (λ (o : Outcome). TakenCode (o .answer .code)) (sym (new-is t)) (stores t .code)))
@@ -524,14 +524,27 @@ module _ (b : Book) (s : List ℕ) where
       (stages-from b (g .rules) .players (askedPlayer s) (omega (arith, r .event .player))) in
       test-code (l .answer .code) (and-left (takenCode (l .answer .code)) _ (w .1 .0))
 
+  code-range : (IsResend b s → Legal b) → TableCode (stepRecord b s .answer .code)
+  code-range g = go verdict
+    where
+      in-table : (o : Outcome) → TakenCode (o .answer .code) → TableCode (o .answer .code)
+      in-table o (inl z) = inl (omega (arith, z))
+      in-table o (inr z) = inr z
+
+      go : Verdict b s → TableCode (stepRecord b s .answer .code)
+      go (turned-away c y) = rw (away c y) (inl (against-range c y .1))
+      go (resend r) = rw (resent r) (in-table (record { answer = l .answer; book = b }) (stored-code (g r) r))
+      go (taken t) = rw (new-is t) (in-table (new t) (stores t .code))
+
   answered : Answered b s
   answered = record {
-    fate = fate;
+    verdict = verdict;
     turned-away = away;
     only = only;
     again = resent;
     stored-code = stored-code;
     taken = λ t. subst (Stored b s) (sym (new-is t)) (stores t);
+    code = code-range;
   }
 
 -- ## Images
