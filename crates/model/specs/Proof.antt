@@ -1,8 +1,8 @@
--- Lemmas and proofs about the definitions above: nothing here has to be believed. Afternoon, Cases, BeginCodes, RecordCodes, Printed, Account and Bounds are closed runs.
+-- Lemmas and proofs about the definitions above: nothing here has to be believed. Afternoon, Cases, BeginCodes, AnswerCodes, Printed, Account and Bounds are closed runs.
 pub mod Afternoon
 pub mod Cases
 pub mod BeginCodes
-pub mod RecordCodes
+pub mod AnswerCodes
 pub mod Header
 pub mod Printed
 pub mod Account
@@ -31,5 +31,5 @@ pub mod KeptEvents
 pub mod Kept
 pub mod KeptExact
 pub mod Example
-pub mod BeginGrounds
-pub mod RecordGrounds
+pub mod Premises3
+pub mod Premises1

@@ -6,7 +6,7 @@ use native.Mathlib.Omega.{arith}
 use Rattle.laws.specs.Count.{listed}
 use Rattle.model.specs.Events.{stepRecord}
 use Rattle.model.specs.Demand1.{LegalRequest, begin, continue, stop, IsEvent, asker, Against, cut, no-player, no-request, unlike, out-of-line, out-of-time, IsResend, IsTaken, TakenCode}
-use Rattle.model.specs.Proof.RecordCodes.{odd, bytes}
+use Rattle.model.specs.Proof.AnswerCodes.{odd, bytes}
 use Rattle.model.specs.Proof.BookExamples.{greatest, greatest-legal}
 use Rattle.model.specs.Proof.Demand1.{demand1}
 
