@@ -3,7 +3,8 @@
 -- the server are then what they were." Claimed of every book, legal or not, and every list of numbers as a record. It is proved in
 -- `Proof.Demand1`. Uses no file of proofs. What a record says and the checks before an event is taken are stated here a second time, by
 -- the places of the bytes and by numbers. Of the rules only the step itself is named, and what settling makes of the entries.
--- Which entry a begin gets, until when, and which of 10 to 15 a taken event gets, is said by `Demand3`, by the ledger.
+-- Which of 10 to 15 a taken event gets, which entry a begin gets, until when, and what that entry's meters become, is said by `Demand3`, by
+-- the ledger.
 use mathlib.Core.Path.{_≡_}
 use mathlib.Core.Logic.{_↔_, _⊎_}
 use Prim.Native.Nat.{ℕ, _+_, _*_, _≤_, _<_}
