@@ -6,8 +6,8 @@
     tools/mutate.py run [--jobs N] [CRATE..] check the edits that are drawn; without names, of every crate
     tools/mutate.py table [CRATE..]          what came of them: counts by crate and by kind, then what no check refused
 
-The edits of `model` are edits of its definitions (specs/*.antt; not the proofs, and not the statements Demand2, Demand3, Saved,
-Exact). Those of every other crate are edits of its code (src/*.rt; not contracts, types, `use` and comments).
+The edits of `model` are edits of its definitions (specs/*.antt; not the proofs, and not the statements Demand1, Demand2, Demand3,
+Saved, Exact). Those of every other crate are edits of its code (src/*.rt; not contracts, types, `use` and comments).
 
 Needs target/ with every crate proved (`rt check`), Python 3 and, for the runs without proof, rustc. Which edits are drawn depends
 on nothing but the files. Each is checked as `rt must-fail` would, in a copy of its crate over the proved libraries below it. A

@@ -1,7 +1,7 @@
 -- Demand 3 as a statement: what is claimed of every list of events run from a fresh legal book. It is proved in `Proof.Demand3`.
 -- Uses no file of proofs. The rules appear here only where document 01 says so ("with the ledger's figures for the meters");
--- the checks before an event is taken, suitable, the order of the choice, until, and what a continue and a stop are answered are stated a
--- second time, in words of their own.
+-- the checks before an event is taken, which of 10 to 13 a begin is answered, suitable, the order of the choice, until, and what a continue and
+-- a stop are answered are stated a second time, in words of their own.
 use mathlib.Core.Path.{_≡_}
 use mathlib.Core.Logic.{_↔_, _⊎_}
 use Prim.Native.Nat.{ℕ, suc, _+_, _-_, _≤_, _<_}
@@ -149,6 +149,11 @@ pub record PastChecks (a : Answer) : Type 0 where
 abbrev pub NothingOpen : ℕ → ℕ → List Use → Type 0
 NothingOpen t p us = Every (λ u. u .player ≡ p → isOpen t u ≡ false) us
 
+-- "begin with a use open": some use of the player is open at t
+abbrev pub SomeOpen : ℕ → ℕ → List Use → Type 0
+SomeOpen t p [] = ⊥
+SomeOpen t p (u ∷ us) = ((u .player ≡ p) × (isOpen t u ≡ true)) ⊎ SomeOpen t p us
+
 -- "the asset is in the book with key 1"
 pub record InBookWithKey (b : Book) (asset : ℕ) : Type 0 where
   pub position : ℕ
@@ -179,7 +184,11 @@ pub record MayChoose (s : State) (e : Event) (asset kind : ℕ) : Type 0 where
   pub entry : ℕ
   pub suits : Suits (s .book) asset kind entry
 
--- ## d. What such a begin is answered
+-- ## d. What a begin is answered
+
+-- answered with that code exactly when P; "Each of 1 to 15 returns entry 255 and until 0."
+abbrev pub RefusedWhen : Type 0 → ℕ → Answer → Type 0
+RefusedWhen P code a = (a .code ≡ code → P) × (P → a ≡ refusal code)
 
 -- by the ledger, at T
 abbrev pub outOrSpent : ℕ → State → ℕ → Bool
@@ -280,22 +289,32 @@ chosenAnswer t es (chosen i) = record { code = 0; entry = i; until = grantUntil 
 -- and else is granted": once in words, and once by the rules' own choice "judged by the ledger before it, with T = its t and the
 -- ledger's figures for the meters".
 pub record Chosen (s : State) (e : Event) (kind : Kind) (asset : ℕ) : Type 0 where
-  pub none : step (s .book) e .answer .code ≡ 13 ↔ NoneLeft s e asset (kindNumber kind)
+  pub none : RefusedWhen (NoneLeft s e asset (kindNumber kind)) 13 (step (s .book) e .answer)
   pub granted : (step (s .book) e .answer .code ≡ 13 → ⊥) → Granted s e kind asset (step (s .book) e .answer)
   pub answer : step (s .book) e .answer ≡
       chosenAnswer (e .time) (filled (e .time) (s .account .uses) (s .book .entries))
       (choose (catalogOf (s .book)) (filled (e .time) (s .account .uses) (s .book .entries)) (e .time) asset (kindNumber kind))
 
--- what is claimed of a begin that is taken and no resend
+-- "10 | asset not in book, or key 0": after 11, so that nothing is open
+pub record Unknown (s : State) (e : Event) (asset : ℕ) : Type 0 where
+  pub idle : NothingOpen (e .time) (e .player) (s .account .uses)
+  pub not-in : InBookWithKey (s .book) asset → ⊥
+
+-- "12 | no suitable entry": after 11 and 10
+pub record Unsuited (s : State) (e : Event) (asset kind : ℕ) : Type 0 where
+  pub idle : NothingOpen (e .time) (e .player) (s .account .uses)
+  pub asset-in : InBookWithKey (s .book) asset
+  pub none-suits : (i : ℕ) → Suits (s .book) asset kind i → ⊥
+
+-- What is claimed of a begin that is taken and no resend: "in order: 11, 10, 12, 13", each exactly when.
 pub record Begins (s : State) (e : Event) (kind : Kind) (asset : ℕ) : Type 0 where
+  pub busy : RefusedWhen (SomeOpen (e .time) (e .player) (s .account .uses)) 11 (step (s .book) e .answer)
+  pub unknown : RefusedWhen (Unknown s e asset) 10 (step (s .book) e .answer)
+  pub unsuited : RefusedWhen (Unsuited s e asset (kindNumber kind)) 12 (step (s .book) e .answer)
   pub reaches : PastChecks (step (s .book) e .answer) ↔ MayChoose s e asset (kindNumber kind)
   pub choice : PastChecks (step (s .book) e .answer) → Chosen s e kind asset
 
 -- ## e. What a continue and a stop are answered
-
--- answered with that code exactly when P; "Each of 1 to 15 returns entry 255 and until 0."
-abbrev pub RefusedWhen : Type 0 → ℕ → Answer → Type 0
-RefusedWhen P code a = (a .code ≡ code → P) × (P → a ≡ refusal code)
 
 -- the use that a continue or a stop is about: its player's latest, open at t
 pub record IsCurrent (t p : ℕ) (us : List Use) (u : Use) : Type 0 where

@@ -1,7 +1,10 @@
--- Lemmas and proofs about the definitions above: nothing here has to be believed. Afternoon, Cases, BetweenRules, Printed, Account and Bounds are closed runs.
+-- Lemmas and proofs about the definitions above: nothing here has to be believed.
+-- Afternoon, Cases, BetweenRules, BeginCodes, AnswerCodes, Printed, Account and Bounds are computed examples: runs on constants that the checker evaluates.
 pub mod Afternoon
 pub mod Cases
 pub mod BetweenRules
+pub mod BeginCodes
+pub mod AnswerCodes
 pub mod Header
 pub mod Printed
 pub mod Account
@@ -22,6 +25,7 @@ pub mod Until
 pub mod Run
 pub mod Current
 pub mod Demand3
+pub mod Demand1
 pub mod KeptFacts
 pub mod KeptRules
 pub mod KeptMeters
@@ -30,3 +34,5 @@ pub mod Kept
 pub mod KeptExact
 pub mod Renewed
 pub mod Example
+pub mod Premises3
+pub mod Premises1

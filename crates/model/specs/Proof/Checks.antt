@@ -29,48 +29,48 @@ module _ (now : ℕ) (l : Last) (e : Event) where
   gate-2 h = rw (lt-ltb 15 (e .player) h)
 
   module _ (known : e .player ≤ 15) where
-    gate-again : again l e ≡ true → gate now l e ≡ Resend
+    pub gate-again : again l e ≡ true → gate now l e ≡ Resend
     unfolding gate
     gate-again h =
         rw (le-ltb 15 (e .player) known, and-left (sameNumber l (e .number)) (sameRequest l (e .request)) h, and-right (sameNumber l (e .number)) (sameRequest l (e .request)) h)
 
-    gate-4 : sameNumber l (e .number) ≡ true → again l e ≡ false → gate now l e ≡ Refuse 4
+    pub gate-4 : sameNumber l (e .number) ≡ true → again l e ≡ false → gate now l e ≡ Refuse 4
     unfolding gate
     gate-4 h n = let z : sameRequest l (e .request) ≡ false = rw h at n in rw (le-ltb 15 (e .player) known, h, z)
 
     module _ (other : sameNumber l (e .number) ≡ false) where
-      gate-3 : inLine l (e .number) ≡ false → gate now l e ≡ Refuse 3
+      pub gate-3 : inLine l (e .number) ≡ false → gate now l e ≡ Refuse 3
       unfolding gate
       gate-3 h = rw (le-ltb 15 (e .player) known, other, h)
 
       module _ (line : inLine l (e .number) ≡ true) where
-        gate-5 : timely now (e .time) ≡ false → gate now l e ≡ Refuse 5
+        pub gate-5 : timely now (e .time) ≡ false → gate now l e ≡ Refuse 5
         unfolding gate
         gate-5 h = rw (le-ltb 15 (e .player) known, other, line, h)
 
-        gate-0 : timely now (e .time) ≡ true → gate now l e ≡ Take
+        pub gate-0 : timely now (e .time) ≡ true → gate now l e ≡ Take
         unfolding gate
         gate-0 h = rw (le-ltb 15 (e .player) known, other, line, h)
 
 -- ## Its tests in words
 
 module _ (l : Last) (n : ℕ) where
-  same-number : 0 < l .number → n ≡ l .number → sameNumber l n ≡ true
+  pub same-number : 0 < l .number → n ≡ l .number → sameNumber l n ≡ true
   unfolding sameNumber
   same-number p q = rw (ne-eqb (l .number) 0 (λ z. omega arith)) (eq-eqb n (l .number) q)
 
-  other-number : (0 < l .number → n ≡ l .number → ⊥) → sameNumber l n ≡ false
+  pub other-number : (0 < l .number → n ≡ l .number → ⊥) → sameNumber l n ≡ false
   unfolding sameNumber
   other-number h =
       on-same (l .number) 0
       (λ z. rw (eq-eqb (l .number) 0 z))
       (λ z. rw (ne-eqb (l .number) 0 z) (ne-eqb n (l .number) (λ q. h (omega arith) q)))
 
-  follows-line : l .number < 4294967295 → n ≡ l .number + 1 → inLine l n ≡ true
+  pub follows-line : l .number < 4294967295 → n ≡ l .number + 1 → inLine l n ≡ true
   unfolding inLine
   follows-line p q = and-both (lt-ltb (l .number) lastNumber p) (eq-eqb n (l .number + 1) q)
 
-  line-follows : (l .number < 4294967295 → n ≡ l .number + 1 → ⊥) → inLine l n ≡ false
+  pub line-follows : (l .number < 4294967295 → n ≡ l .number + 1 → ⊥) → inLine l n ≡ false
   unfolding inLine
   line-follows h =
       on-test (ltb (l .number) lastNumber)
@@ -78,13 +78,13 @@ module _ (l : Last) (n : ℕ) where
       (λ p. rw p)
 
 module _ (now t : ℕ) where
-  in-time : now ≤ t → t ≤ 4000000000 → timely now t ≡ true
+  pub in-time : now ≤ t → t ≤ 4000000000 → timely now t ≡ true
   unfolding timely
   in-time p q = and-both (le-leb now t p) (le-leb t latestTime q)
 
-  out-of-time : (now ≤ t → t ≤ 4000000000 → ⊥) → timely now t ≡ false
+  pub not-in-time : (now ≤ t → t ≤ 4000000000 → ⊥) → timely now t ≡ false
   unfolding timely
-  out-of-time h =
+  not-in-time h =
       on-test (leb now t)
       (λ p. on-test (leb t latestTime) (λ q. absurd (h (leb-true now t p) (leb-true t latestTime q))) (λ q. rw (p, q)))
       (λ p. rw p)
@@ -132,7 +132,7 @@ module _ (s : State) (e : Event) (h : Inv (s .book) (s .account)) where
     out-of-time = λ k f n.
         refuses 5
         (gate-5 (s .book .time) l e k (follows-other f) (follows-in f)
-        (out-of-time (s .book .time) (e .time) (λ p q. n (omega (arith, h .time), q))));
+        (not-in-time (s .book .time) (e .time) (λ p q. n (omega (arith, h .time), q))));
     takes = λ k f t.
         let g = gate-0 (s .book .time) l e k (follows-other f) (follows-in f) (in-time (s .book .time) (e .time) (omega (arith, h .time, t .0)) (t .1)) in
         record { new = repeats-line ∙ gate-take (s .book .time) l e g .fresh; taken = taken-gate g };

@@ -3,7 +3,8 @@
 use mathlib.Core.Path.{_≡_, refl, ap, _∙_}
 use Prim.Native.Nat.{ℕ, _≤_}
 use mathlib.Core.Bool.{true, false}
-use mathlib.Core.List.{List, map}
+use mathlib.Core.Logic.{_⊎_, inl, inr}
+use mathlib.Core.List.{List, [], _∷_, map}
 use mathlib.Core.Option.{some}
 use lib.ListN.{length}
 use lib.Dec.{leb}
@@ -22,14 +23,31 @@ use Rattle.book.specs.Blank.{closed}
 use Rattle.model.specs.Book.{limitsAt, metersAt}
 use Rattle.model.specs.Events.{isOn, shut, catalogOf, moreUntil, refusal, more, doContinue, doStop, done, lastAt, openAt, gate, stepBy, step}
 use Rattle.model.specs.Ledger.{Use, Account, resent, calledTaken, latest, isOpen}
-use Rattle.model.specs.Demand3.{State, Takes, NothingOpen, IsLeast, filled, Lengthened, Continues, Stops, heldIn}
-use Rattle.model.specs.Proof.Facts.{on-test, clash}
+use Rattle.model.specs.Demand3.{State, Takes, NothingOpen, SomeOpen, IsLeast, filled, Lengthened, Continues, Stops, heldIn}
+use Rattle.model.specs.Proof.Facts.{on-test, on-same, clash}
 use Rattle.model.specs.Proof.Sums.{ShutFor, all-latest, all-shut, latest-player}
 use Rattle.model.specs.Proof.Held.{Held, heldAs, held-cases, more-ge}
 use Rattle.model.specs.Proof.Concrete.{settled-held}
 use Rattle.model.specs.Proof.Steps.{Inv, gate-refuse, gate-take, gate-resend, resent-is}
 use Rattle.model.specs.Proof.Until.{until-least}
 use Rattle.model.specs.Proof.Run.{settled-filled, filled-limits, filled-meters, judged}
+
+-- nothing is open or some use is, and not both
+none-or-some : (T p : ℕ) (us : List Use) → NothingOpen T p us ⊎ SomeOpen T p us
+none-or-some T p [] = inl tt
+none-or-some T p (u ∷ us) = behind (none-or-some T p us)
+  where
+    behind : NothingOpen T p us ⊎ SomeOpen T p us → NothingOpen T p (u ∷ us) ⊎ SomeOpen T p (u ∷ us)
+    behind (inr x) = inr (inr x)
+    behind (inl n) =
+        on-same (u .player) p
+        (λ q. on-test (isOpen T u) (λ o. inr (inl (q, o))) (λ o. inl (λ r. o, n)))
+        (λ q. inl (λ r. absurd (q r), n))
+
+none-not-some : (T p : ℕ) (us : List Use) → NothingOpen T p us → SomeOpen T p us → ⊥
+none-not-some T p [] n x = x
+none-not-some T p (u ∷ us) n (inl x) = clash (x .1) (n .0 (x .0))
+none-not-some T p (u ∷ us) n (inr x) = none-not-some T p us (n .1) x
 
 -- what is no resend and is answered as taken has passed the gate
 takes-gate : (b : Book) (a : Account) (e : Event) → Inv b a → resent a e ≡ false → calledTaken (step b e .answer .code) ≡ true
@@ -87,6 +105,17 @@ module _ (s : State) (e : Event) (h : Inv (s .book) (s .account)) (t : Takes s e
       held-cases (e .time) (e .player) (s .account .uses) O refl
       (λ c g. ap (λ (o : Open). isOn o) c)
       (λ u l o c. clash o (all-latest (ShutFor (e .time) (e .player)) (e .player) (s .account .uses) u l n (latest-player (e .player) (s .account .uses) u l)))
+
+  -- the same of a use that is open
+  pub some-on : isOn O ≡ true → SomeOpen (e .time) (e .player) (s .account .uses)
+  some-on q = go (none-or-some (e .time) (e .player) (s .account .uses))
+    where
+      go : Idle ⊎ SomeOpen (e .time) (e .player) (s .account .uses) → SomeOpen (e .time) (e .player) (s .account .uses)
+      go (inl n) = clash q (on-idle n)
+      go (inr x) = x
+
+  pub on-some : SomeOpen (e .time) (e .player) (s .account .uses) → isOn O ≡ true
+  on-some x = on-test (isOn O) (λ q. q) (λ q. absurd (none-not-some (e .time) (e .player) (s .account .uses) (idle-on q) x))
 
   -- where a use is open there is not nothing open
   busy : (u : Use) → O ≡ heldAs u → Idle → ⊥

@@ -1,5 +1,5 @@
 -- Demand 3 holds of every legal fresh book.
--- What is left for this file are the begins: which of them reach the choice, and what these are answered.
+-- What is left for this file are the begins: which of 10 to 13 each is answered, and else which entry and until.
 use mathlib.Core.Path.{_≡_, refl, sym, ap, _∙_, subst, fun-ext}
 use Prim.Native.Nat.{ℕ, _+_}
 use mathlib.Core.Bool.{Bool, true, false, not, _&&_, _||_, and-false, and-comm}
@@ -19,10 +19,10 @@ use Rattle.book.specs.declared.Kind.{Kind}
 use Rattle.book.specs.declared.Request.the-variants.{Begin}
 use Rattle.book.specs.declared.Decoded.{Decoded}
 use Rattle.model.specs.Book.{limitsAt, entriesIn, flagged, Legal, Fresh}
-use Rattle.model.specs.Events.{kindNumber, where-flagged, isOn, Catalog, catalogOf, usable, parentOf, suitable, asked, countLeft, timedLeft, inDates, intervalLeft, secondsLeft, grantable, suits, allowed, goesBefore, Choice, nobody, chosen, anyOf, choose, granted, doBegin, done, step}
+use Rattle.model.specs.Events.{kindNumber, where-flagged, isOn, Catalog, catalogOf, usable, parentOf, suitable, asked, countLeft, timedLeft, inDates, intervalLeft, secondsLeft, grantable, suits, allowed, goesBefore, Choice, nobody, chosen, anyOf, choose, refusal, granted, doBegin, done, step}
 use Rattle.model.specs.Ledger.{Use, empty, spentCount, spentTimed, spentSeconds, earliest, over, spent, outOfDates}
-use Rattle.model.specs.Demand3.{State, after, starting, Takes, PastChecks, Suits, MayChoose, outOrSpent, NoneLeft, startOr, isSome, figures, filled, chosenAnswer, Granted, Chosen, Begins, heldIn, Demand3}
-use Rattle.model.specs.Proof.Facts.{on-test, and-left, and-right, and-both}
+use Rattle.model.specs.Demand3.{State, after, starting, Takes, PastChecks, InBookWithKey, Suits, outOrSpent, NoneLeft, startOr, isSome, figures, filled, chosenAnswer, Granted, Chosen, Begins, heldIn, Demand3}
+use Rattle.model.specs.Proof.Facts.{on-test, clash, and-left, and-right, and-both}
 use Rattle.model.specs.Proof.Concrete.{held-ext, choose-sound, choose-none, none-choose}
 use Rattle.model.specs.Proof.Grounds.{legal-grounds, static-self}
 use Rattle.model.specs.Proof.Checks.{checked}
@@ -30,7 +30,7 @@ use Rattle.model.specs.Proof.Steps.{Inv}
 use Rattle.model.specs.Proof.Suitable.{any-sure, sure-any, usable-in, in-usable, suits-to, to-suits}
 use Rattle.model.specs.Proof.Choice.{choose-first, weightAt, before-weight, precedes}
 use Rattle.model.specs.Proof.Until.{grant-until}
-use Rattle.model.specs.Proof.Current.{answer-is, idle-on, on-idle, continues, stops}
+use Rattle.model.specs.Proof.Current.{answer-is, idle-on, on-idle, some-on, on-some, continues, stops}
 use Rattle.model.specs.Proof.Run.{fresh-inv, after-inv, after-static, limited, struck-answers, struck-book, filled-limits, filled-meters, answers-predicted, record-answers, record-final}
 
 -- ## Grantable by the ledger
@@ -82,39 +82,33 @@ grantable-by-ledger T us i l =
 
 -- ## A begin, once all is settled
 
--- what a begin that passes the checks has passed
-record Passed (c : Catalog) (es : List Entry) (o : Open) (t asset kind : ℕ) : Type 0 where
-  off : isOn o ≡ false
-  asset-in : usable c asset ≡ true
-  some-suits : anyOf (suits c es asset kind) (c .entryCount) ≡ true
-  answer : doBegin c es o t asset kind .answer ≡ chosenAnswer t es (choose c es t asset kind)
-
 granted-answer : (t : ℕ) (es : List Entry) (o : Open) (c : Choice) → granted t es o c .answer ≡ chosenAnswer t es c
 granted-answer t es o nobody = refl
 granted-answer t es o (chosen i) = refl
 
-begin-passed : (c : Catalog) (es : List Entry) (o : Open) (t asset kind : ℕ) → PastChecks (doBegin c es o t asset kind .answer) → Passed c es o t asset kind
+-- the four ways of a begin, each with what it is answered
+data Way (c : Catalog) (es : List Entry) (o : Open) (t asset kind : ℕ) : Type 0 where
+  is-busy : isOn o ≡ true → doBegin c es o t asset kind .answer ≡ refusal 11 → Way c es o t asset kind
+  is-unknown : isOn o ≡ false → usable c asset ≡ false → doBegin c es o t asset kind .answer ≡ refusal 10 → Way c es o t asset kind
+  is-unsuited : isOn o ≡ false → usable c asset ≡ true → anyOf (suits c es asset kind) (c .entryCount) ≡ false
+      → doBegin c es o t asset kind .answer ≡ refusal 12 → Way c es o t asset kind
+  is-past : isOn o ≡ false → usable c asset ≡ true → anyOf (suits c es asset kind) (c .entryCount) ≡ true
+      → doBegin c es o t asset kind .answer ≡ chosenAnswer t es (choose c es t asset kind) → Way c es o t asset kind
+
+way : (c : Catalog) (es : List Entry) (o : Open) (t asset kind : ℕ) → Way c es o t asset kind
 unfolding doBegin
-begin-passed c es o t asset kind n =
-    on-test (isOn o) (λ q. absurd (n .not-11 (rw q))) (λ q.
-    on-test (not (usable c asset)) (λ r. absurd (n .not-10 (rw (q, r)))) (λ r.
-    on-test (not (anyOf (suits c es asset kind) (c .entryCount))) (λ u. absurd (n .not-12 (rw (q, r, u)))) (λ u.
-    record {
-      off = q;
-      asset-in = not-false (usable c asset) r;
-      some-suits = not-false (anyOf (suits c es asset kind) (c .entryCount)) u;
-      answer = rw (q, r, u) (granted-answer t es _ (choose c es t asset kind));
-    })))
+way c es o t asset kind =
+    on-test (isOn o) (λ q. is-busy q (rw q)) (λ q.
+    on-test (usable c asset)
+    (λ r.
+    on-test (anyOf (suits c es asset kind) (c .entryCount))
+    (λ u. is-past q r u (rw (q, r, u) (granted-answer t es _ (choose c es t asset kind))))
+    (λ u. is-unsuited q r u (rw (q, r, u))))
+    (λ r. is-unknown q r (rw (q, r))))
 
 chosen-past : (t : ℕ) (es : List Entry) (c : Choice) → PastChecks (chosenAnswer t es c)
 chosen-past t es nobody = record { not-10 = λ x. omega arith; not-11 = λ x. omega arith; not-12 = λ x. omega arith }
 chosen-past t es (chosen i) = record { not-10 = λ x. omega arith; not-11 = λ x. omega arith; not-12 = λ x. omega arith }
-
-passed-begin : (c : Catalog) (es : List Entry) (o : Open) (t asset kind : ℕ) → isOn o ≡ false → usable c asset ≡ true
-    → anyOf (suits c es asset kind) (c .entryCount) ≡ true → PastChecks (doBegin c es o t asset kind .answer)
-unfolding doBegin
-passed-begin c es o t asset kind p q r =
-    rw (p, q, r, granted-answer t es _ (choose c es t asset kind)) (chosen-past t es (choose c es t asset kind))
 
 -- ## A begin that is taken
 
@@ -135,26 +129,16 @@ module _ (s : State) (e : Event) (h : Inv (s .book) (s .account)) (kind : Kind) 
   suits-same : suits (catalogOf B) F asset (kindNumber kind) ≡ suits (catalogOf B) (B .entries) asset (kindNumber kind)
   suits-same = fun-ext (λ j. ap (suitable asset (parentOf (catalogOf B) asset) (kindNumber kind)) (filled-limits (e .time) (s .account .uses) 0 (B .entries) j))
 
-  reaches-to : PastChecks (step B e .answer) → MayChoose s e asset (kindNumber kind)
-  unfolding catalogOf
-  reaches-to n =
-      let p = begin-passed (catalogOf B) F O (e .time) asset (kindNumber kind) (rw begin-is at n) in
-      let y = any-sure (suits (catalogOf B) (B .entries) asset (kindNumber kind)) (entriesIn B) (rw suits-same at (p .some-suits)) in
-      record {
-        idle = idle-on s e h t (p .off);
-        asset-in = usable-in B (h .grounds) asset (p .asset-in);
-        entry = y .0;
-        suits = suits-to B (h .grounds) asset (kindNumber kind) (y .0) (y .1 .below) (y .1 .passes);
-      }
+  some-suits : anyOf (suits (catalogOf B) F asset (kindNumber kind)) (entriesIn B) ≡ true → (i : ℕ) × Suits B asset (kindNumber kind) i
+  some-suits u =
+      let y = any-sure (suits (catalogOf B) (B .entries) asset (kindNumber kind)) (entriesIn B) (rw suits-same at u) in
+      (y .0, suits-to B (h .grounds) asset (kindNumber kind) (y .0) (y .1 .below) (y .1 .passes))
 
-  to-reaches : MayChoose s e asset (kindNumber kind) → PastChecks (step B e .answer)
-  unfolding catalogOf
-  to-reaches m =
-      rw begin-is
-      (passed-begin (catalogOf B) F O (e .time) asset (kindNumber kind) (on-idle s e h t (m .idle)) (in-usable B (h .grounds) asset (m .asset-in))
-      (rw suits-same
-      (sure-any (suits (catalogOf B) (B .entries) asset (kindNumber kind)) (entriesIn B) (m .entry) (m .suits .below)
-      (to-suits B (h .grounds) asset (kindNumber kind) (m .entry) (m .suits)))))
+  any-suits : (i : ℕ) → Suits B asset (kindNumber kind) i → anyOf (suits (catalogOf B) F asset (kindNumber kind)) (entriesIn B) ≡ true
+  any-suits i z =
+      rw suits-same
+      (sure-any (suits (catalogOf B) (B .entries) asset (kindNumber kind)) (entriesIn B) i (z .below)
+      (to-suits B (h .grounds) asset (kindNumber kind) i z))
 
   -- ## The choice
 
@@ -177,10 +161,7 @@ module _ (s : State) (e : Event) (h : Inv (s .book) (s .account)) (kind : Kind) 
       )
       (before-weight (B .entries) (s .account .uses) asset (h .grounds .limits) (e .time) i j)
 
-  module _ (n : PastChecks (step B e .answer)) where
-    choice-is : step B e .answer ≡ chosenAnswer (e .time) F (choose (catalogOf B) F (e .time) asset (kindNumber kind))
-    choice-is = begin-is ∙ begin-passed (catalogOf B) F O (e .time) asset (kindNumber kind) (rw begin-is at n) .answer
-
+  module _ (choice-is : step B e .answer ≡ chosenAnswer (e .time) F (choose (catalogOf B) F (e .time) asset (kindNumber kind))) where
     thirteen : (c : Choice) → chosenAnswer (e .time) F c .code ≡ 13 → c ≡ nobody
     thirteen nobody y = refl
     thirteen (chosen i) y = absurd (omega arith)
@@ -192,7 +173,7 @@ module _ (s : State) (e : Event) (h : Inv (s .book) (s .account)) (kind : Kind) 
         let q : allowed (catalogOf B) F (e .time) asset (kindNumber kind) j ≡ false = choose-none _ _ (entriesIn B) c j (z .below) in
         not-false _ (rw (to-suits B (h .grounds) asset (kindNumber kind) j z) at (sym (allowed-is j) ∙ q))
 
-    left-none : NoneLeft s e asset (kindNumber kind) → step B e .answer .code ≡ 13
+    left-none : NoneLeft s e asset (kindNumber kind) → step B e .answer ≡ refusal 13
     unfolding choose catalogOf
     left-none y =
         let c : choose (catalogOf B) F (e .time) asset (kindNumber kind) ≡ nobody =
@@ -201,7 +182,7 @@ module _ (s : State) (e : Event) (h : Inv (s .book) (s .account)) (kind : Kind) 
         on-test (suits (catalogOf B) (B .entries) asset (kindNumber kind) j)
         (λ q. rw (q, y j (suits-to B (h .grounds) asset (kindNumber kind) j z q)))
         (λ q. rw q)) in
-        ap (λ (a : Answer). a .code) (choice-is ∙ ap (chosenAnswer (e .time) F) c)
+        choice-is ∙ ap (chosenAnswer (e .time) F) c
 
     -- entry i is chosen
     granted-entry : (i : ℕ) → choose (catalogOf B) F (e .time) asset (kindNumber kind) ≡ chosen i → Granted s e kind asset (chosenAnswer (e .time) F (chosen i))
@@ -233,8 +214,64 @@ module _ (s : State) (e : Event) (h : Inv (s .book) (s .account)) (kind : Kind) 
     choice : Chosen s e kind asset
     choice = record { none = (none-left, left-none); granted = granted-is; answer = choice-is }
 
+  -- ## The four ways, in words
+
   pub begins : Begins s e kind asset
-  begins = record { reaches = (reaches-to, to-reaches); choice = choice }
+  unfolding catalogOf
+  begins = go (way (catalogOf B) F O (e .time) asset (kindNumber kind))
+    where
+      code-of : (a : Answer) → step B e .answer ≡ a → step B e .answer .code ≡ a .code
+      code-of a x = ap (λ (y : Answer). y .code) x
+
+      go : Way (catalogOf B) F O (e .time) asset (kindNumber kind) → Begins s e kind asset
+      go (is-busy q x) =
+          let y : step B e .answer .code ≡ 11 = code-of (refusal 11) (begin-is ∙ x) in
+          record {
+            busy = (λ z. some-on s e h t q, λ z. begin-is ∙ x);
+            unknown = (λ z. absurd (omega (arith, y, z)), λ z. clash q (on-idle s e h t (z .idle)));
+            unsuited = (λ z. absurd (omega (arith, y, z)), λ z. clash q (on-idle s e h t (z .idle)));
+            reaches = (λ n. absurd (n .not-11 y), λ m. clash q (on-idle s e h t (m .idle)));
+            choice = λ n. absurd (n .not-11 y);
+          }
+      go (is-unknown q r x) =
+          let y : step B e .answer .code ≡ 10 = code-of (refusal 10) (begin-is ∙ x) in
+          record {
+            busy = (λ z. absurd (omega (arith, y, z)), λ z. clash (on-some s e h t z) q);
+            unknown = (
+              λ z. record { idle = idle-on s e h t q; not-in = λ k. clash (in-usable B (h .grounds) asset k) r },
+              λ z. begin-is ∙ x,
+            );
+            unsuited = (λ z. absurd (omega (arith, y, z)), λ z. clash (in-usable B (h .grounds) asset (z .asset-in)) r);
+            reaches = (λ n. absurd (n .not-10 y), λ m. clash (in-usable B (h .grounds) asset (m .asset-in)) r);
+            choice = λ n. absurd (n .not-10 y);
+          }
+      go (is-unsuited q r u x) =
+          let y : step B e .answer .code ≡ 12 = code-of (refusal 12) (begin-is ∙ x) in
+          let k : InBookWithKey B asset = usable-in B (h .grounds) asset r in
+          record {
+            busy = (λ z. absurd (omega (arith, y, z)), λ z. clash (on-some s e h t z) q);
+            unknown = (λ z. absurd (omega (arith, y, z)), λ z. absurd (z .not-in k));
+            unsuited = (
+              λ z. record { idle = idle-on s e h t q; asset-in = k; none-suits = λ i v. clash (any-suits i v) u },
+              λ z. begin-is ∙ x,
+            );
+            reaches = (λ n. absurd (n .not-12 y), λ m. clash (any-suits (m .entry) (m .suits)) u);
+            choice = λ n. absurd (n .not-12 y);
+          }
+      go (is-past q r u x) =
+          let k : InBookWithKey B asset = usable-in B (h .grounds) asset r in
+          let i = some-suits u in
+          let past : PastChecks (step B e .answer) = rw (begin-is ∙ x) (chosen-past (e .time) F (choose (catalogOf B) F (e .time) asset (kindNumber kind))) in
+          record {
+            busy = (λ z. absurd (past .not-11 z), λ z. clash (on-some s e h t z) q);
+            unknown = (λ z. absurd (past .not-10 z), λ z. absurd (z .not-in k));
+            unsuited = (λ z. absurd (past .not-12 z), λ z. absurd (z .none-suits (i .0) (i .1)));
+            reaches = (
+              λ n. record { idle = idle-on s e h t q; asset-in = k; entry = i .0; suits = i .1 },
+              λ m. past,
+            );
+            choice = λ n. choice (begin-is ∙ x);
+          }
 
 -- ## Demand 3
 

@@ -1,0 +1,212 @@
+-- Demand 1 as a statement: "Every event and every book image that meets the rules of document 01 is accepted, and gets the answer and
+-- the new book that those rules fix. Everything else is turned away with the number in its table, and the book and every byte lent to
+-- the server are then what they were." Claimed of every book, legal or not, and every list of numbers as a record. It is proved in
+-- `Proof.Demand1`. Uses no file of proofs. What a record says and the checks before an event is taken are stated here a second time, by
+-- the places of the bytes and by numbers. Of the rules only the step itself is named, and what settling makes of the entries.
+-- Which of 10 to 15 a taken event gets, which entry a begin gets, until when, and what that entry's meters become, is said by `Demand3`, by
+-- the ledger.
+use mathlib.Core.Path.{_≡_}
+use mathlib.Core.Logic.{_↔_, _⊎_}
+use Prim.Native.Nat.{ℕ, _+_, _*_, _≤_, _<_}
+use mathlib.Core.List.{List}
+use lib.ListN.{length, getD}
+use Rattle.book.specs.declared.Answer.{Answer}
+use Rattle.book.specs.declared.Entry.{Entry}
+use Rattle.book.specs.declared.Open.{Open}
+use Rattle.book.specs.declared.Player.{Player}
+use Rattle.book.specs.declared.Book.{Book}
+use Rattle.book.specs.declared.Outcome.{Outcome}
+use Rattle.book.specs.Blank.{noEntry, closed}
+use Rattle.model.specs.Book.{limitsAt, playerAt, Legal}
+use Rattle.model.specs.Image.{Typed, Bytes, image, readCode}
+use Rattle.model.specs.Events.{settled, stepRecord}
+
+-- ## What a record says
+
+-- "13-byte events (player 8, number 32, operation 8, asset 16, kind 8, time 32)"; "Big-endian."
+abbrev pub byte : ℕ → List ℕ → ℕ
+byte k s = getD s k 0
+
+abbrev pub askedPlayer : List ℕ → ℕ
+askedPlayer s = byte 0 s
+
+abbrev pub askedNumber : List ℕ → ℕ
+askedNumber s = byte 1 s * 16777216 + byte 2 s * 65536 + byte 3 s * 256 + byte 4 s
+
+abbrev pub askedOperation : List ℕ → ℕ
+askedOperation s = byte 5 s
+
+abbrev pub askedAsset : List ℕ → ℕ
+askedAsset s = byte 6 s * 256 + byte 7 s
+
+abbrev pub askedKind : List ℕ → ℕ
+askedKind s = byte 8 s
+
+abbrev pub askedTime : List ℕ → ℕ
+askedTime s = byte 9 s * 16777216 + byte 10 s * 65536 + byte 11 s * 256 + byte 12 s
+
+-- "operation (1 begin, 2 continue, 3 stop)"; "Kind is 1 to 5 for begin; asset and kind are 0 otherwise."
+pub data LegalRequest (operation asset kind : ℕ) : Type 0 where
+  begin : operation ≡ 1 → 1 ≤ kind → kind ≤ 5 → LegalRequest operation asset kind
+  continue : operation ≡ 2 → asset ≡ 0 → kind ≡ 0 → LegalRequest operation asset kind
+  stop : operation ≡ 3 → asset ≡ 0 → kind ≡ 0 → LegalRequest operation asset kind
+
+-- the record is an event: what 6, 2 and 1 let pass
+pub record IsEvent (s : List ℕ) : Type 0 where
+  pub whole : length s ≡ 13
+  pub player : askedPlayer s ≤ 15
+  pub request : LegalRequest (askedOperation s) (askedAsset s) (askedKind s)
+
+-- ## What the book says of its player
+
+abbrev pub asker : Book → List ℕ → Player
+asker b s = playerAt (b .players) (askedPlayer s)
+
+-- "Equal to the player's last number (not 0)"
+pub record SameNumber (b : Book) (s : List ℕ) : Type 0 where
+  pub not-none : 0 < asker b s .last .number
+  pub number : askedNumber s ≡ asker b s .last .number
+
+-- "operation, asset and kind are equal"
+pub record SameRequest (b : Book) (s : List ℕ) : Type 0 where
+  pub operation : askedOperation s ≡ asker b s .last .operation
+  pub asset : askedAsset s ≡ asker b s .last .asset
+  pub kind : askedKind s ≡ asker b s .last .kind
+
+-- "last + 1"; "nothing follows 4,294,967,295"
+pub record InLine (b : Book) (s : List ℕ) : Type 0 where
+  pub not-last : asker b s .last .number < 4294967295
+  pub number : askedNumber s ≡ asker b s .last .number + 1
+
+-- not "t below the book's time or above 4,000,000,000"
+pub record InTime (b : Book) (s : List ℕ) : Type 0 where
+  pub not-back : b .time ≤ askedTime s
+  pub not-late : askedTime s ≤ 4000000000
+
+-- ## Turned away, a resend, or taken
+
+-- "Order of checks: 2, 1, then the number. ... else 4. Anything but last + 1: 3 ... Then ... 5.": when each of 1 to 6 is returned
+pub data Against (b : Book) (s : List ℕ) (code : ℕ) : Type 0 where
+  cut : code ≡ 6 → (length s ≡ 13 → ⊥) → Against b s code
+  no-player : code ≡ 2 → length s ≡ 13 → 15 < askedPlayer s → Against b s code
+  no-request : code ≡ 1 → length s ≡ 13 → askedPlayer s ≤ 15 → (LegalRequest (askedOperation s) (askedAsset s) (askedKind s) → ⊥)
+      → Against b s code
+  unlike : code ≡ 4 → IsEvent s → SameNumber b s → (SameRequest b s → ⊥) → Against b s code
+  out-of-line : code ≡ 3 → IsEvent s → (SameNumber b s → ⊥) → (InLine b s → ⊥) → Against b s code
+  out-of-time : code ≡ 5 → IsEvent s → InLine b s → (InTime b s → ⊥) → Against b s code
+
+-- "a *resend* if operation, asset and kind are equal"
+pub record IsResend (b : Book) (s : List ℕ) : Type 0 where
+  pub event : IsEvent s
+  pub number : SameNumber b s
+  pub request : SameRequest b s
+
+-- "From here the event is *taken*"
+pub record IsTaken (b : Book) (s : List ℕ) : Type 0 where
+  pub event : IsEvent s
+  pub line : InLine b s
+  pub time : InTime b s
+
+-- there is nothing else
+pub data Verdict (b : Book) (s : List ℕ) : Type 0 where
+  turned-away : (code : ℕ) → Against b s code → Verdict b s
+  resend : IsResend b s → Verdict b s
+  taken : IsTaken b s → Verdict b s
+
+-- ## What a taken event leaves
+
+-- "Each of 1 to 15 returns entry 255 and until 0."
+abbrev pub refused : ℕ → Answer
+refused code = record { code = code; entry = 255; until = 0 }
+
+-- 0, and the codes that the table calls taken
+abbrev pub TakenCode : ℕ → Type 0
+TakenCode code = (code ≡ 0) ⊎ ((10 ≤ code) × (code ≤ 15))
+
+-- "each open use of any player with until ≤ t ends": what becomes of a player's open use
+pub record Settles (t : ℕ) (old new : Open) : Type 0 where
+  pub ends : old .on ≡ 1 → old .until ≤ t → new ≡ closed
+  pub stays : (old .on ≡ 1 → t < old .until) → new ≡ old
+
+-- the entries, as settling at the event's time makes them
+abbrev pub settledEntries : Book → List ℕ → List Entry
+settledEntries b s = settled (askedTime s) (b .players) (b .entries)
+
+-- what is left where the answer is not 0: "*Taken* leaves entries' meters as settling made them."
+pub record LeavesSettled (b : Book) (s : List ℕ) (o : Outcome) : Type 0 where
+  pub answer : o .answer ≡ refused (o .answer .code)
+  pub entries : o .book .entries ≡ settledEntries b s
+  pub current : length (b .players) ≡ 16 → Settles (askedTime s) (asker b s .current) (asker (o .book) s .current)
+
+-- what its player has open where the answer is 0: "Momentary: ... nothing opens."; "The new until ..."; "The use ends at t"
+pub record Opens (b : Book) (s : List ℕ) (o : Outcome) : Type 0 where
+  pub begun : askedOperation s ≡ 1 → askedKind s ≤ 3
+      → asker (o .book) s .current ≡ record { on = 1; entry = o .answer .entry; begin = askedTime s; until = o .answer .until }
+  pub momentary : askedOperation s ≡ 1 → 4 ≤ askedKind s → Settles (askedTime s) (asker b s .current) (asker (o .book) s .current)
+  pub continued : askedOperation s ≡ 2
+      → asker (o .book) s .current ≡ record { on = 1; entry = o .answer .entry; begin = asker b s .current .begin; until = o .answer .until }
+  pub stopped : askedOperation s ≡ 3 → asker (o .book) s .current ≡ closed
+
+-- What a taken event leaves. In the program the type of a book says that there are 16 players; here a list may have any length.
+pub record Stored (b : Book) (s : List ℕ) (o : Outcome) : Type 0 where
+  -- "its number, request (operation, asset, kind) and answer are stored"
+  pub last : length (b .players) ≡ 16 → asker (o .book) s .last ≡
+      record { number = askedNumber s; operation = askedOperation s; asset = askedAsset s; kind = askedKind s; answer = o .answer }
+  -- "the book's time becomes t"
+  pub time : o .book .time ≡ askedTime s
+  -- "One player's record is settled on its own, the others untouched."
+  pub lasts : (p : ℕ) → (p ≡ askedPlayer s → ⊥) → playerAt (o .book .players) p .last ≡ playerAt (b .players) p .last
+  pub currents : (p : ℕ) → (p ≡ askedPlayer s → ⊥)
+      → Settles (askedTime s) (playerAt (b .players) p .current) (playerAt (o .book .players) p .current)
+  -- what no event changes
+  pub assets : o .book .assets ≡ b .assets
+  pub assetcount : o .book .assetcount ≡ b .assetcount
+  pub entrycount : o .book .entrycount ≡ b .entrycount
+  pub limits : (i : ℕ) → limitsAt (o .book .entries) i ≡ limitsAt (b .entries) i
+  pub entrySlots : length (o .book .entries) ≡ length (b .entries)
+  pub playerSlots : length (o .book .players) ≡ length (b .players)
+  -- the answer: 0, which changes no entry but the one it names, or one of 10 to 15, which changes none
+  pub code : TakenCode (o .answer .code)
+  pub grants : o .answer .code ≡ 0 → (i : ℕ) → (i ≡ o .answer .entry → ⊥)
+      → getD (o .book .entries) i noEntry ≡ getD (settledEntries b s) i noEntry
+  pub opens : o .answer .code ≡ 0 → length (b .players) ≡ 16 → Opens b s o
+  pub refuses : (o .answer .code ≡ 0 → ⊥) → LeavesSettled b s o
+
+-- ## The demand
+
+-- 0 to 6 and 10 to 15
+abbrev pub TableCode : ℕ → Type 0
+TableCode code = (code ≤ 6) ⊎ ((10 ≤ code) × (code ≤ 15))
+
+-- a record on a book
+pub record Answered (b : Book) (s : List ℕ) : Type 0 where
+  -- it is one of the three
+  pub verdict : Verdict b s
+  -- "nothing changed"
+  pub turned-away : (code : ℕ) → Against b s code → stepRecord b s ≡ record { answer = refused code; book = b }
+  -- and 1 to 6 are returned in no other case, but that a resend gets what is stored
+  pub only : (code : ℕ) → 1 ≤ code → code ≤ 6 → stepRecord b s .answer .code ≡ code → (IsResend b s → ⊥) → Against b s code
+  -- "It gets the stored answer, t is not read, and nothing changes"
+  pub again : IsResend b s → stepRecord b s ≡ record { answer = asker b s .last .answer; book = b }
+  -- what a legal book has stored is none of 1 to 6, so there they are returned in no other case at all
+  pub stored-code : Legal b → IsResend b s → TakenCode (asker b s .last .answer .code)
+  pub taken : IsTaken b s → Stored b s (stepRecord b s)
+  -- every answer is 0 or one of the table's
+  pub code : (IsResend b s → Legal b) → TableCode (stepRecord b s .answer .code)
+
+-- 0, or a row of the table
+abbrev pub ImageCode : ℕ → Type 0
+ImageCode code = (code ≡ 0) ⊎ ((20 ≤ code) × (code ≤ 27))
+
+-- the bytes are the image of a legal book
+pub record IsImage (s : List ℕ) : Type 0 where
+  pub book : Book
+  pub legal : Legal book
+  pub typed : Typed book
+  pub bytes : image book ≡ s
+
+-- What an accepted image gives, and what a refused one and a short buffer leave, is said by `Demand2`.
+pub record Demand1 : Type 0 where
+  pub records : (b : Book) (s : List ℕ) → Answered b s
+  pub images : (s : List ℕ) → ImageCode (readCode s)
+  pub accepted : (s : List ℕ) → Bytes s → readCode s ≡ 0 ↔ IsImage s

@@ -1,0 +1,115 @@
+-- What a record is answered and leaves, computed on a book that is not legal: each of 1 to 6 in its order, a resend, and two taken events.
+use mathlib.Core.Path.{_≡_, refl}
+use Prim.Native.Nat.{ℕ}
+use mathlib.Core.List.{List, [], _∷_}
+use lib.ListN.{replicate}
+use Rattle.laws.specs.Count.{first}
+use Rattle.book.specs.declared.Answer.{Answer}
+use Rattle.book.specs.declared.Entry.{Entry}
+use Rattle.book.specs.declared.Open.{Open}
+use Rattle.book.specs.declared.Player.{Player}
+use Rattle.book.specs.declared.Book.{Book}
+use Rattle.book.specs.declared.Outcome.{Outcome}
+use Rattle.book.specs.Blank.{noPlayer, closed}
+use Rattle.model.specs.Book.{assetsIn, entriesIn, grantLength, isParent, assetPosition, flagged, momentary, requestLegal}
+use Rattle.model.specs.Events.{kindOf, requestOf, eventIn, decoded, sameRequest, sameNumber, inLine, timely, gate, amend, begun, ended, expired, shut, released, settled, catalogOf, holds, assetNamed, usable, parentOf, own, suitable, countLeft, timedLeft, inDates, intervalLeft, secondsLeft, grantable, rankOf, ranksBefore, chooseOf, anyOf, choose, leastUntil, grantUntil, doBegin, doStop, done, takenStep, stepBy, step, arrive, stepRecord}
+use Rattle.model.specs.Demand1.{refused}
+use Rattle.model.specs.Proof.Afternoon.{asset, limits, granted}
+
+-- play of asset 1, timed 3 with timer 100, so many used
+abbrev pub used : ℕ → Entry
+used timed = record { limits = limits 1 1 2 0 3 100 0 0 0 0; meters = record { count = 0; timed = timed; first = 0; seconds = 0; started = 0 } }
+
+-- a player whose last event had that number and request
+abbrev pub player : ℕ → ℕ → ℕ → ℕ → Answer → Open → Player
+player number operation asset kind answer current = record {
+  last = record { number = number; operation = operation; asset = asset; kind = kind; answer = answer };
+  current = current;
+}
+
+abbrev pub running : ℕ → ℕ → Open
+running begin until = record { on = 1; entry = 0; begin = begin; until = until }
+
+abbrev pub book : ℕ → ℕ → Player → Player → Book
+book time timed zeroth first = record {
+  time = time;
+  assetcount = 1;
+  entrycount = 1;
+  assets = asset 1 1 0 ∷ [];
+  entries = used timed ∷ [];
+  players = zeroth ∷ first ∷ replicate 14 noPlayer;
+}
+
+-- no legal book: player 0 has 7 3 9 for its last answer, and a use open that was over 10 seconds ago
+abbrev pub stale : Player
+stale = player 5 1 1 1 (record { code = 7; entry = 3; until = 9 }) (running 40 90)
+
+abbrev pub odd : Book
+odd = book 100 2 stale noPlayer
+
+-- number, asset and time below 256
+abbrev pub bytes : ℕ → ℕ → ℕ → ℕ → ℕ → ℕ → List ℕ
+bytes player number operation asset kind time = player ∷ 0 ∷ 0 ∷ 0 ∷ number ∷ operation ∷ 0 ∷ asset ∷ kind ∷ 0 ∷ 0 ∷ 0 ∷ time ∷ []
+
+-- 4,000,000,001
+abbrev too-late : List ℕ
+too-late = 0 ∷ 0 ∷ 0 ∷ 0 ∷ 6 ∷ 3 ∷ 0 ∷ 0 ∷ 0 ∷ 238 ∷ 107 ∷ 40 ∷ 1 ∷ []
+
+-- answered so, and nothing changed
+abbrev left : Answer → Outcome
+left a = record { answer = a; book = odd }
+
+-- 6 before all; 2 before 1; 1 before the number; 4 and a resend, whose time is not read; 3 before 5; 5
+pub nothing-changed : (
+    stepRecord odd []
+    ∷ stepRecord odd (0 ∷ bytes 0 5 1 1 1 100)
+    ∷ stepRecord odd (bytes 16 5 9 0 0 100)
+    ∷ stepRecord odd (bytes 0 5 4 1 1 100)
+    ∷ stepRecord odd (bytes 0 6 0 0 0 100)
+    ∷ stepRecord odd (bytes 0 6 1 1 0 100)
+    ∷ stepRecord odd (bytes 0 6 1 1 6 100)
+    ∷ stepRecord odd (bytes 0 6 3 1 0 100)
+    ∷ stepRecord odd (bytes 0 6 2 0 1 100)
+    ∷ stepRecord odd (bytes 0 5 1 2 1 100)
+    ∷ stepRecord odd (bytes 0 5 1 1 2 100)
+    ∷ stepRecord odd (bytes 0 5 3 0 0 0)
+    ∷ stepRecord odd (bytes 0 5 1 1 1 0)
+    ∷ stepRecord odd (bytes 0 4 3 0 0 100)
+    ∷ stepRecord odd (bytes 0 7 3 0 0 0)
+    ∷ stepRecord odd (bytes 1 0 3 0 0 100)
+    ∷ stepRecord odd (bytes 0 6 3 0 0 99)
+    ∷ stepRecord odd too-late
+    ∷ [])
+    ≡ (left (refused 6)
+    ∷ left (refused 6)
+    ∷ left (refused 2)
+    ∷ left (refused 1)
+    ∷ left (refused 1)
+    ∷ left (refused 1)
+    ∷ left (refused 1)
+    ∷ left (refused 1)
+    ∷ left (refused 1)
+    ∷ left (refused 4)
+    ∷ left (refused 4)
+    ∷ left (refused 4)
+    ∷ left (record { code = 7; entry = 3; until = 9 })
+    ∷ left (refused 3)
+    ∷ left (refused 3)
+    ∷ left (refused 3)
+    ∷ left (refused 5)
+    ∷ left (refused 5)
+    ∷ [])
+unfolding requestLegal kindOf requestOf eventIn decoded sameRequest sameNumber inLine timely gate stepBy step arrive stepRecord
+nothing-changed = refl
+
+-- Taken: number, request, answer and time are stored. The stale use ends at its until, and its timed count, below the timer, goes back: in both
+-- cases, whoever asks. A stop then finds nothing open; a begin of the other player counts itself.
+pub stored : (stepRecord odd (bytes 0 6 3 0 0 100) ∷ stepRecord odd (bytes 1 1 1 1 1 101) ∷ []) ≡ (
+    record { answer = refused 14; book = book 100 1 (player 6 3 0 0 (refused 14) closed) noPlayer }
+    ∷ record {
+      answer = granted 0 161;
+      book = book 101 2 (player 5 1 1 1 (record { code = 7; entry = 3; until = 9 }) closed) (player 1 1 1 1 (granted 0 161) (running 101 161));
+    }
+    ∷ [])
+unfolding first assetsIn entriesIn grantLength isParent assetPosition flagged momentary requestLegal kindOf requestOf eventIn decoded sameRequest sameNumber inLine timely gate amend begun ended expired shut released settled catalogOf holds assetNamed usable parentOf own suitable countLeft timedLeft inDates intervalLeft secondsLeft grantable rankOf ranksBefore chooseOf anyOf choose leastUntil grantUntil doBegin doStop done takenStep stepBy step arrive stepRecord
+stored = refl
