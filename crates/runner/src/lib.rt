@@ -1,7 +1,7 @@
 // A block of event records answered one after the other, each by one line of text.
 // The loop over the records owns the book: no function on the way of one event takes or returns it, and what an event changes is stored in place.
-// Beside the book stand what an event would else work out anew: a lower bound of the next until, so that settling costs one comparison where nothing is
-// due, the end of each player's use, a row for each entry with what the choice asks of it, and the assets by number.
+// Beside the book stands what an event would otherwise recompute: a lower bound of the next until, so that settling costs one comparison where nothing
+// is due, the end of each player's use, a row for each entry with what the choice asks of it, and the assets by number.
 ghost use mathlib.Core.Path.{_≡_};
 ghost use mathlib.Core.Bool.{cond};
 ghost use Prim.Native.Nat.{_+_, _*_, _≤_, min};
