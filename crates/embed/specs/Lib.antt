@@ -2,3 +2,5 @@
 pub mod Calls
 pub mod Left
 pub mod Pieces
+pub mod One
+pub mod Seen

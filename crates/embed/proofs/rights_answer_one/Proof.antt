@@ -1,0 +1,65 @@
+-- `embed::rights_answer_one` meets its contract: both ways out leave what `One` says.
+use Prim.Native.Nat.{ℕ}
+use mathlib.Core.Path.{_≡_, sym, ap₂, _∙_}
+use denote.Ref.{now}
+use Rattle.model.specs.Image.{readCode}
+use Rattle.model.specs.Events.{stepRecord}
+use Rattle.encode.specs.Record.{recordBytes, record-shut}
+use Rattle.embed.specs.One.{oneStep, one-refused, one-answered}
+use borrow.Author.Needs.{needs}
+use Rattle.embed.proofs.rights_answer_one.Statement.{statement}
+use Rattle.embed.proofs.rights_answer_one.Tie as tie
+
+load-requires : tie.Need-load-requires
+load-requires c κs = search needs
+
+same-length : tie.Need-same-length
+same-length c = search needs
+
+returns : tie.Need-returns
+returns c =
+    let a = c .before .before .before .before .args in
+    one-refused (now (a .image)) _ (now (a .code)) (now (a .entry)) (now (a .until)) _ (c .before .load .ensures .0) (c .if1 .taken)
+
+record-bytes-requires : tie.Need-record-bytes-requires
+record-bytes-requires c κs = search needs
+
+slice-aggregate-step-record : tie.Need-slice-aggregate-step-record
+slice-aggregate-step-record c = search needs
+
+step-record-requires : tie.Need-step-record-requires
+step-record-requires c κs = search needs
+
+write-requires : tie.Need-write-requires
+write-requires c κs = search needs
+
+same-length-2 : tie.Need-same-length-2
+same-length-2 c = search needs
+
+returns-2 : tie.Need-returns-2
+unfolding oneStep
+returns-2 c =
+    let a = c .before .before .before .before .before .before .before .before .before .before .before .before .before .before .args in
+    let s = now (a .image) in
+    let load = c .before .before .before .before .before .before .before .before .before .before .before .load in
+    let bytes = c .before .before .before .before .before .before .before .before .before .record-bytes .ensures ∙ record-shut (a .player) (a .number) (a .operation) (a .asset) (a .kind) (a .time) in
+    let step = c .before .before .before .before .before .before .step-record in
+    let write = c .before .before .before .write in
+    let accepted : readCode s ≡ 0 = sym (load .ensures .0) ∙ c .before .before .before .before .before .before .before .before .before .before .if1 .left in
+    let same : step .result ≡ oneStep s (recordBytes (a .player) (a .number) (a .operation) (a .asset) (a .kind) (a .time)) =
+    step .ensures ∙ ap₂ stepRecord (load .ensures .1) bytes in
+    one-answered s _ (now (a .code)) (now (a .entry)) (now (a .until)) (step .result) _ accepted same (write .ensures .1)
+
+pub rights-answer-one-spec : {M : Type 1} → statement M
+rights-answer-one-spec =
+    tie.close
+    (tie.spec
+    load-requires
+    same-length
+    returns
+    record-bytes-requires
+    slice-aggregate-step-record
+    step-record-requires
+    write-requires
+    same-length-2
+    returns-2)
