@@ -60,6 +60,40 @@ entryFound s t i = getD (settled t (heldBook s .players) (heldBook s .entries)) 
 unfoldable pub leftSeen : List ℕ → ℕ → ℕ → List ℕ
 leftSeen s time i = leftValues (viewTime (heldBook s .time) time) (entryFound s (viewTime (heldBook s .time) time) i)
 
+-- ## The five calls: what each returns, given the room of its buffer, and the buffer after it
+
+abbrev pub bookCode : List ℕ → ℕ → ℕ
+bookCode s room = seenCode s true (bookSeen s) room
+
+abbrev pub bookOut : List ℕ → List ℕ → List ℕ
+bookOut s old = seenOut s true (bookSeen s) old
+
+abbrev pub assetCode : List ℕ → ℕ → ℕ → ℕ
+assetCode s i room = seenCode s (hasAsset s i) (assetSeen s i) room
+
+abbrev pub assetOut : List ℕ → ℕ → List ℕ → List ℕ
+assetOut s i old = seenOut s (hasAsset s i) (assetSeen s i) old
+
+abbrev pub entryCode : List ℕ → ℕ → ℕ → ℕ
+entryCode s i room = seenCode s (hasEntry s i) (entrySeen s i) room
+
+abbrev pub entryOut : List ℕ → ℕ → List ℕ → List ℕ
+entryOut s i old = seenOut s (hasEntry s i) (entrySeen s i) old
+
+abbrev pub playerCode : List ℕ → ℕ → ℕ → ℕ
+playerCode s p room = seenCode s (hasPlayer p) (playerSeen s p) room
+
+abbrev pub playerOut : List ℕ → ℕ → List ℕ → List ℕ
+playerOut s p old = seenOut s (hasPlayer p) (playerSeen s p) old
+
+abbrev pub leftCode : List ℕ → ℕ → ℕ → ℕ → ℕ
+leftCode s i time room = seenCode s (hasEntry s i) (leftSeen s time i) room
+
+abbrev pub leftOut : List ℕ → ℕ → ℕ → List ℕ → List ℕ
+leftOut s i time old = seenOut s (hasEntry s i) (leftSeen s time i) old
+
+-- ## Why
+
 -- whether the code's count says the same
 module _ (s : List ℕ) (b : Book) (n i : ℕ) (same : b ≡ heldBook s) where
   pub asset-there : n ≡ min (b .assetcount) 64 → hasAsset s i ≡ ltb i n
@@ -70,7 +104,7 @@ module _ (s : List ℕ) (b : Book) (n i : ℕ) (same : b ≡ heldBook s) where
   unfolding hasEntry entriesIn
   entry-there e = ap (ltb i) (sym (e ∙ ap (λ (x : Book). min (x .entrycount) 64) same))
 
--- ## What each way out leaves
+-- what each way out leaves
 
 module _ (s : List ℕ) (there : Bool) (values old : List ℕ) where
   abbrev pub Seen : ℕ → List ℕ → Type 0

@@ -1,14 +1,13 @@
 // The book of rights for a server written in C or Rust: functions on numbers and bytes, linked as a static library.
 // Nothing is held between calls. The book is its image, which the caller keeps and lends.
 ghost use mathlib.Core.Path.{_≡_};
-ghost use mathlib.Core.Bool.{true};
 ghost use lib.ListN.{length};
 ghost use Rattle.model.specs.Image.{readCode};
 ghost use Rattle.encode.specs.Record.{recordBytes};
 ghost use Rattle.fill.specs.Fill.{fillCode, filled};
 ghost use Rattle.embed.specs.Calls.{heldBook, answerCode, imageAfter, outAfter, writtenAfter};
 ghost use Rattle.embed.specs.One.{oneImage, oneCode, oneEntry, oneUntil};
-ghost use Rattle.embed.specs.Seen.{seenCode, seenOut, bookSeen, hasAsset, assetSeen, hasEntry, entrySeen, hasPlayer, playerSeen, leftSeen};
+ghost use Rattle.embed.specs.Seen.{bookCode, bookOut, assetCode, assetOut, entryCode, entryOut, playerCode, playerOut, leftCode, leftOut};
 use image_read::Loaded;
 
 // 0 where the image holds a legal book, else the number of the refusal, 20 to 27.
@@ -127,8 +126,8 @@ pub extern "C" fn rights_record(
 // Wrong and ruled out: numbers out of an image that is refused.
 #[no_mangle]
 pub extern "C" fn rights_book(image: &[u8], out: &mut [u32]) -> u8
-    ensures { λ r. ⌜ r ≡ seenCode (now (image .entry)) true (bookSeen (now (image .entry))) (length (now (out .entry))) ⌝ }
-    ensures { λ _. ⌜ now (out .exit) ≡ seenOut (now (image .entry)) true (bookSeen (now (image .entry))) (now (out .entry)) ⌝ }
+    ensures { λ r. ⌜ r ≡ bookCode (now (image .entry)) (length (now (out .entry))) ⌝ }
+    ensures { λ _. ⌜ now (out .exit) ≡ bookOut (now (image .entry)) (now (out .entry)) ⌝ }
 {
     let loaded = load(image);
     let code = loaded.code;
@@ -144,8 +143,8 @@ pub extern "C" fn rights_book(image: &[u8], out: &mut [u32]) -> u8
 // Wrong and ruled out: the blank entry behind the last one, a neighbour.
 #[no_mangle]
 pub extern "C" fn rights_entry(image: &[u8], position: u32, out: &mut [u32]) -> u8
-    ensures { λ r. ⌜ r ≡ seenCode (now (image .entry)) (hasEntry (now (image .entry)) position) (entrySeen (now (image .entry)) position) (length (now (out .entry))) ⌝ }
-    ensures { λ _. ⌜ now (out .exit) ≡ seenOut (now (image .entry)) (hasEntry (now (image .entry)) position) (entrySeen (now (image .entry)) position) (now (out .entry)) ⌝ }
+    ensures { λ r. ⌜ r ≡ entryCode (now (image .entry)) position (length (now (out .entry))) ⌝ }
+    ensures { λ _. ⌜ now (out .exit) ≡ entryOut (now (image .entry)) position (now (out .entry)) ⌝ }
 {
     let loaded = load(image);
     let code = loaded.code;
@@ -166,8 +165,8 @@ pub extern "C" fn rights_entry(image: &[u8], position: u32, out: &mut [u32]) -> 
 // Wrong and ruled out: the blank asset behind the last one, a neighbour.
 #[no_mangle]
 pub extern "C" fn rights_asset(image: &[u8], position: u32, out: &mut [u32]) -> u8
-    ensures { λ r. ⌜ r ≡ seenCode (now (image .entry)) (hasAsset (now (image .entry)) position) (assetSeen (now (image .entry)) position) (length (now (out .entry))) ⌝ }
-    ensures { λ _. ⌜ now (out .exit) ≡ seenOut (now (image .entry)) (hasAsset (now (image .entry)) position) (assetSeen (now (image .entry)) position) (now (out .entry)) ⌝ }
+    ensures { λ r. ⌜ r ≡ assetCode (now (image .entry)) position (length (now (out .entry))) ⌝ }
+    ensures { λ _. ⌜ now (out .exit) ≡ assetOut (now (image .entry)) position (now (out .entry)) ⌝ }
 {
     let loaded = load(image);
     let code = loaded.code;
@@ -188,8 +187,8 @@ pub extern "C" fn rights_asset(image: &[u8], position: u32, out: &mut [u32]) -> 
 // Wrong and ruled out: a player above 15.
 #[no_mangle]
 pub extern "C" fn rights_player(image: &[u8], player: u32, out: &mut [u32]) -> u8
-    ensures { λ r. ⌜ r ≡ seenCode (now (image .entry)) (hasPlayer player) (playerSeen (now (image .entry)) player) (length (now (out .entry))) ⌝ }
-    ensures { λ _. ⌜ now (out .exit) ≡ seenOut (now (image .entry)) (hasPlayer player) (playerSeen (now (image .entry)) player) (now (out .entry)) ⌝ }
+    ensures { λ r. ⌜ r ≡ playerCode (now (image .entry)) player (length (now (out .entry))) ⌝ }
+    ensures { λ _. ⌜ now (out .exit) ≡ playerOut (now (image .entry)) player (now (out .entry)) ⌝ }
 {
     let loaded = load(image);
     let code = loaded.code;
@@ -210,8 +209,8 @@ pub extern "C" fn rights_player(image: &[u8], player: u32, out: &mut [u32]) -> u
 // Wrong and ruled out: a use that is over by then still counted, an entry out of its dates as grantable.
 #[no_mangle]
 pub extern "C" fn rights_left(image: &[u8], position: u32, time: u32, out: &mut [u32]) -> u8
-    ensures { λ r. ⌜ r ≡ seenCode (now (image .entry)) (hasEntry (now (image .entry)) position) (leftSeen (now (image .entry)) time position) (length (now (out .entry))) ⌝ }
-    ensures { λ _. ⌜ now (out .exit) ≡ seenOut (now (image .entry)) (hasEntry (now (image .entry)) position) (leftSeen (now (image .entry)) time position) (now (out .entry)) ⌝ }
+    ensures { λ r. ⌜ r ≡ leftCode (now (image .entry)) position time (length (now (out .entry))) ⌝ }
+    ensures { λ _. ⌜ now (out .exit) ≡ leftOut (now (image .entry)) position time (now (out .entry)) ⌝ }
 {
     let loaded = load(image);
     let code = loaded.code;
