@@ -94,8 +94,8 @@ pub extern "C" fn rights_answer_one(
     let record = encode::record_bytes(player, number, operation, asset, kind, time);
     let held = loaded.book;
     let outcome = events::step_record(held, &record);
-    let next = outcome.book;
-    image_write::write(next, image);
+    let after = outcome.book;
+    image_write::write(after, image);
     let answer = outcome.answer;
     *code = answer.code;
     *entry = answer.entry;
@@ -118,8 +118,8 @@ pub extern "C" fn rights_record(
     ensures { λ r. ⌜ r ≡ fillCode (recordBytes player number operation asset kind time) (length (now (out .entry))) ⌝ }
     ensures { λ _. ⌜ now (out .exit) ≡ filled (recordBytes player number operation asset kind time) (now (out .entry)) ⌝ }
 {
-    let record = encode::record_bytes(player, number, operation, asset, kind, time);
-    fill::fill8(out, &record)
+    let bytes = encode::record_bytes(player, number, operation, asset, kind, time);
+    fill::fill8(out, &bytes)
 }
 
 // How many assets and entries the book in the image has, and its time.
@@ -219,7 +219,8 @@ pub extern "C" fn rights_left(image: &[u8], position: u32, time: u32, out: &mut 
     }
     let held = loaded.book;
     let at = position as usize;
-    if book::at_most_64(held.entrycount) <= at {
+    let known = book::at_most_64(held.entrycount);
+    if known <= at {
         return 31;
     }
     let when = views::view_time(held.time, time);

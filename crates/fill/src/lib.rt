@@ -20,15 +20,15 @@ pub fn fill8(out: &mut [u8], values: &[u8]) -> u8
 
 // The same for numbers of 32 bits.
 // Wrong and ruled out: a buffer touched where it is too short, a number touched behind the values.
-pub fn fill32(out: &mut [u32], values: &[u32]) -> u8
-    ensures { λ r. ⌜ (r ≡ fillCode (now (values .entry)) (length (now (out .entry)))) × (now (out .exit) ≡ filled (now (values .entry)) (now (out .entry))) ⌝ }
+pub fn fill32(out: &mut [u32], numbers: &[u32]) -> u8
+    ensures { λ r. ⌜ (r ≡ fillCode (now (numbers .entry)) (length (now (out .entry)))) × (now (out .exit) ≡ filled (now (numbers .entry)) (now (out .entry))) ⌝ }
 {
-    if out.len() < values.len() {
+    if out.len() < numbers.len() {
         return 30;
     }
     let mut i: usize = 0;
-    while i < values.len() {
-        out[i] = values[i];
+    while i < numbers.len() {
+        out[i] = numbers[i];
         i = i + 1;
     }
     0

@@ -10,10 +10,10 @@ use Rattle.fill.proofs.fill32.Statement.{statement}
 use Rattle.fill.proofs.fill32.Tie as tie
 
 abbrev Inv-loop : tie.InvT-loop
-Inv-loop out₀ values i₀ out i = (i ≤ length values) × (out ≡ lay out₀ 0 (take i values)) × (length out ≡ length out₀)
+Inv-loop out₀ numbers i₀ out i = (i ≤ length numbers) × (out ≡ lay out₀ 0 (take i numbers)) × (length out ≡ length out₀)
 
 abbrev μ-loop : tie.MeasureT-loop
-μ-loop out₀ values i₀ out i = length values - i
+μ-loop out₀ numbers i₀ out i = length numbers - i
 
 returns : tie.Need-returns Inv-loop μ-loop
 returns c = fill-short _ _ (c .if1 .taken)
@@ -45,7 +45,7 @@ loop-again c =
     let l = c .before .before .loop in
     let h : l .i < length (now (a .out)) = omega arith in (
       omega arith,
-      rw (l .inv .1) (fill-next (now (a .out)) (now (a .values)) (l .i) h (c .before .loop-test .taken)),
+      rw (l .inv .1) (fill-next (now (a .out)) (now (a .numbers)) (l .i) h (c .before .loop-test .taken)),
       simp length-set (l .inv .2),
     )
 
@@ -56,8 +56,8 @@ returns-2 : tie.Need-returns-2 Inv-loop μ-loop
 returns-2 c =
     let a = c .before .before .before .args in
     let l = c .before .loop in
-    let h : length (now (a .values)) ≤ length (now (a .out)) = omega arith in
-    fill-done (now (a .values)) (now (a .out)) (l .out) (l .i) h (c .loop-test .left) (l .inv .1)
+    let h : length (now (a .numbers)) ≤ length (now (a .out)) = omega arith in
+    fill-done (now (a .numbers)) (now (a .out)) (l .out) (l .i) h (c .loop-test .left) (l .inv .1)
 
 pub fill32-spec : {M : Type 1} → statement M
 fill32-spec =
