@@ -52,7 +52,8 @@ whole-buffer b old e =
     rw (le-leb (lengthOf b) (length old) (omega arith))
     (ap (λ (n : ℕ). image b ++ drop n old) e ∙ ap (λ (t : List ℕ). image b ++ t) (drop-length old) ∙ append-nil (image b))
 
-pub next-image : (s records : List ℕ) → readCode s ≡ 0 → writeBuffer (runBook (heldBook s) records) s ≡ image (runBook (heldBook s) records)
+pub next-image : (s records : List ℕ) → readCode s ≡ 0
+    → writeBuffer (runBook (heldBook s) records) s ≡ image (runBook (heldBook s) records)
 next-image s records e = whole-buffer (runBook (heldBook s) records) s (run-length (heldBook s) records ∙ held-length s e)
 
 -- ## What is left
@@ -86,7 +87,9 @@ module _ (s records old : List ℕ) (before : ℕ) where
       readCode s ≡ 0 →
       19 * recordCount records ≤ length old →
       book ≡ heldBook s →
-      (b ≡ blockBook book records (length old)) × (written ≡ blockWritten book records (length old)) × (out ≡ blockBuffer book records old) →
+      (b ≡ blockBook book records (length old))
+      × (written ≡ blockWritten book records (length old))
+      × (out ≡ blockBuffer book records old) →
       s′ ≡ writeBuffer b s →
       Left 0 s′ out written
   unfolding answerCode imageAfter outAfter writtenAfter fits blockBook blockWritten blockBuffer

@@ -1,15 +1,13 @@
--- What a call of `rights_answer_one` returns and leaves: the step of one record, with numbers for its text. s is the image lent, r the record that
--- holds the event's numbers (`recordBytes` of `encode`).
+-- What a call of `rights_answer_one` returns and leaves: the step of one record, with numbers for its text. s is the image
+-- lent, r the record that holds the event's numbers (`recordBytes` of `encode`).
 use Prim.Native.Nat.{ℕ}
 use mathlib.Core.Path.{_≡_, refl, sym, ap, _∙_}
 use mathlib.Core.Bool.{cond}
 use mathlib.Core.List.{List}
 use lib.Dec.{eqb}
 use borrow.Author.Tests.{ne-eqb}
-use Rattle.book.specs.declared.Answer.{Answer}
 use Rattle.book.specs.declared.Outcome.{Outcome}
-use Rattle.book.specs.declared.Book.{Book}
-use Rattle.model.specs.Image.{image, lengthOf, writeBuffer, readCode}
+use Rattle.model.specs.Image.{image, writeBuffer, readCode}
 use Rattle.model.specs.Events.{decoded, stepRecord}
 use Rattle.embed.specs.Calls.{heldBook}
 use Rattle.embed.specs.Left.{held-length, event-length, whole-buffer}
@@ -59,7 +57,8 @@ module _ (s r : List ℕ) (code₀ entry₀ until₀ : ℕ) where
   unfolding oneStep stepRecord
   step-image e = whole-buffer (oneStep s r .book) s (event-length (heldBook s) (decoded r) ∙ held-length s e)
 
-  pub one-answered : (x : Outcome) (s′ : List ℕ) → readCode s ≡ 0 → x ≡ oneStep s r → s′ ≡ writeBuffer (x .book) s → One 0 s′ (x .answer .code) (x .answer .entry) (x .answer .until)
+  pub one-answered : (x : Outcome) (s′ : List ℕ) → readCode s ≡ 0 → x ≡ oneStep s r → s′ ≡ writeBuffer (x .book) s
+      → One 0 s′ (x .answer .code) (x .answer .entry) (x .answer .until)
   unfolding oneImage oneCode oneEntry oneUntil unlessRefused
   one-answered x s′ e same w = (
     sym e,

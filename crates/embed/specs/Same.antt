@@ -1,13 +1,13 @@
--- The call on one event's numbers and the call on the record that holds them are one step: the same next image, and the numbers are those of the
--- text's line. So what is proved of the text holds of the numbers.
+-- The call on one event's numbers and the call on the record that holds them are one step: the same next image, and the
+-- numbers are those of the text's line. So what is proved of the text holds of the numbers.
 use Prim.Native.Nat.{ℕ, _≤_}
 use mathlib.Core.Path.{_≡_, refl, sym, ap, _∙_}
 use mathlib.Core.Bool.{true, cond}
 use mathlib.Core.List.{List, [], _∷_, append-nil}
 use native.Mathlib.Omega.{arith}
-use lib.ListN.{length, drop}
+use lib.ListN.{length}
 use lib.Seq.{take-all}
-use lib.Dec.{leb, eqb}
+use lib.Dec.{eqb}
 use borrow.Author.Tests.{le-leb}
 use Rattle.laws.specs.Count.{listed}
 use Rattle.laws.specs.Tests.{on-same}
@@ -59,7 +59,8 @@ module _ (r : List ℕ) (whole : length r ≡ 13) where
 
 -- ## The record of six numbers
 
-module _ (s : List ℕ) (player number operation asset kind time : ℕ) (fit : Fit recordWidths (recordValues player number operation asset kind time)) where
+module _ (s : List ℕ) (player number operation asset kind time : ℕ)
+    (fit : Fit recordWidths (recordValues player number operation asset kind time)) where
   abbrev r : List ℕ
   r = recordBytes player number operation asset kind time
 
@@ -77,7 +78,9 @@ module _ (s : List ℕ) (player number operation asset kind time : ℕ) (fit : F
     same = same-image r (record-length player number operation asset kind time) s 19 (omega arith)
 
     pub one-next-accepted : readCode (oneImage s r) ≡ 0
-    one-next-accepted = ap readCode (sym same) ∙ next-accepted s r 19 bytes (record-bytes player number operation asset kind time fit) answered
+    one-next-accepted =
+        ap readCode (sym same)
+        ∙ next-accepted s r 19 bytes (record-bytes player number operation asset kind time fit) answered
 
     pub one-next-book : heldBook (oneImage s r) ≡ oneStep s r .book
     unfolding oneStep

@@ -126,4 +126,6 @@ module _ (s : List ℕ) (there : Bool) (values old : List ℕ) where
       (code ≡ fillCode given (length old)) × (out ≡ filled given old) →
       Seen code out
   unfolding seenCode seenOut
-  seen-given code out given e f same p = rw (e, f) (p .0 ∙ ap (λ (v : List ℕ). fillCode v (length old)) same, p .1 ∙ ap (λ (v : List ℕ). filled v old) same)
+  seen-given code out given e f same p =
+      rw (e, f)
+      (p .0 ∙ ap (λ (v : List ℕ). fillCode v (length old)) same, p .1 ∙ ap (λ (v : List ℕ). filled v old) same)

@@ -1,7 +1,7 @@
--- What is left at the book's own time is what the image's own limits and meters leave: no use in an accepted image is over at its time, so looking at
--- it settles nothing. A caller that asks for time 0 gets this.
+-- What is left at the book's own time is what the image's own limits and meters leave: no use in an accepted image is over
+-- at its time, so looking at it settles nothing. A caller that asks for time 0 gets this.
 use Prim.Native.Nat.{ℕ, zero, suc, _+_, _<_, _≤_}
-use mathlib.Core.Path.{_≡_, refl, sym, ap, _∙_}
+use mathlib.Core.Path.{_≡_, refl, ap, _∙_}
 use mathlib.Core.Bool.{Bool, true, false}
 use mathlib.Core.List.{List, [], _∷_}
 use native.Mathlib.Omega.{arith}
@@ -39,7 +39,8 @@ module _ (b : Book) (legal : Legal b) where
       ltb-true (b .time) (o .until)
       (row-passed
       (leb (o .begin) (b .time))
-      (ltb (b .time) (o .until) ∷ leb (o .until) (b .time + grantLength (l .kind)) ∷ ltb (o .entry) (entriesIn b) ∷ between 1 3 (l .kind) ∷ insideDates o l ∷ insideInterval o l m ∷ [])
+      (ltb (b .time) (o .until) ∷ leb (o .until) (b .time + grantLength (l .kind)) ∷ ltb (o .entry) (entriesIn b)
+      ∷ between 1 3 (l .kind) ∷ insideDates o l ∷ insideInterval o l m ∷ [])
       use-passes .1 .0)
 
   not-over : (p : ℕ) → p < 16 → expired (b .time) (openAt (b .players) p) ≡ false
@@ -73,5 +74,6 @@ module _ (s : List ℕ) (bytes : Bytes s) (accepted : readCode s ≡ 0) (time : 
   pub left-now : (i : ℕ) → leftSeen s time i ≡ leftValues (heldBook s .time) (getD (heldBook s .entries) i noEntry)
   unfolding leftSeen entryFound
   left-now i =
-      ap (λ (t : ℕ). leftValues t (getD (settled t (heldBook s .players) (heldBook s .entries)) i noEntry)) (view-now (heldBook s .time) time past)
+      ap (λ (t : ℕ). leftValues t (getD (settled t (heldBook s .players) (heldBook s .entries)) i noEntry))
+      (view-now (heldBook s .time) time past)
       ∙ ap (λ (es : List Entry). leftValues (heldBook s .time) (getD es i noEntry)) (settled-now (heldBook s) held-legal)

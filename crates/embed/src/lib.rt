@@ -7,7 +7,8 @@ ghost use Rattle.encode.specs.Record.{recordBytes};
 ghost use Rattle.fill.specs.Fill.{fillCode, filled};
 ghost use Rattle.embed.specs.Calls.{heldBook, answerCode, imageAfter, outAfter, writtenAfter};
 ghost use Rattle.embed.specs.One.{oneImage, oneCode, oneEntry, oneUntil};
-ghost use Rattle.embed.specs.Seen.{bookCode, bookOut, assetCode, assetOut, entryCode, entryOut, playerCode, playerOut, leftCode, leftOut};
+ghost use Rattle.embed.specs.Seen.{bookCode, bookOut, assetCode, assetOut, entryCode, entryOut};
+ghost use Rattle.embed.specs.Seen.{playerCode, playerOut, leftCode, leftOut};
 use image_read::Loaded;
 
 // 0 where the image holds a legal book, else the number of the refusal, 20 to 27.
@@ -36,7 +37,8 @@ pub extern "C" fn rights_answer(
     ensures { λ r. ⌜ r ≡ answerCode (now (image .entry)) (now (records .entry)) (length (now (out .entry))) ⌝ }
     ensures { λ _. ⌜ now (image .exit) ≡ imageAfter (now (image .entry)) (now (records .entry)) (length (now (out .entry))) ⌝ }
     ensures { λ _. ⌜ now (out .exit) ≡ outAfter (now (image .entry)) (now (records .entry)) (now (out .entry)) ⌝ }
-    ensures { λ _. ⌜ now (written .exit) ≡ writtenAfter (now (image .entry)) (now (records .entry)) (length (now (out .entry))) (now (written .entry)) ⌝ }
+    ensures { λ _. ⌜ now (written .exit)
+        ≡ writtenAfter (now (image .entry)) (now (records .entry)) (length (now (out .entry))) (now (written .entry)) ⌝ }
 {
     let blank = book::blank_book();
     let loaded = image_read::read(blank, image);
@@ -82,9 +84,12 @@ pub extern "C" fn rights_answer_one(
 ) -> u8
     ensures { λ r. ⌜ r ≡ readCode (now (image .entry)) ⌝ }
     ensures { λ _. ⌜ now (image .exit) ≡ oneImage (now (image .entry)) (recordBytes player number operation asset kind time) ⌝ }
-    ensures { λ _. ⌜ now (code .exit) ≡ oneCode (now (image .entry)) (recordBytes player number operation asset kind time) (now (code .entry)) ⌝ }
-    ensures { λ _. ⌜ now (entry .exit) ≡ oneEntry (now (image .entry)) (recordBytes player number operation asset kind time) (now (entry .entry)) ⌝ }
-    ensures { λ _. ⌜ now (until .exit) ≡ oneUntil (now (image .entry)) (recordBytes player number operation asset kind time) (now (until .entry)) ⌝ }
+    ensures { λ _. ⌜ now (code .exit)
+        ≡ oneCode (now (image .entry)) (recordBytes player number operation asset kind time) (now (code .entry)) ⌝ }
+    ensures { λ _. ⌜ now (entry .exit)
+        ≡ oneEntry (now (image .entry)) (recordBytes player number operation asset kind time) (now (entry .entry)) ⌝ }
+    ensures { λ _. ⌜ now (until .exit)
+        ≡ oneUntil (now (image .entry)) (recordBytes player number operation asset kind time) (now (until .entry)) ⌝ }
 {
     let loaded = load(image);
     let refused = loaded.code;

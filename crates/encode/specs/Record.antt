@@ -1,13 +1,12 @@
 -- An event record from its numbers: document 01, "13-byte events (player 8, number 32, operation 8, asset 16, kind 8, time 32)".
-use Prim.Native.Nat.{ℕ, _<_}
+use Prim.Native.Nat.{ℕ}
 use mathlib.Core.Path.{_≡_, refl, sym, ap, _∙_}
 use mathlib.Core.Bool.{not, cond}
-use mathlib.Core.List.{List, [], _∷_, _++_, append-nil}
+use mathlib.Core.List.{List, [], _∷_, append-nil}
 use lib.ListN.{length, getD}
 use lib.Dec.{ltb, eqb}
 use Rattle.laws.specs.Fields.{laidOut, valuesAt, Fit}
 use Rattle.laws.specs.FieldLaws.{values-back, laid-bytes}
-use Rattle.book.specs.declared.Event.{Event}
 use Rattle.book.specs.declared.Decoded.{Decoded}
 use Rattle.book.specs.declared.Decoded.the-variants.{Invalid, Valid}
 use Rattle.model.specs.Book.{requestLegal}
@@ -36,7 +35,12 @@ abbrev decodedOf : List ℕ → Decoded
 decodedOf vs =
     cond (ltb 15 (getD vs 0 0)) (Invalid 2)
     (cond (not (requestLegal (getD vs 2 0) (getD vs 3 0) (getD vs 4 0))) (Invalid 1)
-    (Valid (record { player = getD vs 0 0; number = getD vs 1 0; request = requestOf (getD vs 2 0) (getD vs 3 0) (getD vs 4 0); time = getD vs 5 0 })))
+    (Valid (record {
+      player = getD vs 0 0;
+      number = getD vs 1 0;
+      request = requestOf (getD vs 2 0) (getD vs 3 0) (getD vs 4 0);
+      time = getD vs 5 0;
+    })))
 
 module _ (player number operation asset kind time : ℕ) where
   abbrev bytes : List ℕ

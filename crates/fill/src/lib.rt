@@ -5,7 +5,8 @@ ghost use Rattle.fill.specs.Fill.{fillCode, filled};
 
 // Wrong and ruled out: a buffer touched where it is too short, a byte touched behind the values.
 pub fn fill8(out: &mut [u8], values: &[u8]) -> u8
-    ensures { λ r. ⌜ (r ≡ fillCode (now (values .entry)) (length (now (out .entry)))) × (now (out .exit) ≡ filled (now (values .entry)) (now (out .entry))) ⌝ }
+    ensures { λ r. ⌜ (r ≡ fillCode (now (values .entry)) (length (now (out .entry))))
+        × (now (out .exit) ≡ filled (now (values .entry)) (now (out .entry))) ⌝ }
 {
     if out.len() < values.len() {
         return 30;
@@ -21,7 +22,8 @@ pub fn fill8(out: &mut [u8], values: &[u8]) -> u8
 // The same for numbers of 32 bits.
 // Wrong and ruled out: a buffer touched where it is too short, a number touched behind the values.
 pub fn fill32(out: &mut [u32], numbers: &[u32]) -> u8
-    ensures { λ r. ⌜ (r ≡ fillCode (now (numbers .entry)) (length (now (out .entry)))) × (now (out .exit) ≡ filled (now (numbers .entry)) (now (out .entry))) ⌝ }
+    ensures { λ r. ⌜ (r ≡ fillCode (now (numbers .entry)) (length (now (out .entry))))
+        × (now (out .exit) ≡ filled (now (numbers .entry)) (now (out .entry))) ⌝ }
 {
     if out.len() < numbers.len() {
         return 30;

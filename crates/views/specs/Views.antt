@@ -1,5 +1,5 @@
--- What a caller without the book's structs is told of it, as lists of numbers. The fields of an asset, an entry and a player stand in the image's
--- order (`assetValues`, `entryValues`, `playerValues` of `Image`); here is what stands in no image.
+-- What a caller without the book's structs gets to see of it, as lists of numbers. The fields of an asset, an entry and a
+-- player stand in the image's order (`assetValues`, `entryValues`, `playerValues` of `Image`); here is what stands in no image.
 use Prim.Native.Nat.{ℕ, _-_}
 use mathlib.Core.Bool.{Bool, cond}
 use mathlib.Core.List.{List, [], _∷_}
@@ -25,7 +25,8 @@ unlimited = 4294967295
 abbrev pub left : Bool → ℕ → ℕ → ℕ
 left flag most used = cond flag (most - used) unlimited
 
--- of an entry at t: whether it is "**Grantable** at t" by its own limits (1 or 0), and what is left of its count, its timed count and its seconds
+-- of an entry at t: whether it is "**Grantable** at t" by its own limits (1 or 0), and what is left of its count, its timed
+-- count and its seconds
 unfoldable pub leftValues : ℕ → Entry → List ℕ
 leftValues t e =
     one (grantable t (e .limits) (e .meters))

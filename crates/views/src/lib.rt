@@ -1,4 +1,5 @@
-// What is in a book as plain numbers, for a caller that has no such structs: the fields in the order of the image, and what is left of an entry.
+// What is in a book as plain numbers, for a caller that has no such structs: the fields in the order of the image, and
+// what is left of an entry.
 ghost use mathlib.Core.Path.{_≡_};
 ghost use Rattle.model.specs.Image.{assetValues, entryValues, playerValues};
 ghost use Rattle.views.specs.Views.{bookValues, left, leftValues, viewTime};

@@ -16,7 +16,9 @@ read-requires c κs = search needs
 
 returns : tie.Need-returns
 unfolding heldBook
-returns c = (c .read .ensures .0, c .read .ensures .1 ∙ ap (λ (x : Book). readBook x (now (c .before .before .before .args .image))) (c .before .blank-book .ensures))
+returns c =
+    let s = now (c .before .before .before .args .image) in
+    (c .read .ensures .0, c .read .ensures .1 ∙ ap (λ (x : Book). readBook x s) (c .before .blank-book .ensures))
 
 pub load-spec : {M : Type 1} → statement M
 load-spec = tie.close (tie.spec blank-book-requires read-requires returns)

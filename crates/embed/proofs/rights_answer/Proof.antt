@@ -65,8 +65,10 @@ returns-3 c =
     let write = c .before .before .write in
     let accepted : readCode s ≡ 0 = sym (read .ensures .0) ∙ at-test .before .if1 .left in
     let room : 19 * recordCount (a .records .now) ≤ length (a .out .now) = omega (arith, at-test .if2 .left) in
-    let book : read .result .book ≡ heldBook s = read .ensures .1 ∙ ap (λ (x : Book). readBook x s) (at-read .before .before .blank-book .ensures) in
-    left-answered s (a .records .now) (a .out .now) (a .written .now) (read .result .book) (block .result .book) _ _ _ accepted room book (block .ensures) (write .ensures .1)
+    let book : read .result .book ≡ heldBook s =
+    read .ensures .1 ∙ ap (λ (x : Book). readBook x s) (at-read .before .before .blank-book .ensures) in
+    left-answered s (a .records .now) (a .out .now) (a .written .now)
+    (read .result .book) (block .result .book) _ _ _ accepted room book (block .ensures) (write .ensures .1)
 
 pub rights-answer-spec : {M : Type 1} → statement M
 rights-answer-spec =

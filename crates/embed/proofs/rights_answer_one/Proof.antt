@@ -1,5 +1,4 @@
 -- `embed::rights_answer_one` meets its contract: both ways out leave what `One` says.
-use Prim.Native.Nat.{ℕ}
 use mathlib.Core.Path.{_≡_, sym, ap₂, _∙_}
 use denote.Ref.{now}
 use Rattle.model.specs.Image.{readCode}
@@ -39,13 +38,21 @@ same-length-2 c = search needs
 returns-2 : tie.Need-returns-2
 unfolding oneStep
 returns-2 c =
-    let a = c .before .before .before .before .before .before .before .before .before .before .before .before .before .before .args in
+    let at-write = c .before .before .before in
+    let at-step = at-write .before .before .before in
+    let at-bytes = at-step .before .before .before in
+    let at-test = at-bytes .before in
+    let at-load = at-test .before in
+    let at-start = at-load .before .before .before in
+    let a = at-start .args in
     let s = now (a .image) in
-    let load = c .before .before .before .before .before .before .before .before .before .before .before .load in
-    let bytes = c .before .before .before .before .before .before .before .before .before .record-bytes .ensures ∙ record-shut (a .player) (a .number) (a .operation) (a .asset) (a .kind) (a .time) in
-    let step = c .before .before .before .before .before .before .step-record in
-    let write = c .before .before .before .write in
-    let accepted : readCode s ≡ 0 = sym (load .ensures .0) ∙ c .before .before .before .before .before .before .before .before .before .before .if1 .left in
+    let load = at-load .load in
+    let bytes =
+    at-bytes .record-bytes .ensures
+    ∙ record-shut (a .player) (a .number) (a .operation) (a .asset) (a .kind) (a .time) in
+    let step = at-step .step-record in
+    let write = at-write .write in
+    let accepted : readCode s ≡ 0 = sym (load .ensures .0) ∙ at-test .if1 .left in
     let same : step .result ≡ oneStep s (recordBytes (a .player) (a .number) (a .operation) (a .asset) (a .kind) (a .time)) =
     step .ensures ∙ ap₂ stepRecord (load .ensures .1) bytes in
     one-answered s _ (now (a .code)) (now (a .entry)) (now (a .until)) (step .result) _ accepted same (write .ensures .1)

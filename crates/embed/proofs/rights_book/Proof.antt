@@ -1,13 +1,7 @@
 -- `embed::rights_book` meets its contract: each of its ways out leaves what `Seen` says.
-use Prim.Native.Nat.{ℕ}
-use mathlib.Core.Path.{_≡_, refl, sym, ap, ap₂, _∙_}
+use mathlib.Core.Path.{refl, sym, ap, _∙_}
 use mathlib.Core.Bool.{true}
 use denote.Ref.{now}
-use lib.ListN.{getD}
-use borrow.Author.Tests.{lt-ltb, le-ltb}
-use Rattle.book.specs.declared.Book.{Book}
-use Rattle.book.specs.declared.Entry.{Entry}
-use Rattle.book.specs.Blank.{noEntry}
 use Rattle.views.specs.Views.{bookValues}
 use Rattle.embed.specs.Seen.{bookSeen, seen-refused, seen-given}
 use borrow.Author.Needs.{needs}
@@ -38,12 +32,16 @@ same-length c = search needs
 returns-2 : tie.Need-returns-2
 unfolding bookSeen
 returns-2 c =
-    let a = c .before .before .before .before .before .before .before .before .before .before .before .args in
+    let at-values = c .before .before .before .before .before in
+    let at-test = at-values .before .before in
+    let at-load = at-test .before in
+    let at-start = at-load .before .before .before in
+    let a = at-start .args in
     let s = now (a .image) in
-    let load = c .before .before .before .before .before .before .before .before .load .ensures in
-    seen-given s true (bookSeen s) (now (a .out)) _ _ _ (sym (load .0) ∙ c .before .before .before .before .before .before .before .if1 .left)
+    let load = at-load .load .ensures in
+    seen-given s true (bookSeen s) (now (a .out)) _ _ _ (sym (load .0) ∙ at-test .if1 .left)
     (refl)
-    (c .before .before .before .before .before .book-values .ensures ∙ ap bookValues (load .1))
+    (at-values .book-values .ensures ∙ ap bookValues (load .1))
     (c .before .before .fill32 .ensures)
 
 pub rights-book-spec : {M : Type 1} → statement M

@@ -1,12 +1,9 @@
 -- `embed::rights_entry` meets its contract: each of its ways out leaves what `Seen` says.
-use Prim.Native.Nat.{ℕ}
-use mathlib.Core.Path.{_≡_, refl, sym, ap, ap₂, _∙_}
-use mathlib.Core.Bool.{true}
+use mathlib.Core.Path.{sym, ap, _∙_}
 use denote.Ref.{now}
 use lib.ListN.{getD}
 use borrow.Author.Tests.{lt-ltb, le-ltb}
 use Rattle.book.specs.declared.Book.{Book}
-use Rattle.book.specs.declared.Entry.{Entry}
 use Rattle.book.specs.Blank.{noEntry}
 use Rattle.model.specs.Image.{entryValues}
 use Rattle.embed.specs.Seen.{hasEntry, entrySeen, entry-there, seen-refused, seen-absent, seen-given}
@@ -21,7 +18,8 @@ returns : tie.Need-returns
 returns c =
     let a = c .before .before .before .before .args in
     let s = now (a .image) in
-    seen-refused s (hasEntry s (a .position)) (entrySeen s (a .position)) (now (a .out)) _ (c .before .load .ensures .0) (c .if1 .taken)
+    seen-refused s (hasEntry s (a .position)) (entrySeen s (a .position)) (now (a .out))
+    _ (c .before .load .ensures .0) (c .if1 .taken)
 
 at-most-64-requires : tie.Need-at-most-64-requires
 at-most-64-requires c κs = search needs
@@ -31,7 +29,8 @@ returns-2 c =
     let a = c .before .before .before .before .before .before .before .args in
     let s = now (a .image) in
     let load = c .before .before .before .before .load .ensures in
-    seen-absent s (hasEntry s (a .position)) (entrySeen s (a .position)) (now (a .out)) (sym (load .0) ∙ c .before .before .before .if1 .left)
+    seen-absent s (hasEntry s (a .position)) (entrySeen s (a .position)) (now (a .out))
+    (sym (load .0) ∙ c .before .before .before .if1 .left)
     (entry-there s _ _ (a .position) (load .1) (c .before .at-most-64 .ensures) ∙ le-ltb _ _ (c .if2 .taken))
 
 entry-at-requires : tie.Need-entry-at-requires
@@ -52,12 +51,21 @@ same-length c = search needs
 returns-3 : tie.Need-returns-3
 unfolding entrySeen
 returns-3 c =
-    let a = c .before .before .before .before .before .before .before .before .before .before .before .before .before .before .before .args in
+    let at-values = c .before .before .before .before .before in
+    let at-entry = at-values .before in
+    let at-end = at-entry .before .before in
+    let at-count = at-end .before in
+    let at-test = at-count .before .before in
+    let at-load = at-test .before in
+    let at-start = at-load .before .before .before in
+    let a = at-start .args in
     let s = now (a .image) in
-    let load = c .before .before .before .before .before .before .before .before .before .before .before .before .load .ensures in
-    seen-given s (hasEntry s (a .position)) (entrySeen s (a .position)) (now (a .out)) _ _ _ (sym (load .0) ∙ c .before .before .before .before .before .before .before .before .before .before .before .if1 .left)
-    (entry-there s _ _ (a .position) (load .1) (c .before .before .before .before .before .before .before .before .before .at-most-64 .ensures) ∙ lt-ltb _ _ (c .before .before .before .before .before .before .before .before .if2 .left))
-    (c .before .before .before .before .before .entry-values .ensures ∙ ap entryValues (c .before .before .before .before .before .before .entry-at .ensures ∙ ap (λ (b : Book). getD (b .entries) (a .position) noEntry) (load .1)))
+    let load = at-load .load .ensures in
+    seen-given s (hasEntry s (a .position)) (entrySeen s (a .position)) (now (a .out))
+    _ _ _ (sym (load .0) ∙ at-test .if1 .left)
+    (entry-there s _ _ (a .position) (load .1) (at-count .at-most-64 .ensures) ∙ lt-ltb _ _ (at-end .if2 .left))
+    (at-values .entry-values .ensures
+    ∙ ap entryValues (at-entry .entry-at .ensures ∙ ap (λ (b : Book). getD (b .entries) (a .position) noEntry) (load .1)))
     (c .before .before .fill32 .ensures)
 
 pub rights-entry-spec : {M : Type 1} → statement M

@@ -1,6 +1,6 @@
 -- `embed::rights_left` meets its contract: each of its ways out leaves what `Seen` says.
 use Prim.Native.Nat.{ℕ}
-use mathlib.Core.Path.{_≡_, refl, sym, ap, ap₂, _∙_}
+use mathlib.Core.Path.{_≡_, sym, ap, _∙_}
 use mathlib.Core.List.{List}
 use denote.Ref.{now}
 use lib.ListN.{getD}
@@ -29,7 +29,7 @@ unfolding leftSeen entryFound settledBook
 found s time i {b} {n} {t} {e} same p q r =
     ap (leftValues t) (r ∙ ap (λ (x : Book). getD (x .entries) i noEntry) q)
     ∙ ap (λ (u : ℕ). leftValues u (getD (settled u (b .players) (b .entries)) i noEntry)) p
-    ∙ ap (λ (x : Book). leftValues (viewTime (x .time) time) (getD (settled (viewTime (x .time) time) (x .players) (x .entries)) i noEntry)) same
+    ∙ ap (λ (x : Book). let u = viewTime (x .time) time in leftValues u (getD (settled u (x .players) (x .entries)) i noEntry)) same
 
 load-requires : tie.Need-load-requires
 load-requires c κs = search needs
@@ -38,17 +38,22 @@ returns : tie.Need-returns
 returns c =
     let a = c .before .before .before .before .args in
     let s = now (a .image) in
-    seen-refused s (hasEntry s (a .position)) (leftSeen s (a .time) (a .position)) (now (a .out)) _ (c .before .load .ensures .0) (c .if1 .taken)
+    seen-refused s (hasEntry s (a .position)) (leftSeen s (a .time) (a .position)) (now (a .out))
+    _ (c .before .load .ensures .0) (c .if1 .taken)
 
 at-most-64-requires : tie.Need-at-most-64-requires
 at-most-64-requires c κs = search needs
 
 returns-2 : tie.Need-returns-2
 returns-2 c =
-    let a = c .before .before .before .before .before .before .before .args in
+    let at-test = c .before .before .before in
+    let at-load = at-test .before in
+    let at-start = at-load .before .before .before in
+    let a = at-start .args in
     let s = now (a .image) in
-    let load = c .before .before .before .before .load .ensures in
-    seen-absent s (hasEntry s (a .position)) (leftSeen s (a .time) (a .position)) (now (a .out)) (sym (load .0) ∙ c .before .before .before .if1 .left)
+    let load = at-load .load .ensures in
+    seen-absent s (hasEntry s (a .position)) (leftSeen s (a .time) (a .position)) (now (a .out))
+    (sym (load .0) ∙ at-test .if1 .left)
     (entry-there s _ _ (a .position) (load .1) (c .before .at-most-64 .ensures) ∙ le-ltb _ _ (c .if2 .taken))
 
 view-time-requires : tie.Need-view-time-requires
@@ -74,13 +79,24 @@ same-length c = search needs
 
 returns-3 : tie.Need-returns-3
 returns-3 c =
-    let a = c .before .before .before .before .before .before .before .before .before .before .before .before .before .before .before .before .before .args in
+    let at-values = c .before .before .before .before .before in
+    let at-entry = at-values .before in
+    let at-settle = at-entry .before .before in
+    let at-time = at-settle .before in
+    let at-end = at-time .before in
+    let at-count = at-end .before in
+    let at-test = at-count .before .before in
+    let at-load = at-test .before in
+    let at-start = at-load .before .before .before in
+    let a = at-start .args in
     let s = now (a .image) in
-    let load = c .before .before .before .before .before .before .before .before .before .before .before .before .before .before .load .ensures in
-    seen-given s (hasEntry s (a .position)) (leftSeen s (a .time) (a .position)) (now (a .out)) _ _ _ (sym (load .0) ∙ c .before .before .before .before .before .before .before .before .before .before .before .before .before .if1 .left)
-    (entry-there s _ _ (a .position) (load .1) (c .before .before .before .before .before .before .before .before .before .before .before .at-most-64 .ensures) ∙ lt-ltb _ _ (c .before .before .before .before .before .before .before .before .before .before .if2 .left))
-    (c .before .before .before .before .before .left-values .ensures
-    ∙ found s (a .time) (a .position) (load .1) (c .before .before .before .before .before .before .before .before .before .view-time .ensures) (c .before .before .before .before .before .before .before .before .settle .ensures) (c .before .before .before .before .before .before .entry-at .ensures))
+    let load = at-load .load .ensures in
+    seen-given s (hasEntry s (a .position)) (leftSeen s (a .time) (a .position)) (now (a .out))
+    _ _ _ (sym (load .0) ∙ at-test .if1 .left)
+    (entry-there s _ _ (a .position) (load .1) (at-count .at-most-64 .ensures) ∙ lt-ltb _ _ (at-end .if2 .left))
+    (at-values .left-values .ensures
+    ∙ found s (a .time) (a .position) (load .1)
+    (at-time .view-time .ensures) (at-settle .settle .ensures) (at-entry .entry-at .ensures))
     (c .before .before .fill32 .ensures)
 
 pub rights-left-spec : {M : Type 1} → statement M

@@ -1,13 +1,8 @@
 -- `embed::rights_player` meets its contract: each of its ways out leaves what `Seen` says.
-use Prim.Native.Nat.{ℕ}
-use mathlib.Core.Path.{_≡_, refl, sym, ap, ap₂, _∙_}
-use mathlib.Core.Bool.{true}
+use mathlib.Core.Path.{sym, ap, _∙_}
 use denote.Ref.{now}
-use lib.ListN.{getD}
 use borrow.Author.Tests.{lt-ltb, le-ltb}
 use Rattle.book.specs.declared.Book.{Book}
-use Rattle.book.specs.declared.Entry.{Entry}
-use Rattle.book.specs.Blank.{noEntry}
 use Rattle.model.specs.Book.{playerAt}
 use Rattle.model.specs.Image.{playerValues}
 use Rattle.embed.specs.Seen.{hasPlayer, playerSeen, seen-refused, seen-absent, seen-given}
@@ -22,7 +17,8 @@ returns : tie.Need-returns
 returns c =
     let a = c .before .before .before .before .args in
     let s = now (a .image) in
-    seen-refused s (hasPlayer (a .player)) (playerSeen s (a .player)) (now (a .out)) _ (c .before .load .ensures .0) (c .if1 .taken)
+    seen-refused s (hasPlayer (a .player)) (playerSeen s (a .player)) (now (a .out))
+    _ (c .before .load .ensures .0) (c .if1 .taken)
 
 returns-2 : tie.Need-returns-2
 unfolding hasPlayer
@@ -30,7 +26,8 @@ returns-2 c =
     let a = c .before .before .before .before .before .before .args in
     let s = now (a .image) in
     let load = c .before .before .before .load .ensures in
-    seen-absent s (hasPlayer (a .player)) (playerSeen s (a .player)) (now (a .out)) (sym (load .0) ∙ c .before .before .if1 .left)
+    seen-absent s (hasPlayer (a .player)) (playerSeen s (a .player)) (now (a .out))
+    (sym (load .0) ∙ c .before .before .if1 .left)
     (le-ltb _ _ (c .if2 .taken))
 
 mul-found : tie.Need-mul-found
@@ -54,12 +51,18 @@ same-length c = search needs
 returns-3 : tie.Need-returns-3
 unfolding hasPlayer playerSeen
 returns-3 c =
-    let a = c .before .before .before .before .before .before .before .before .before .before .before .before .before .args in
+    let at-values = c .before .before .before .before .before in
+    let at-end = at-values .before .before in
+    let at-test = at-end .before .before in
+    let at-load = at-test .before in
+    let at-start = at-load .before .before .before in
+    let a = at-start .args in
     let s = now (a .image) in
-    let load = c .before .before .before .before .before .before .before .before .before .before .load .ensures in
-    seen-given s (hasPlayer (a .player)) (playerSeen s (a .player)) (now (a .out)) _ _ _ (sym (load .0) ∙ c .before .before .before .before .before .before .before .before .before .if1 .left)
-    (lt-ltb _ _ (c .before .before .before .before .before .before .before .if2 .left))
-    (c .before .before .before .before .before .player-values .ensures ∙ ap (λ (b : Book). playerValues (playerAt (b .players) (a .player))) (load .1))
+    let load = at-load .load .ensures in
+    seen-given s (hasPlayer (a .player)) (playerSeen s (a .player)) (now (a .out))
+    _ _ _ (sym (load .0) ∙ at-test .if1 .left)
+    (lt-ltb _ _ (at-end .if2 .left))
+    (at-values .player-values .ensures ∙ ap (λ (b : Book). playerValues (playerAt (b .players) (a .player))) (load .1))
     (c .before .before .fill32 .ensures)
 
 pub rights-player-spec : {M : Type 1} → statement M

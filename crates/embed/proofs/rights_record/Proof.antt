@@ -25,7 +25,9 @@ same-length c = search needs
 returns : tie.Need-returns
 returns c =
     let a = c .before .before .before .before .before .before .before .args in
-    let e = c .before .before .before .before .before .record-bytes .ensures ∙ record-shut (a .player) (a .number) (a .operation) (a .asset) (a .kind) (a .time) in
+    let e =
+    c .before .before .before .before .before .record-bytes .ensures
+    ∙ record-shut (a .player) (a .number) (a .operation) (a .asset) (a .kind) (a .time) in
     let f = c .before .before .fill8 .ensures in
     (f .0 ∙ ap (λ (v : List ℕ). fillCode v (length (now (a .out)))) e, f .1 ∙ ap (λ (v : List ℕ). filled v (now (a .out))) e)
 
