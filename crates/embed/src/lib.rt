@@ -11,14 +11,21 @@ ghost use Rattle.embed.specs.Seen.{bookCode, bookOut, assetCode, assetOu
 ghost use Rattle.embed.specs.Seen.{playerCode, playerOut, leftCode, leftOut};
 use image_read::Loaded;
 
+// The book in an image and the code of the image; blank where it is refused.
+fn load(image: &[u8]) -> Loaded
+    ensures { λ r. ⌜ (r .code ≡ readCode (now (image .entry))) × (r .book ≡ heldBook (now (image .entry))) ⌝ }
+{
+    let blank = book::blank_book();
+    image_read::read(blank, image)
+}
+
 // 0 where the image holds a legal book, else the number of the refusal, 20 to 27.
 // Wrong and ruled out: 0 for an image that breaks a rule, the number of a later rule.
 #[no_mangle]
 pub extern "C" fn rights_check(image: &[u8]) -> u8
     ensures { λ r. ⌜ r ≡ readCode (now (image .entry)) ⌝ }
 {
-    let blank = book::blank_book();
-    let loaded = image_read::read(blank, image);
+    let loaded = load(image);
     loaded.code
 }
 
@@ -40,8 +47,7 @@ pub extern "C" fn rights_answer(
     ensures { λ _. ⌜ now (written .exit)
         ≡ writtenAfter (now (image .entry)) (now (records .entry)) (length (now (out .entry))) (now (written .entry)) ⌝ }
 {
-    let blank = book::blank_book();
-    let loaded = image_read::read(blank, image);
+    let loaded = load(image);
     let code = loaded.code;
     if code != 0 {
         return code;
@@ -56,14 +62,6 @@ pub extern "C" fn rights_answer(
     image_write::write(next, image);
     *written = block.written as u64;
     0
-}
-
-// The book in an image and the code of the image; blank where it is refused.
-fn load(image: &[u8]) -> Loaded
-    ensures { λ r. ⌜ (r .code ≡ readCode (now (image .entry))) × (r .book ≡ heldBook (now (image .entry))) ⌝ }
-{
-    let blank = book::blank_book();
-    image_read::read(blank, image)
 }
 
 // One event by its numbers: the answer's code, entry and until as numbers, and the next image, which is that of the record's step.
