@@ -15,6 +15,15 @@ TABLES = [
     ("An event record", RECORD_FIELDS), ("Header", HEADER_FIELDS), ("Asset", rights.ASSET_FIELDS),
     ("Entry", rights.ENTRY_FIELDS), ("Player", rights.PLAYER_FIELDS)]
 
+# the codes of document 01's table, and 31, each with the header's name; the first of each row has the number
+CODES = {
+    0: "OK",
+    1: "BAD_REQUEST BAD_PLAYER OUT_OF_LINE NUMBER_USED BAD_TIME CUT_SHORT",
+    10: "NO_ASSET ALREADY_OPEN NONE_SUITABLE NONE_GRANTABLE NOTHING_OPEN NO_MORE_TIME",
+    20: "IMAGE_LENGTH IMAGE_MARK IMAGE_VERSION IMAGE_HEADER IMAGE_ASSETS IMAGE_ENTRIES IMAGE_PLAYERS IMAGE_METERS",
+    30: "SHORT_OUT NOT_THERE",
+}
+
 # names of the second program's fields that the header has under another name
 RENAMED = {"answer_until": "until", "begin": "open_begin", "until": "open_until"}
 
@@ -84,8 +93,9 @@ def header_words(numbers):
         must(numbers[f"RIGHTS_HAS_{name}"] == getattr(rights, name), name)
     longest = rights.write(rights.Book(0, [rights.Asset()] * rights.MOST, [rights.Entry()] * rights.MOST))
     must(numbers["RIGHTS_LONGEST_IMAGE"] == len(longest), "the longest image")
-    codes = [*range(0, 7), *range(10, 16), *range(20, 28), 30, 31]
-    must(set(codes) <= set(numbers.values()), "a code without a name")
+    for first, names in CODES.items():
+        for code, name in enumerate(names.split(), first):
+            must(numbers.get(f"RIGHTS_{name}") == code, f"code {code} in the header")
 
 
 def main():
