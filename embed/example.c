@@ -2,36 +2,124 @@
  *
  *     example rights.rbk events.bin next.rbk
  *
- * prints the answers and writes the next image to next.rbk. See docs/EMBEDDING.md for how it is linked. */
+ * writes the next image to next.rbk, which may be rights.rbk itself, and then prints the answers. The order is that of
+ * docs/EMBEDDING.md: the image goes to a file beside next.rbk, is synced and renamed, and only then do answers leave.
+ * Where anything fails before that, it says what, prints no answer, leaves next.rbk as it was and ends with status 1.
+ * Where the printing itself fails, the status is 1 too, and the new book stays: a player that sends its last event again
+ * gets the answer that the book has stored. Status 2: the command line is wrong. docs/EMBEDDING.md has how it is linked. */
+#define _POSIX_C_SOURCE 200809L
+#include <errno.h>
+#include <fcntl.h>
+#include <libgen.h>
 #include <stdio.h>
 #include <stdlib.h>
+#include <string.h>
+#include <sys/stat.h>
+#include <unistd.h>
 
 #include "rights.h"
 
-/* The bytes of a file, with one byte more than it has, so that the pointer is never NULL. */
+static void fail(const char *name, const char *why)
+{
+    fprintf(stderr, "example: %s: %s\n", name, why);
+    exit(1);
+}
+
+static void *allocate(size_t bytes)
+{
+    /* one byte more, so that the pointer is never NULL for want of a length */
+    void *memory = bytes < SIZE_MAX ? malloc(bytes + 1) : NULL;
+    if (!memory)
+        fail("memory", "there is not enough");
+    return memory;
+}
+
+/* All bytes of a file, or of a pipe. */
 static uint8_t *read_file(const char *name, size_t *length)
 {
-    FILE *f = fopen(name, "rb");
-    uint8_t *bytes = NULL;
-    long end = -1;
-    if (f && fseek(f, 0, SEEK_END) == 0 && (end = ftell(f)) >= 0 && fseek(f, 0, SEEK_SET) == 0)
-        bytes = malloc((size_t)end + 1);
-    if (!bytes || fread(bytes, 1, (size_t)end, f) != (size_t)end) {
-        perror(name);
-        exit(1);
+    int file = open(name, O_RDONLY);
+    struct stat about;
+    if (file < 0 || fstat(file, &about) != 0)
+        fail(name, strerror(errno));
+    if (S_ISDIR(about.st_mode))
+        fail(name, "is a folder");
+    size_t room = 65536, used = 0;
+    uint8_t *bytes = allocate(room);
+    for (;;) {
+        ssize_t got = read(file, bytes + used, room - used);
+        if (got < 0 && errno == EINTR)
+            continue;
+        if (got < 0)
+            fail(name, strerror(errno));
+        if (got == 0)
+            break;
+        used += (size_t)got;
+        if (used == room) {
+            uint8_t *more = room <= SIZE_MAX / 2 ? realloc(bytes, room * 2) : NULL;
+            if (!more)
+                fail("memory", "there is not enough");
+            bytes = more;
+            room *= 2;
+        }
     }
-    fclose(f);
-    *length = (size_t)end;
+    close(file);
+    *length = used;
     return bytes;
 }
 
-static void write_file(const char *name, const uint8_t *bytes, size_t length)
+static int write_all(int file, const uint8_t *bytes, size_t length)
 {
-    FILE *f = fopen(name, "wb");
-    if (!f || fwrite(bytes, 1, length, f) != length || fclose(f) != 0) {
-        perror(name);
-        exit(1);
+    while (length > 0) {
+        ssize_t put = write(file, bytes, length);
+        if (put < 0 && errno == EINTR)
+            continue;
+        if (put < 0)
+            return -1;
+        bytes += put;
+        length -= (size_t)put;
     }
+    return 0;
+}
+
+/* The folder that a file's name is in, synced, so that the new name is there after a power cut. */
+static int sync_folder(const char *name)
+{
+    char *copy = allocate(strlen(name));
+    strcpy(copy, name);
+    int folder = open(dirname(copy), O_RDONLY);
+    int done = folder < 0 ? -1 : fsync(folder);
+    if (folder >= 0)
+        close(folder);
+    free(copy);
+    return done;
+}
+
+/* Beside, sync, rename. What was there under the name stays until the new file is whole. */
+static void save(const char *name, const uint8_t *bytes, size_t length)
+{
+    char *beside = allocate(strlen(name) + 4);
+    strcpy(beside, name);
+    strcat(beside, ".new");
+    int file = open(beside, O_WRONLY | O_CREAT | O_TRUNC, 0666);
+    if (file < 0)
+        fail(beside, strerror(errno));
+    int broken = write_all(file, bytes, length) != 0 || fsync(file) != 0;
+    int why = errno;
+    if (close(file) != 0 && !broken) {
+        broken = 1;
+        why = errno;
+    }
+    if (!broken && rename(beside, name) != 0) {
+        broken = 1;
+        why = errno;
+    }
+    if (broken) {
+        unlink(beside);
+        fail(name, strerror(why));
+    }
+    if (sync_folder(name) != 0)
+        fail(name, strerror(errno));
+    free(beside);
 }
 
 int main(int count, char **words)
@@ -44,20 +132,17 @@ int main(int count, char **words)
     uint8_t *image = read_file(words[1], &image_length);
     uint8_t *records = read_file(words[2], &records_length);
     size_t room = RIGHTS_ROOM(records_length);
-    uint8_t *out = malloc(room + 1);
+    uint8_t *out = allocate(room);
     uint64_t written = 0;
-    if (!out) {
-        perror("out");
-        return 1;
-    }
 
     uint8_t code = rights_answer(image, image_length, records, records_length, out, room, &written);
     if (code != RIGHTS_OK) {
-        fprintf(stderr, "%s is refused: %d\n", words[1], code);
+        fprintf(stderr, "example: %s: the image is refused: %d\n", words[1], code);
         return 1;
     }
-    fwrite(out, 1, (size_t)written, stdout);
-    write_file(words[3], image, image_length);
+    save(words[3], image, image_length);
+    if (write_all(STDOUT_FILENO, out, (size_t)written) != 0)
+        fail("standard output", strerror(errno));
     free(out);
     free(records);
     free(image);

@@ -1,15 +1,17 @@
-/* The rights server's core for C: two functions of the static library libembed.a.
+/* The rights server's core for C: the functions of the static library libembed.a.
  *
  * The library holds nothing between calls. The book is its image, the bytes of rights.rbk: the caller keeps them,
  * lends them for the length of a call, and saves them when it likes. What the functions return and leave in the
  * buffers is proved for every input; this header is not checked against that proof, so it changes only with
- * crates/embed/src/lib.rt.
+ * crates/embed/src/lib.rt. docs/EMBEDDING.md shows how to use it, docs/FORMAT.md has the bytes of records and images.
  *
  * What a caller owes in every call:
- *  - each pointer points to as many bytes as the length beside it says, and is not NULL even where the length is 0;
- *  - the buffers of one call do not overlap, and nothing else reads or writes them until it returns.
- * Calls on different buffers may run at the same time. The functions allocate nothing and call nothing but memcpy and memset.
- */
+ *  - each pointer points to as many elements as the length beside it says (one where there is no length), and is not
+ *    NULL even where the length is 0;
+ *  - the buffers of one call do not overlap, and nothing else reads or writes them until it returns;
+ *  - the stack has RIGHTS_STACK bytes left.
+ * Calls on different buffers may run at the same time. The functions allocate nothing and call nothing but memcpy,
+ * memmove and memset. */
 #ifndef RIGHTS_H
 #define RIGHTS_H
 
@@ -20,7 +22,8 @@
 extern "C" {
 #endif
 
-/* What a call returns. Document 01 has the rules behind 20 to 27, in the order in which they are judged. */
+/* What a call returns. Document 01 has the rules behind 20 to 27, in the order in which they are judged.
+ * Where a call does not return 0, everything lent to it is as it was. */
 enum {
     RIGHTS_OK = 0,
     RIGHTS_IMAGE_LENGTH = 20,  /* the image is too short, or its length is not what its header says */
@@ -31,13 +34,60 @@ enum {
     RIGHTS_IMAGE_ENTRIES = 25, /* a rule on entries is broken */
     RIGHTS_IMAGE_PLAYERS = 26, /* a rule on players is broken */
     RIGHTS_IMAGE_METERS = 27,  /* a rule on what has been used is broken */
-    RIGHTS_SHORT_OUT = 30      /* out has no room for RIGHTS_LINE bytes a record */
+    RIGHTS_SHORT_OUT = 30,     /* the buffer for the result is too short */
+    RIGHTS_NOT_THERE = 31      /* the book has no asset, entry or player at that position */
+};
+
+/* The code in an answer. docs/ANSWERS.md says what to do about each. */
+enum {
+    RIGHTS_GRANTED = 0,
+    /* turned away: the book is as it was, and the number is still free */
+    RIGHTS_BAD_REQUEST = 1,    /* no such operation or kind, or a continue or stop that names an asset or a kind */
+    RIGHTS_BAD_PLAYER = 2,     /* the player is above 15 */
+    RIGHTS_OUT_OF_LINE = 3,    /* the number is not the player's next */
+    RIGHTS_NUMBER_USED = 4,    /* the player's last number, with another request */
+    RIGHTS_BAD_TIME = 5,       /* before the book's time, or after 4,000,000,000 */
+    RIGHTS_CUT_SHORT = 6,      /* fewer than 13 bytes */
+    /* taken and refused: the book has changed, and the number is used up */
+    RIGHTS_NO_ASSET = 10,      /* the asset is not in the book, or has key 0 */
+    RIGHTS_ALREADY_OPEN = 11,  /* a begin while the player has a use open */
+    RIGHTS_NONE_SUITABLE = 12, /* no entry of that kind for the asset */
+    RIGHTS_NONE_GRANTABLE = 13, /* there are some, and none can be used now */
+    RIGHTS_NOTHING_OPEN = 14,  /* a continue or stop while nothing is open */
+    RIGHTS_NO_MORE_TIME = 15   /* a continue that would add no second */
+};
+
+/* An event. */
+enum { RIGHTS_BEGIN = 1, RIGHTS_CONTINUE = 2, RIGHTS_STOP = 3 };
+enum { RIGHTS_PLAY = 1, RIGHTS_DISPLAY = 2, RIGHTS_EXECUTE = 3, RIGHTS_PRINT = 4, RIGHTS_EXPORT = 5 };
+
+/* Which limits of an entry hold: its flags are a sum of these. */
+enum {
+    RIGHTS_HAS_COUNT = 1,
+    RIGHTS_HAS_TIMED = 2, /* and its timer */
+    RIGHTS_HAS_START = 4,
+    RIGHTS_HAS_END = 8,
+    RIGHTS_HAS_INTERVAL = 16,
+    RIGHTS_HAS_ACCUMULATED = 32
 };
 
 enum {
-    RIGHTS_RECORD = 13,       /* bytes of an event record */
-    RIGHTS_LINE = 19,         /* no answer's line is longer, its line feed included */
-    RIGHTS_LONGEST_IMAGE = 3979
+    RIGHTS_RECORD = 13,          /* bytes of an event record */
+    RIGHTS_LINE = 19,            /* no answer's line is longer, its line feed included */
+    RIGHTS_NO_ENTRY = 255,       /* the entry in an answer that is no grant */
+    RIGHTS_LONGEST_IMAGE = 3979, /* bytes of an image with 64 assets and 64 entries */
+    RIGHTS_PLAYERS = 16,
+    RIGHTS_STACK = 262144        /* bytes of stack that are enough for any call (docs/EMBEDDING.md) */
+};
+
+/* An event record, big-endian, at these offsets. */
+enum {
+    RIGHTS_RECORD_PLAYER = 0,    /* 1 byte */
+    RIGHTS_RECORD_NUMBER = 1,    /* 4 bytes */
+    RIGHTS_RECORD_OPERATION = 5, /* 1 byte */
+    RIGHTS_RECORD_ASSET = 6,     /* 2 bytes */
+    RIGHTS_RECORD_KIND = 8,      /* 1 byte */
+    RIGHTS_RECORD_TIME = 9       /* 4 bytes */
 };
 
 /* The bytes that out needs for so many bytes of records. A last record that is cut short counts. */
@@ -54,12 +104,107 @@ uint8_t rights_check(const uint8_t *image, size_t image_length);
  *          text stay as they were.
  * written  out: the length of the text.
  *
- * Returns 0, or 20 to 27 where the image is refused, or 30 where out is shorter than RIGHTS_ROOM(records_length).
- * Where it does not return 0, every byte of image, out and written is as it was. */
+ * Returns 0, or 20 to 27 where the image is refused, or 30 where out is shorter than RIGHTS_ROOM(records_length). */
 uint8_t rights_answer(uint8_t *image, size_t image_length,
                       const uint8_t *records, size_t records_length,
                       uint8_t *out, size_t out_length,
                       uint64_t *written);
+
+/* Answers one event, given and answered in numbers. It is the step that rights_answer does for the record of these
+ * numbers: the same next image, and the numbers that its line would have.
+ *
+ * image               in: the book. Out: the book after the event. Its length stays the same.
+ * player .. time      the event: operation RIGHTS_BEGIN, asset and kind as asked; or RIGHTS_CONTINUE or RIGHTS_STOP
+ *                     with asset 0 and kind 0. Time is in seconds since 1970-01-01 UTC.
+ * code, entry, until  out: the answer. A code other than 0 comes with entry 255 and until 0.
+ *
+ * Returns 0 where the event was answered, whatever the answer, or 20 to 27 where the image is refused. */
+uint8_t rights_answer_one(uint8_t *image, size_t image_length,
+                          uint8_t player, uint32_t number, uint8_t operation,
+                          uint16_t asset, uint8_t kind, uint32_t time,
+                          uint8_t *code, uint8_t *entry, uint32_t *until);
+
+/* Puts the 13 bytes of the record that holds these numbers at the start of out, whether or not they make a legal event.
+ * Returns 0, or 30 where out is shorter than RIGHTS_RECORD. */
+uint8_t rights_record(uint8_t player, uint32_t number, uint8_t operation,
+                      uint16_t asset, uint8_t kind, uint32_t time,
+                      uint8_t *out, size_t out_length);
+
+/* ---- Reading an image
+ *
+ * Each call puts its numbers at the start of out, at the positions below, and leaves what is behind them. It returns 0,
+ * or 20 to 27 where the image is refused, or 31 where the book has nothing at that position, or 30 where out has fewer
+ * elements than the call gives numbers. The image is only read. Later versions may add numbers at the end. */
+
+/* The book: how many assets and entries, and the time of the latest event taken. */
+enum { RIGHTS_BOOK_ASSETS, RIGHTS_BOOK_ENTRIES, RIGHTS_BOOK_TIME, RIGHTS_BOOK_NUMBERS };
+
+uint8_t rights_book(const uint8_t *image, size_t image_length, uint32_t *out, size_t out_length);
+
+/* The asset at a position, from 0. */
+enum { RIGHTS_ASSET_NUMBER, RIGHTS_ASSET_INHERIT, RIGHTS_ASSET_KEY, RIGHTS_ASSET_NUMBERS };
+
+uint8_t rights_asset(const uint8_t *image, size_t image_length, uint32_t position, uint32_t *out, size_t out_length);
+
+/* The entry at a position, from 0: its limits, and what the image says has been used. A limit whose flag is missing is
+ * 0, and so is its meter. Seconds of an open use are counted as used up to its until. */
+enum {
+    RIGHTS_ENTRY_OBJECT,      /* number of the rights object */
+    RIGHTS_ENTRY_ASSET,
+    RIGHTS_ENTRY_KIND,
+    RIGHTS_ENTRY_FLAGS,
+    RIGHTS_ENTRY_COUNT,
+    RIGHTS_ENTRY_TIMED,
+    RIGHTS_ENTRY_TIMER,
+    RIGHTS_ENTRY_START,
+    RIGHTS_ENTRY_END,
+    RIGHTS_ENTRY_INTERVAL,
+    RIGHTS_ENTRY_ACCUMULATED,
+    RIGHTS_ENTRY_USED_COUNT,
+    RIGHTS_ENTRY_USED_TIMED,
+    RIGHTS_ENTRY_FIRST,       /* when the interval started */
+    RIGHTS_ENTRY_USED_SECONDS,
+    RIGHTS_ENTRY_STARTED,     /* 1: the interval has started */
+    RIGHTS_ENTRY_NUMBERS
+};
+
+uint8_t rights_entry(const uint8_t *image, size_t image_length, uint32_t position, uint32_t *out, size_t out_length);
+
+/* What is left of the entry at a position, as an event at that time would find it: uses that are over by then have
+ * ended, and a timed count that goes back by that is back. A time before the book's counts as the book's, so 0 asks for
+ * what is left in the image as it stands. Grantable is 1 where the entry's own limits allow a grant at that time; whether
+ * an asset can use the entry is not judged. */
+enum {
+    RIGHTS_LEFT_GRANTABLE,
+    RIGHTS_LEFT_COUNT,
+    RIGHTS_LEFT_TIMED,
+    RIGHTS_LEFT_SECONDS,
+    RIGHTS_LEFT_NUMBERS
+};
+
+/* In place of a number left: there is no such limit. */
+#define RIGHTS_NO_LIMIT UINT32_C(4294967295)
+
+uint8_t rights_left(const uint8_t *image, size_t image_length, uint32_t position, uint32_t time,
+                    uint32_t *out, size_t out_length);
+
+/* A player, 0 to 15: the last event taken from it with its answer (number 0: none yet), and the open use. */
+enum {
+    RIGHTS_PLAYER_NUMBER,
+    RIGHTS_PLAYER_OPERATION,
+    RIGHTS_PLAYER_ASSET,
+    RIGHTS_PLAYER_KIND,
+    RIGHTS_PLAYER_CODE,
+    RIGHTS_PLAYER_ENTRY,
+    RIGHTS_PLAYER_UNTIL,
+    RIGHTS_PLAYER_OPEN,       /* 1: a use is open, in the image as it stands */
+    RIGHTS_PLAYER_OPEN_ENTRY,
+    RIGHTS_PLAYER_OPEN_BEGIN,
+    RIGHTS_PLAYER_OPEN_UNTIL,
+    RIGHTS_PLAYER_NUMBERS
+};
+
+uint8_t rights_player(const uint8_t *image, size_t image_length, uint32_t player, uint32_t *out, size_t out_length);
 
 #ifdef __cplusplus
 }

@@ -3,12 +3,19 @@
 //! The library holds nothing between calls. The book is its image, the bytes of `rights.rbk`: the caller keeps them and
 //! saves them when it likes. What a call returns and leaves in the buffers is proved for every input. The declarations
 //! below are not checked against that proof, so they change only with `crates/embed/src/lib.rt`.
+//!
+//! A call needs at most `STACK` bytes of stack. `docs/FORMAT.md` has the bytes of records and images.
+#![allow(dead_code)] // a server need not use all of this
 
 /// Bytes of an event record.
 pub const RECORD: usize = 13;
 /// No answer's line is longer, its line feed included.
 pub const LINE: usize = 19;
 pub const LONGEST_IMAGE: usize = 3979;
+/// Bytes of stack that are enough for any call (`docs/EMBEDDING.md`).
+pub const STACK: usize = 262_144;
+/// In place of a number left: there is no such limit.
+pub const NO_LIMIT: u32 = u32::MAX;
 
 /// Why a call was refused. Where it was, no byte of any buffer has changed.
 #[derive(Clone, Copy, Debug, PartialEq, Eq)]
@@ -17,6 +24,90 @@ pub enum Refused {
     Image(u8),
     /// `out` is shorter than `room(records.len())`.
     ShortOut,
+    /// The book has no asset, entry or player at that position.
+    NotThere,
+}
+
+/// An event in numbers, as they stand in a record: operation 1 begin, 2 continue, 3 stop; kind 1 play, 2 display,
+/// 3 execute, 4 print, 5 export. Asset and kind are 0 for a continue and a stop.
+#[derive(Clone, Copy, Debug, PartialEq, Eq)]
+pub struct Event {
+    pub player: u8,
+    pub number: u32,
+    pub operation: u8,
+    pub asset: u16,
+    pub kind: u8,
+    pub time: u32,
+}
+
+/// The answer to an event. Code 0 is a grant; every other code comes with entry 255 and until 0.
+#[derive(Clone, Copy, Debug, PartialEq, Eq)]
+pub struct Answer {
+    pub code: u8,
+    pub entry: u8,
+    pub until: u32,
+}
+
+/// How many assets and entries a book has, and the time of the latest event taken.
+#[derive(Clone, Copy, Debug, PartialEq, Eq)]
+pub struct Book {
+    pub assets: u32,
+    pub entries: u32,
+    pub time: u32,
+}
+
+#[derive(Clone, Copy, Debug, PartialEq, Eq)]
+pub struct Asset {
+    pub number: u32,
+    pub inherit: u32,
+    pub key: u32,
+}
+
+/// An entry's limits and meters. A limit whose flag is missing is 0, and so is its meter.
+#[derive(Clone, Copy, Debug, PartialEq, Eq)]
+pub struct Entry {
+    pub object: u32,
+    pub asset: u32,
+    pub kind: u32,
+    pub flags: u32,
+    pub count: u32,
+    pub timed: u32,
+    pub timer: u32,
+    pub start: u32,
+    pub end: u32,
+    pub interval: u32,
+    pub accumulated: u32,
+    pub used_count: u32,
+    pub used_timed: u32,
+    pub first: u32,
+    pub used_seconds: u32,
+    pub started: u32,
+}
+
+/// What is left of an entry at a time; `NO_LIMIT` where there is no such limit.
+#[derive(Clone, Copy, Debug, PartialEq, Eq)]
+pub struct Left {
+    /// 1 where the entry's own limits allow a grant at that time.
+    pub grantable: u32,
+    pub count: u32,
+    pub timed: u32,
+    pub seconds: u32,
+}
+
+/// The last event taken from a player with its answer (number 0: none yet), and its open use.
+#[derive(Clone, Copy, Debug, PartialEq, Eq)]
+pub struct Player {
+    pub number: u32,
+    pub operation: u32,
+    pub asset: u32,
+    pub kind: u32,
+    pub code: u32,
+    pub entry: u32,
+    pub until: u32,
+    pub open: u32,
+    pub open_entry: u32,
+    pub open_begin: u32,
+    pub open_until: u32,
 }
 
 mod library {
@@ -33,6 +124,41 @@ mod library {
             out_length: usize,
             written: *mut u64,
         ) -> u8;
+        pub fn rights_answer_one(
+            image: *mut u8,
+            image_length: usize,
+            player: u8,
+            number: u32,
+            operation: u8,
+            asset: u16,
+            kind: u8,
+            time: u32,
+            code: *mut u8,
+            entry: *mut u8,
+            until: *mut u32,
+        ) -> u8;
+        pub fn rights_record(
+            player: u8,
+            number: u32,
+            operation: u8,
+            asset: u16,
+            kind: u8,
+            time: u32,
+            out: *mut u8,
+            out_length: usize,
+        ) -> u8;
+        pub fn rights_book(image: *const u8, image_length: usize, out: *mut u32, out_length: usize) -> u8;
+        pub fn rights_asset(image: *const u8, image_length: usize, position: u32, out: *mut u32, out_length: usize) -> u8;
+        pub fn rights_entry(image: *const u8, image_length: usize, position: u32, out: *mut u32, out_length: usize) -> u8;
+        pub fn rights_left(
+            image: *const u8,
+            image_length: usize,
+            position: u32,
+            time: u32,
+            out: *mut u32,
+            out_length: usize,
+        ) -> u8;
+        pub fn rights_player(image: *const u8, image_length: usize, player: u32, out: *mut u32, out_length: usize) -> u8;
     }
 }
 
@@ -40,6 +166,7 @@ fn judged(code: u8) -> Result<(), Refused> {
     match code {
         0 => Ok(()),
         30 => Err(Refused::ShortOut),
+        31 => Err(Refused::NotThere),
         code => Err(Refused::Image(code)),
     }
 }
@@ -80,4 +207,118 @@ pub fn answers(image: &mut [u8], records: &[u8]) -> Result<Vec<u8>, Refused> {
     let written = answer(image, records, &mut out)?;
     out.truncate(written);
     Ok(out)
+}
+
+/// Answers one event from the book in the image, and leaves the book after it in the image: the step that `answer` does
+/// for the event's record. The image alone can be refused.
+pub fn answer_one(image: &mut [u8], event: Event) -> Result<Answer, Refused> {
+    let mut answer = Answer { code: 0, entry: 0, until: 0 };
+    // The borrows say that what is pointed to is valid and does not overlap. The function keeps no pointer.
+    let code = unsafe {
+        library::rights_answer_one(
+            image.as_mut_ptr(),
+            image.len(),
+            event.player,
+            event.number,
+            event.operation,
+            event.asset,
+            event.kind,
+            event.time,
+            &mut answer.code,
+            &mut answer.entry,
+            &mut answer.until,
+        )
+    };
+    judged(code).map(|()| answer)
+}
+
+/// The record that holds an event's numbers, whether or not they make a legal event.
+pub fn record(event: Event) -> [u8; RECORD] {
+    let mut out = [0; RECORD];
+    // There is room for the record, so the code is 0.
+    unsafe {
+        library::rights_record(
+            event.player,
+            event.number,
+            event.operation,
+            event.asset,
+            event.kind,
+            event.time,
+            out.as_mut_ptr(),
+            out.len(),
+        )
+    };
+    out
+}
+
+/// What the book in an image holds.
+pub fn book(image: &[u8]) -> Result<Book, Refused> {
+    let mut out = [0; 3];
+    // Here and below the slices are valid for the call, and the function only reads the image and keeps no pointer.
+    let code = unsafe { library::rights_book(image.as_ptr(), image.len(), out.as_mut_ptr(), out.len()) };
+    let [assets, entries, time] = out;
+    judged(code).map(|()| Book { assets, entries, time })
+}
+
+/// The asset at a position, from 0.
+pub fn asset(image: &[u8], position: u32) -> Result<Asset, Refused> {
+    let mut out = [0; 3];
+    let code = unsafe { library::rights_asset(image.as_ptr(), image.len(), position, out.as_mut_ptr(), out.len()) };
+    let [number, inherit, key] = out;
+    judged(code).map(|()| Asset { number, inherit, key })
+}
+
+/// The entry at a position, from 0.
+pub fn entry(image: &[u8], position: u32) -> Result<Entry, Refused> {
+    let mut out = [0; 16];
+    let code = unsafe { library::rights_entry(image.as_ptr(), image.len(), position, out.as_mut_ptr(), out.len()) };
+    let [object, asset, kind, flags, count, timed, timer, start, end, interval, accumulated, used_count, used_timed, first, used_seconds, started] =
+        out;
+    judged(code).map(|()| Entry {
+        object,
+        asset,
+        kind,
+        flags,
+        count,
+        timed,
+        timer,
+        start,
+        end,
+        interval,
+        accumulated,
+        used_count,
+        used_timed,
+        first,
+        used_seconds,
+        started,
+    })
+}
+
+/// What is left of the entry at a position, as an event at that time would find it. A time before the book's counts as
+/// the book's, so 0 asks for what is left in the image as it stands.
+pub fn left(image: &[u8], position: u32, time: u32) -> Result<Left, Refused> {
+    let mut out = [0; 4];
+    let code = unsafe { library::rights_left(image.as_ptr(), image.len(), position, time, out.as_mut_ptr(), out.len()) };
+    let [grantable, count, timed, seconds] = out;
+    judged(code).map(|()| Left { grantable, count, timed, seconds })
+}
+
+/// A player, 0 to 15.
+pub fn player(image: &[u8], player: u32) -> Result<Player, Refused> {
+    let mut out = [0; 11];
+    let code = unsafe { library::rights_player(image.as_ptr(), image.len(), player, out.as_mut_ptr(), out.len()) };
+    let [number, operation, asset, kind, code_of_last, entry, until, open, open_entry, open_begin, open_until] = out;
+    judged(code).map(|()| Player {
+        number,
+        operation,
+        asset,
+        kind,
+        code: code_of_last,
+        entry,
+        until,
+        open,
+        open_entry,
+        open_begin,
+        open_until,
+    })
 }

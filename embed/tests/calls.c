@@ -1,7 +1,10 @@
 /* Calls the library on stored files and prints what the programs of crates/days and crates/images print for them:
  *
  *     calls days N days.bin     the answers of each day, N records to a call (0: all of them), the image handed from call to call
+ *     calls ones days.bin       the same by rights_answer_one, an event to a call (a last record cut short by rights_answer)
  *     calls images cases.bin    the number of a refusal, or 0 and the image that a call without records leaves
+ *     calls seen days.bin       what the calls that read an image say of each day's book, before it, on the way and after it
+ *     calls seen-images cases.bin    the same of each stored image; embed/tests/seen.py prints both by the second program
  *
  * On the way it holds every call to its word: bytes behind the text stay, a refused call changes no byte of any buffer.
  * It ends with status 1 at the first that does not. */
@@ -121,17 +124,205 @@ static void images(FILE *f)
     }
 }
 
+static uint32_t number_at(const uint8_t *bytes, int width)
+{
+    uint32_t n = 0;
+    for (int i = 0; i < width; i++)
+        n = n << 8 | bytes[i];
+    return n;
+}
+
+/* The numbers of a record make the record again, and a buffer that is a byte too short stays as it was. */
+static void encode(const uint8_t *from)
+{
+    uint8_t made[RIGHTS_RECORD + BEHIND];
+    for (size_t room = 0; room <= RIGHTS_RECORD + 1; room++) {
+        memset(made, FILL, sizeof made);
+        uint8_t code = rights_record(from[RIGHTS_RECORD_PLAYER], number_at(from + RIGHTS_RECORD_NUMBER, 4),
+                                     from[RIGHTS_RECORD_OPERATION],
+                                     (uint16_t)number_at(from + RIGHTS_RECORD_ASSET, 2), from[RIGHTS_RECORD_KIND],
+                                     number_at(from + RIGHTS_RECORD_TIME, 4), made, room);
+        size_t used = code == RIGHTS_OK ? RIGHTS_RECORD : 0;
+        if (code != (room < RIGHTS_RECORD ? RIGHTS_SHORT_OUT : RIGHTS_OK))
+            fail("a record's room is misjudged");
+        if (memcmp(made, from, used) != 0)
+            fail("the numbers of a record do not make it again");
+        for (size_t i = used; i < sizeof made; i++)
+            if (made[i] != FILL)
+                fail("a byte behind a record, or of a buffer that is too short, was touched");
+    }
+}
+
+/* One event by its numbers. The call on its record, from a copy of the image, has to print the same numbers and leave
+ * the same image. */
+static uint8_t one(size_t image_length, const uint8_t *from)
+{
+    static uint8_t by_text[LONGEST + BEHIND];
+    uint8_t code = FILL, entry = FILL;
+    uint32_t until = 0xa5a5a5a5u;
+    uint64_t written;
+    encode(from);
+    memcpy(by_text, image, image_length + BEHIND);
+    memcpy(image_before, image, image_length + BEHIND);
+    uint8_t refused = rights_answer_one(image, image_length, from[0], number_at(from + 1, 4), from[5],
+                                        (uint16_t)number_at(from + 6, 2), from[8], number_at(from + 9, 4),
+                                        &code, &entry, &until);
+    if (refused != rights_answer(by_text, image_length, from, RIGHTS_RECORD, out, RIGHTS_LINE, &written))
+        fail("the two calls do not agree on an image");
+    if (memcmp(image, by_text, image_length + BEHIND) != 0)
+        fail("the two calls leave different images");
+    if (refused) {
+        if (memcmp(image, image_before, image_length + BEHIND) != 0)
+            fail("a byte of a refused image was touched");
+        if (code != FILL || entry != FILL || until != 0xa5a5a5a5u)
+            fail("a refused call set a number");
+        return refused;
+    }
+    char line[RIGHTS_LINE + 1];
+    int length = snprintf(line, sizeof line, "%u %u %u\n", code, entry, until);
+    if ((uint64_t)length != written || memcmp(line, out, (size_t)length) != 0)
+        fail("the two calls answer differently");
+    fputs(line, stdout);
+    return RIGHTS_OK;
+}
+
+static void ones(FILE *f)
+{
+    size_t image_length, length;
+    for (int day = 1; read_length(f, 4, &image_length); day++) {
+        uint64_t written;
+        fill(f, image, image_length);
+        if (!read_length(f, 4, &length))
+            fail("a stored file is cut short");
+        fill(f, records, length);
+        printf("day %d\n", day);
+        uint8_t code = RIGHTS_OK;
+        size_t at = 0;
+        for (; at + RIGHTS_RECORD <= length && code == RIGHTS_OK; at += RIGHTS_RECORD)
+            code = one(image_length, records + at);
+        if (code == RIGHTS_OK && (at < length || length == 0)) {
+            code = call(image_length, records + at, length - at, RIGHTS_ROOM(length - at), &written);
+            if (code == RIGHTS_OK)
+                fwrite(out, 1, (size_t)written, stdout);
+        }
+        if (code != RIGHTS_OK)
+            printf("%d\n", code);
+    }
+}
+
+/* What a reading call gives, as a line; where it refuses, its code. It is called with every room up to what it needs. */
+enum { MOST = 32 };
+
+static uint8_t reading(const char *name, size_t image_length, uint32_t at, uint32_t time, uint32_t *numbers, size_t room)
+{
+    switch (name[0]) {
+    case 'b': return rights_book(image, image_length, numbers, room);
+    case 'a': return rights_asset(image, image_length, at, numbers, room);
+    case 'e': return rights_entry(image, image_length, at, numbers, room);
+    case 'l': return rights_left(image, image_length, at, time, numbers, room);
+    default: return rights_player(image, image_length, at, numbers, room);
+    }
+}
+
+static uint8_t look(const char *name, size_t image_length, uint32_t at, uint32_t time, size_t needs)
+{
+    uint32_t numbers[MOST];
+    uint8_t last = RIGHTS_OK;
+    memcpy(image_before, image, image_length + BEHIND);
+    for (size_t room = 0; room <= needs + 1; room++) {
+        for (size_t i = 0; i < MOST; i++)
+            numbers[i] = 0xa5a5a5a5u;
+        last = reading(name, image_length, at, time, numbers, room);
+        if (last == RIGHTS_SHORT_OUT ? room >= needs : last == RIGHTS_OK && room < needs)
+            fail("the room of a reading call is misjudged");
+        for (size_t i = last == RIGHTS_OK ? needs : 0; i < MOST; i++)
+            if (numbers[i] != 0xa5a5a5a5u)
+                fail("a number behind those given, or of a refused call, was touched");
+    }
+    if (memcmp(image, image_before, image_length + BEHIND) != 0)
+        fail("a reading call touched the image");
+    printf("%s %u", name, at);
+    if (name[0] == 'l')
+        printf(" %u", time);
+    if (last != RIGHTS_OK)
+        printf(" refused %u", last);
+    for (size_t i = 0; last == RIGHTS_OK && i < needs; i++)
+        printf(" %u", numbers[i]);
+    putchar('\n');
+    return last;
+}
+
+/* Everything that can be asked of an image, one position past each end too. The times are the book's, some around the
+ * ends of open uses, and one later than any. */
+static void see(size_t image_length)
+{
+    uint32_t book[RIGHTS_BOOK_NUMBERS];
+    look("book", image_length, 0, 0, RIGHTS_BOOK_NUMBERS);
+    if (rights_book(image, image_length, book, RIGHTS_BOOK_NUMBERS) != RIGHTS_OK)
+        memset(book, 0, sizeof book);
+    uint32_t now = book[RIGHTS_BOOK_TIME];
+    const uint32_t times[] = {0, now, now + 1, now + 30, now + 59, now + 60, now + 86400, 4294967295u};
+    for (uint32_t i = 0; i <= book[RIGHTS_BOOK_ASSETS]; i++)
+        look("asset", image_length, i, 0, RIGHTS_ASSET_NUMBERS);
+    for (uint32_t i = 0; i <= book[RIGHTS_BOOK_ENTRIES]; i++) {
+        look("entry", image_length, i, 0, RIGHTS_ENTRY_NUMBERS);
+        for (size_t t = 0; t < sizeof times / sizeof *times; t++)
+            look("left", image_length, i, times[t], RIGHTS_LEFT_NUMBERS);
+    }
+    for (uint32_t i = 0; i <= RIGHTS_PLAYERS; i++)
+        look("player", image_length, i, 0, RIGHTS_PLAYER_NUMBERS);
+    look("entry", image_length, 256, 0, RIGHTS_ENTRY_NUMBERS);
+    look("player", image_length, 4294967295u, 0, RIGHTS_PLAYER_NUMBERS);
+}
+
+/* Each day's book: before it, then after every 97 records, and at the end. */
+static void seen_days(FILE *f)
+{
+    size_t image_length, length;
+    for (int day = 1; read_length(f, 4, &image_length); day++) {
+        uint64_t written;
+        fill(f, image, image_length);
+        if (!read_length(f, 4, &length))
+            fail("a stored file is cut short");
+        fill(f, records, length);
+        printf("day %d\n", day);
+        see(image_length);
+        size_t step = 97 * RIGHTS_RECORD;
+        for (size_t at = 0; at < length; at += step) {
+            size_t part = length - at < step ? length - at : step;
+            if (call(image_length, records + at, part, RIGHTS_ROOM(part), &written) != RIGHTS_OK)
+                break;
+            see(image_length);
+        }
+    }
+}
+
+static void seen_images(FILE *f)
+{
+    size_t length;
+    while (read_length(f, 2, &length)) {
+        fill(f, image, length);
+        see(length);
+    }
+}
+
 int main(int count, char **words)
 {
-    int of_days = count == 4 && strcmp(words[1], "days") == 0;
-    int of_images = count == 3 && strcmp(words[1], "images") == 0;
-    FILE *f = of_days || of_images ? fopen(words[count - 1], "rb") : NULL;
-    if (!f)
-        fail("usage: calls days N FILE, calls images FILE");
+    const char *what = count > 1 ? words[1] : "";
+    int of_days = count == 4 && strcmp(what, "days") == 0;
+    FILE *f = of_days || count == 3 ? fopen(words[count - 1], "rb") : NULL;
     memset(image, FILL, sizeof image);
-    if (of_days)
+    if (f && of_days)
         days(f, (size_t)atoi(words[2]));
-    else
+    else if (f && strcmp(what, "ones") == 0)
+        ones(f);
+    else if (f && strcmp(what, "images") == 0)
         images(f);
+    else if (f && strcmp(what, "seen") == 0)
+        seen_days(f);
+    else if (f && strcmp(what, "seen-images") == 0)
+        seen_images(f);
+    else
+        fail("usage: calls days N FILE, calls ones|images|seen|seen-images FILE");
     return 0;
 }

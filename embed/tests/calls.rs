@@ -2,14 +2,16 @@
 //! and `crates/images` print for the stored files:
 //!
 //!     calls days N days.bin     the answers of each day, N records to a call (0: all of them)
+//!     calls ones days.bin       the same by `answer_one`, an event to a call (a last record cut short by `answers`)
 //!     calls images cases.bin    the number of a refusal, or 0 and the image that a call without records leaves
+//!     calls seen days.bin       what the functions that read an image say, as calls.c prints it
 //!
 //! A refused call has to leave every byte of every buffer.
 
 #[path = "../rust/rights.rs"]
 mod rights;
 
-use rights::Refused;
+use rights::{Event, Refused};
 use std::io::Write;
 
 /// The next part of the file: its length in so many bytes, big-endian, and then its bytes.
@@ -63,7 +65,7 @@ fn days(file: &[u8], each: usize, print: &mut impl Write) {
                     writeln!(print, "{code}").unwrap();
                     break;
                 }
-                Err(Refused::ShortOut) => panic!("there was room"),
+                Err(refused) => panic!("{refused:?}"),
             }
         }
         day += 1;
@@ -81,8 +83,149 @@ fn images(file: &[u8], print: &mut impl Write) {
                 writeln!(print, "0 {hex}").unwrap();
             }
             Err(Refused::Image(code)) => writeln!(print, "{code}").unwrap(),
-            Err(Refused::ShortOut) => panic!("no room is needed"),
+            Err(refused) => panic!("{refused:?}"),
         }
+    }
+}
+
+fn event_in(record: &[u8]) -> Event {
+    Event {
+        player: record[0],
+        number: u32::from_be_bytes(record[1..5].try_into().unwrap()),
+        operation: record[5],
+        asset: u16::from_be_bytes(record[6..8].try_into().unwrap()),
+        kind: record[8],
+        time: u32::from_be_bytes(record[9..13].try_into().unwrap()),
+    }
+}
+
+/// One record by its numbers, or by the text where it is cut short.
+fn one(image: &mut [u8], record: &[u8]) -> Result<String, Refused> {
+    if record.len() < rights::RECORD {
+        return rights::answers(image, record).map(|text| String::from_utf8(text).unwrap());
+    }
+    let event = event_in(record);
+    assert_eq!(rights::record(event), record);
+    let before = image.to_vec();
+    let answer = rights::answer_one(image, event);
+    assert!(answer.is_ok() || image == before);
+    answer.map(|a| format!("{} {} {}\n", a.code, a.entry, a.until))
+}
+
+fn ones(file: &[u8], print: &mut impl Write) {
+    let mut rest = file;
+    let mut day = 1;
+    while let Some(image) = part(&mut rest, 4) {
+        let records = part(&mut rest, 4).expect("a day has events");
+        let mut image = image.to_vec();
+        writeln!(print, "day {day}").unwrap();
+        let each: Vec<&[u8]> = if records.is_empty() { vec![records] } else { records.chunks(rights::RECORD).collect() };
+        for record in each {
+            match one(&mut image, record) {
+                Ok(line) => print.write_all(line.as_bytes()).unwrap(),
+                Err(Refused::Image(code)) => {
+                    writeln!(print, "{code}").unwrap();
+                    break;
+                }
+                Err(refused) => panic!("{refused:?}"),
+            }
+        }
+        day += 1;
+    }
+}
+
+/// A line of numbers, or of the code that refuses them.
+fn seen_line(print: &mut impl Write, name: &str, at: u32, time: Option<u32>, numbers: Result<Vec<u32>, Refused>) {
+    write!(print, "{name} {at}").unwrap();
+    if let Some(time) = time {
+        write!(print, " {time}").unwrap();
+    }
+    match numbers {
+        Ok(numbers) => numbers.iter().for_each(|n| write!(print, " {n}").unwrap()),
+        Err(Refused::Image(code)) => write!(print, " refused {code}").unwrap(),
+        Err(Refused::NotThere) => write!(print, " refused 31").unwrap(),
+        Err(Refused::ShortOut) => panic!("there was room"),
+    }
+    writeln!(print).unwrap();
+}
+
+fn entry_numbers(image: &[u8], position: u32) -> Result<Vec<u32>, Refused> {
+    rights::entry(image, position).map(|e| {
+        vec![
+            e.object,
+            e.asset,
+            e.kind,
+            e.flags,
+            e.count,
+            e.timed,
+            e.timer,
+            e.start,
+            e.end,
+            e.interval,
+            e.accumulated,
+            e.used_count,
+            e.used_timed,
+            e.first,
+            e.used_seconds,
+            e.started,
+        ]
+    })
+}
+
+fn player_numbers(image: &[u8], player: u32) -> Result<Vec<u32>, Refused> {
+    rights::player(image, player).map(|p| {
+        vec![
+            p.number,
+            p.operation,
+            p.asset,
+            p.kind,
+            p.code,
+            p.entry,
+            p.until,
+            p.open,
+            p.open_entry,
+            p.open_begin,
+            p.open_until,
+        ]
+    })
+}
+
+fn see(image: &[u8], print: &mut impl Write) {
+    let book = rights::book(image);
+    seen_line(print, "book", 0, None, book.map(|b| vec![b.assets, b.entries, b.time]));
+    let (assets, entries, now) = book.map_or((0, 0, 0), |b| (b.assets, b.entries, b.time));
+    for i in 0..=assets {
+        seen_line(print, "asset", i, None, rights::asset(image, i).map(|a| vec![a.number, a.inherit, a.key]));
+    }
+    for i in 0..=entries {
+        seen_line(print, "entry", i, None, entry_numbers(image, i));
+        for time in [0, now, now + 1, now + 30, now + 59, now + 60, now + 86400, u32::MAX] {
+            let left = rights::left(image, i, time).map(|l| vec![l.grantable, l.count, l.timed, l.seconds]);
+            seen_line(print, "left", i, Some(time), left);
+        }
+    }
+    for i in 0..=16 {
+        seen_line(print, "player", i, None, player_numbers(image, i));
+    }
+    seen_line(print, "entry", 256, None, entry_numbers(image, 256));
+    seen_line(print, "player", u32::MAX, None, player_numbers(image, u32::MAX));
+}
+
+fn seen(file: &[u8], print: &mut impl Write) {
+    let mut rest = file;
+    let mut day = 1;
+    while let Some(image) = part(&mut rest, 4) {
+        let records = part(&mut rest, 4).expect("a day has events");
+        let mut image = image.to_vec();
+        writeln!(print, "day {day}").unwrap();
+        see(&image, print);
+        for block in records.chunks(97 * rights::RECORD) {
+            if rights::answers(&mut image, block).is_err() {
+                break;
+            }
+            see(&image, print);
+        }
+        day += 1;
     }
 }
 
@@ -92,8 +235,10 @@ fn main() {
     let mut print = std::io::BufWriter::new(std::io::stdout().lock());
     match words[1].as_str() {
         "days" => days(&file, words[2].parse().unwrap(), &mut print),
+        "ones" => ones(&file, &mut print),
         "images" => images(&file, &mut print),
-        _ => panic!("usage: calls days N FILE, calls images FILE"),
+        "seen" => seen(&file, &mut print),
+        _ => panic!("usage: calls days N FILE, calls ones|images|seen FILE"),
     }
     print.flush().unwrap();
 }

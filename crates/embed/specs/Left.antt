@@ -24,7 +24,7 @@ use Rattle.embed.specs.Calls.{answerCode, answered, heldBook, imageAfter
 
 -- ## The length
 
-held-length : (s : List ℕ) → readCode s ≡ 0 → lengthOf (heldBook s) ≡ length s
+pub held-length : (s : List ℕ) → readCode s ≡ 0 → lengthOf (heldBook s) ≡ length s
 unfolding heldBook bookIn lengthOf assetsIn entriesIn
 held-length s e =
     let n = header-passed s (accepted-stages s e .0) in
@@ -32,7 +32,7 @@ held-length s e =
     ∙ ap₂ imageLength (min-eq-left (n .assets)) (min-eq-left (n .entries))
     ∙ sym (n .whole)
 
-event-length : (b : Book) (d : Decoded) → lengthOf (arrive b d .book) ≡ lengthOf b
+pub event-length : (b : Book) (d : Decoded) → lengthOf (arrive b d .book) ≡ lengthOf b
 unfolding lengthOf assetsIn entriesIn
 event-length b d = ap₂ (λ (n m : ℕ). imageLength (min n 64) (min m 64)) (arrive-static b d .assetcount) (arrive-static b d .entrycount)
 
@@ -46,13 +46,14 @@ unfolding runBook
 run-length b records = records-length b (recordsIn records)
 
 -- a buffer of exactly the image's length holds the image and nothing else
-whole-buffer : (b : Book) (old : List ℕ) → lengthOf b ≡ length old → writeBuffer b old ≡ image b
+pub whole-buffer : (b : Book) (old : List ℕ) → lengthOf b ≡ length old → writeBuffer b old ≡ image b
 unfolding writeBuffer
 whole-buffer b old e =
     rw (le-leb (lengthOf b) (length old) (omega arith))
     (ap (λ (n : ℕ). image b ++ drop n old) e ∙ ap (λ (t : List ℕ). image b ++ t) (drop-length old) ∙ append-nil (image b))
 
-pub next-image : (s records : List ℕ) → readCode s ≡ 0 → writeBuffer (runBook (heldBook s) records) s ≡ image (runBook (heldBook s) records)
+pub next-image : (s records : List ℕ) → readCode s ≡ 0
+    → writeBuffer (runBook (heldBook s) records) s ≡ image (runBook (heldBook s) records)
 next-image s records e = whole-buffer (runBook (heldBook s) records) s (run-length (heldBook s) records ∙ held-length s e)
 
 -- ## What is left
@@ -86,7 +87,9 @@ module _ (s records old : List ℕ) (before : ℕ) where
       readCode s ≡ 0 →
       19 * recordCount records ≤ length old →
       book ≡ heldBook s →
-      (b ≡ blockBook book records (length old)) × (written ≡ blockWritten book records (length old)) × (out ≡ blockBuffer book records old) →
+      (b ≡ blockBook book records (length old))
+      × (written ≡ blockWritten book records (length old))
+      × (out ≡ blockBuffer book records old) →
       s′ ≡ writeBuffer b s →
       Left 0 s′ out written
   unfolding answerCode imageAfter outAfter writtenAfter fits blockBook blockWritten blockBuffer

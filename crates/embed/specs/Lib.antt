@@ -2,3 +2,7 @@
 pub mod Calls
 pub mod Left
 pub mod Pieces
+pub mod One
+pub mod Same
+pub mod Seen
+pub mod Stands

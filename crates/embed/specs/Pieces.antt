@@ -41,9 +41,11 @@ take-bytes (suc n) (x ∷ s) b (suc k) = take-bytes n s (λ j. b (suc j)) k
 records-bytes : (s : List ℕ) → Bytes s → (n : ℕ) → AllBytes (listed (recordAt s) n)
 unfolding listed recordAt
 records-bytes s b zero = tt
-records-bytes s b (suc n) = one-more (listed (recordAt s) n) (recordAt s n) (records-bytes s b n) (take-bytes 13 (drop (13 * n) s) (drop-bytes (13 * n) s b))
+records-bytes s b (suc n) =
+    one-more (listed (recordAt s) n) (recordAt s n) (records-bytes s b n) (take-bytes 13 (drop (13 * n) s) (drop-bytes (13 * n) s b))
 
-final-kept : (b : Book) (rs : List (List ℕ)) → Legal b → Typed b → AllBytes rs → Legal (recordFinal b rs) × Typed (recordFinal b rs)
+final-kept : (b : Book) (rs : List (List ℕ)) → Legal b → Typed b → AllBytes rs
+    → Legal (recordFinal b rs) × Typed (recordFinal b rs)
 unfolding recordFinal stepRecord
 final-kept b [] l y h = (l, y)
 final-kept b (r ∷ rs) l y (h, hs) =
@@ -79,7 +81,9 @@ module _ (s records : List ℕ) (room : ℕ) (bytes : Bytes s) (bytes′ : Bytes
 
   -- whole records, and then any bytes more
   module _ (more : List ℕ) (k : ℕ) (whole : length records ≡ 13 * k) where
-    pub pieces-text : runText (heldBook s) records ++ runText (heldBook (imageAfter s records room)) more ≡ runText (heldBook s) (records ++ more)
+    pub pieces-text :
+        runText (heldBook s) records ++ runText (heldBook (imageAfter s records room)) more
+        ≡ runText (heldBook s) (records ++ more)
     pieces-text =
         ap (λ (b : Book). runText (heldBook s) records ++ runText b more) next-book
         ∙ sym (block-text records more k whole (heldBook s))

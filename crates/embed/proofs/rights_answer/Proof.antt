@@ -1,30 +1,25 @@
 -- `embed::rights_answer` meets its contract: each of its three ways out leaves what `Left` says.
 use Prim.Native.Nat.{_*_, _≤_, _<_}
-use mathlib.Core.Path.{_≡_, sym, ap, _∙_}
+use mathlib.Core.Path.{_≡_, sym, _∙_}
 use native.Mathlib.Omega.{arith}
 use borrow.Author.Needs.{needs}
 use lib.ListN.{length}
-use Rattle.book.specs.declared.Book.{Book}
-use Rattle.model.specs.Image.{readCode, readBook}
+use Rattle.model.specs.Image.{readCode}
 use Rattle.model.specs.Run.{recordCount}
-use Rattle.embed.specs.Calls.{heldBook}
 use Rattle.embed.specs.Left.{left-refused, left-short, left-answered}
 use Rattle.embed.proofs.rights_answer.Statement.{statement}
 use Rattle.embed.proofs.rights_answer.Tie as tie
 
-blank-book-requires : tie.Need-blank-book-requires
-blank-book-requires c κs = search needs
-
-read-requires : tie.Need-read-requires
-read-requires c κs = search needs
+load-requires : tie.Need-load-requires
+load-requires c κs = search needs
 
 same-length : tie.Need-same-length
 same-length c = search needs
 
 returns : tie.Need-returns
 returns c =
-    let a = c .before .before .before .before .before .before .before .args in
-    left-refused (a .image .now) (a .records .now) (a .out .now) (a .written .now) _ (c .before .read .ensures .0) (c .if1 .taken)
+    let a = c .before .before .before .before .before .before .args in
+    left-refused (a .image .now) (a .records .now) (a .out .now) (a .written .now) _ (c .before .load .ensures .0) (c .if1 .taken)
 
 add-count : tie.Need-add-count
 add-count c = search needs
@@ -35,8 +30,8 @@ same-length-2 c = search needs
 returns-2 : tie.Need-returns-2
 unfolding recordCount
 returns-2 c =
-    let a = c .before .before .before .before .before .before .before .before .args in
-    let accepted : readCode (a .image .now) ≡ 0 = sym (c .before .before .read .ensures .0) ∙ c .before .if1 .left in
+    let a = c .before .before .before .before .before .before .before .args in
+    let accepted : readCode (a .image .now) ≡ 0 = sym (c .before .before .load .ensures .0) ∙ c .before .if1 .left in
     let short : length (a .out .now) < 19 * recordCount (a .records .now) = omega (arith, c .if2 .taken) in
     left-short (a .image .now) (a .records .now) (a .out .now) (a .written .now) accepted short
 
@@ -53,27 +48,25 @@ same-length-4 : tie.Need-same-length-4
 same-length-4 c = search needs
 
 returns-3 : tie.Need-returns-3
-unfolding heldBook recordCount
+unfolding recordCount
 returns-3 c =
     let at-test = c .before .before .before .before .before .before .before .before .before .before in
-    let at-read = at-test .before .before in
-    let at-start = at-read .before .before .before .before .before .before in
-    let a = at-start .args in
+    let at-load = at-test .before .before in
+    let a = at-load .before .before .before .before .before .args in
     let s = a .image .now in
-    let read = at-read .read in
+    let load = at-load .load in
     let block = c .before .before .before .before .before .before .before .answer-block in
     let write = c .before .before .write in
-    let accepted : readCode s ≡ 0 = sym (read .ensures .0) ∙ at-test .before .if1 .left in
+    let accepted : readCode s ≡ 0 = sym (load .ensures .0) ∙ at-test .before .if1 .left in
     let room : 19 * recordCount (a .records .now) ≤ length (a .out .now) = omega (arith, at-test .if2 .left) in
-    let book : read .result .book ≡ heldBook s = read .ensures .1 ∙ ap (λ (x : Book). readBook x s) (at-read .before .before .blank-book .ensures) in
-    left-answered s (a .records .now) (a .out .now) (a .written .now) (read .result .book) (block .result .book) _ _ _ accepted room book (block .ensures) (write .ensures .1)
+    left-answered s (a .records .now) (a .out .now) (a .written .now)
+    (load .result .book) (block .result .book) _ _ _ accepted room (load .ensures .1) (block .ensures) (write .ensures .1)
 
 pub rights-answer-spec : {M : Type 1} → statement M
 rights-answer-spec =
     tie.close
     (tie.spec
-    blank-book-requires
-    read-requires
+    load-requires
     same-length
     returns
     add-count

@@ -1,0 +1,117 @@
+-- `embed::rights_left` meets its contract: each of its ways out leaves what `Seen` says.
+use Prim.Native.Nat.{ℕ}
+use mathlib.Core.Path.{_≡_, sym, ap, _∙_}
+use mathlib.Core.List.{List}
+use denote.Ref.{now}
+use lib.ListN.{getD}
+use borrow.Author.Tests.{lt-ltb, le-ltb}
+use Rattle.book.specs.declared.Book.{Book}
+use Rattle.book.specs.declared.Entry.{Entry}
+use Rattle.book.specs.Blank.{noEntry}
+use Rattle.model.specs.Events.{settled}
+use Rattle.events.specs.Settle.{settledBook}
+use Rattle.views.specs.Views.{viewTime, leftValues}
+use Rattle.embed.specs.Calls.{heldBook}
+use Rattle.embed.specs.Seen.{hasEntry, entryFound, leftSeen, entry-there, seen-refused, seen-absent, seen-given}
+use borrow.Author.Needs.{needs}
+use Rattle.embed.proofs.rights_left.Statement.{statement}
+use Rattle.embed.proofs.rights_left.Tie as tie
+
+-- the entry of the settled book, at the time that was looked at
+found :
+    (s : List ℕ) (time i : ℕ) {b n : Book} {t : ℕ} {e : Entry} →
+    b ≡ heldBook s →
+    t ≡ viewTime (b .time) time →
+    n ≡ settledBook t b →
+    e ≡ getD (n .entries) i noEntry →
+    leftValues t e ≡ leftSeen s time i
+unfolding leftSeen entryFound settledBook
+found s time i {b} {n} {t} {e} same p q r =
+    ap (leftValues t) (r ∙ ap (λ (x : Book). getD (x .entries) i noEntry) q)
+    ∙ ap (λ (u : ℕ). leftValues u (getD (settled u (b .players) (b .entries)) i noEntry)) p
+    ∙ ap (λ (x : Book). let u = viewTime (x .time) time in leftValues u (getD (settled u (x .players) (x .entries)) i noEntry)) same
+
+load-requires : tie.Need-load-requires
+load-requires c κs = search needs
+
+returns : tie.Need-returns
+returns c =
+    let a = c .before .before .before .before .args in
+    let s = now (a .image) in
+    seen-refused s (hasEntry s (a .position)) (leftSeen s (a .time) (a .position)) (now (a .out))
+    _ (c .before .load .ensures .0) (c .if1 .taken)
+
+at-most-64-requires : tie.Need-at-most-64-requires
+at-most-64-requires c κs = search needs
+
+returns-2 : tie.Need-returns-2
+returns-2 c =
+    let at-test = c .before .before .before in
+    let at-load = at-test .before in
+    let at-start = at-load .before .before .before in
+    let a = at-start .args in
+    let s = now (a .image) in
+    let load = at-load .load .ensures in
+    seen-absent s (hasEntry s (a .position)) (leftSeen s (a .time) (a .position)) (now (a .out))
+    (sym (load .0) ∙ at-test .if1 .left)
+    (entry-there s _ _ (a .position) (load .1) (c .before .at-most-64 .ensures) ∙ le-ltb _ _ (c .if2 .taken))
+
+view-time-requires : tie.Need-view-time-requires
+view-time-requires c κs = search needs
+
+settle-requires : tie.Need-settle-requires
+settle-requires c κs = search needs
+
+entry-at-requires : tie.Need-entry-at-requires
+entry-at-requires c κs = search needs
+
+left-values-requires : tie.Need-left-values-requires
+left-values-requires c κs = search needs
+
+slice-aggregate-fill32 : tie.Need-slice-aggregate-fill32
+slice-aggregate-fill32 c = search needs
+
+fill32-requires : tie.Need-fill32-requires
+fill32-requires c κs = search needs
+
+same-length : tie.Need-same-length
+same-length c = search needs
+
+returns-3 : tie.Need-returns-3
+returns-3 c =
+    let at-values = c .before .before .before .before .before in
+    let at-entry = at-values .before in
+    let at-settle = at-entry .before .before in
+    let at-time = at-settle .before in
+    let at-end = at-time .before in
+    let at-count = at-end .before in
+    let at-test = at-count .before .before in
+    let at-load = at-test .before in
+    let at-start = at-load .before .before .before in
+    let a = at-start .args in
+    let s = now (a .image) in
+    let load = at-load .load .ensures in
+    seen-given s (hasEntry s (a .position)) (leftSeen s (a .time) (a .position)) (now (a .out))
+    _ _ _ (sym (load .0) ∙ at-test .if1 .left)
+    (entry-there s _ _ (a .position) (load .1) (at-count .at-most-64 .ensures) ∙ lt-ltb _ _ (at-end .if2 .left))
+    (at-values .left-values .ensures
+    ∙ found s (a .time) (a .position) (load .1)
+    (at-time .view-time .ensures) (at-settle .settle .ensures) (at-entry .entry-at .ensures))
+    (c .before .before .fill32 .ensures)
+
+pub rights-left-spec : {M : Type 1} → statement M
+rights-left-spec =
+    tie.close
+    (tie.spec
+    load-requires
+    returns
+    at-most-64-requires
+    returns-2
+    view-time-requires
+    settle-requires
+    entry-at-requires
+    left-values-requires
+    slice-aggregate-fill32
+    fill32-requires
+    same-length
+    returns-3)

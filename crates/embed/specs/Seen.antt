@@ -1,0 +1,131 @@
+-- What the calls that read an image return and leave: the numbers of its book, of one asset, entry or player, and what is left of an entry.
+-- s is the image lent, which these calls only read.
+use Prim.Native.Nat.{ℕ, min}
+use mathlib.Core.Path.{_≡_, refl, sym, ap, _∙_}
+use mathlib.Core.Bool.{Bool, true, false, cond}
+use mathlib.Core.List.{List}
+use lib.ListN.{length, getD}
+use lib.Dec.{ltb, eqb}
+use borrow.Author.Tests.{ne-eqb}
+use Rattle.book.specs.declared.Entry.{Entry}
+use Rattle.book.specs.declared.Book.{Book}
+use Rattle.book.specs.Blank.{noEntry}
+use Rattle.model.specs.Book.{assetAt, playerAt, assetsIn, entriesIn}
+use Rattle.model.specs.Image.{assetValues, entryValues, playerValues, readCode}
+use Rattle.model.specs.Events.{settled}
+use Rattle.fill.specs.Fill.{fillCode, filled}
+use Rattle.views.specs.Views.{bookValues, viewTime, leftValues}
+use Rattle.embed.specs.Calls.{heldBook}
+
+-- 31: the book has nothing at that position
+abbrev pub absent : ℕ
+absent = 31
+
+-- 20 to 27 where the image is refused, 31 where what is asked for is not there, 30 where the buffer is too short for the values, else 0
+unfoldable pub seenCode : List ℕ → Bool → List ℕ → ℕ → ℕ
+seenCode s there values room = cond (eqb (readCode s) 0) (cond there (fillCode values room) absent) (readCode s)
+
+-- the values and behind them what was there; all of it as it was where the code is not 0
+unfoldable pub seenOut : List ℕ → Bool → List ℕ → List ℕ → List ℕ
+seenOut s there values old = cond (eqb (readCode s) 0) (cond there (filled values old) old) old
+
+-- ## What is there, and its numbers
+
+unfoldable pub bookSeen : List ℕ → List ℕ
+bookSeen s = bookValues (heldBook s)
+
+unfoldable pub hasAsset : List ℕ → ℕ → Bool
+hasAsset s i = ltb i (assetsIn (heldBook s))
+
+unfoldable pub assetSeen : List ℕ → ℕ → List ℕ
+assetSeen s i = assetValues (assetAt (heldBook s .assets) i)
+
+unfoldable pub hasEntry : List ℕ → ℕ → Bool
+hasEntry s i = ltb i (entriesIn (heldBook s))
+
+unfoldable pub entrySeen : List ℕ → ℕ → List ℕ
+entrySeen s i = entryValues (getD (heldBook s .entries) i noEntry)
+
+unfoldable pub hasPlayer : ℕ → Bool
+hasPlayer p = ltb p 16
+
+unfoldable pub playerSeen : List ℕ → ℕ → List ℕ
+playerSeen s p = playerValues (playerAt (heldBook s .players) p)
+
+-- the entry as an event at t would find it: "each open use of any player with until ≤ t" has ended
+unfoldable pub entryFound : List ℕ → ℕ → ℕ → Entry
+entryFound s t i = getD (settled t (heldBook s .players) (heldBook s .entries)) i noEntry
+
+-- what is left of it at that time, or at the book's where that is later
+unfoldable pub leftSeen : List ℕ → ℕ → ℕ → List ℕ
+leftSeen s time i = leftValues (viewTime (heldBook s .time) time) (entryFound s (viewTime (heldBook s .time) time) i)
+
+-- ## The five calls: what each returns, given the room of its buffer, and the buffer after it
+
+abbrev pub bookCode : List ℕ → ℕ → ℕ
+bookCode s room = seenCode s true (bookSeen s) room
+
+abbrev pub bookOut : List ℕ → List ℕ → List ℕ
+bookOut s old = seenOut s true (bookSeen s) old
+
+abbrev pub assetCode : List ℕ → ℕ → ℕ → ℕ
+assetCode s i room = seenCode s (hasAsset s i) (assetSeen s i) room
+
+abbrev pub assetOut : List ℕ → ℕ → List ℕ → List ℕ
+assetOut s i old = seenOut s (hasAsset s i) (assetSeen s i) old
+
+abbrev pub entryCode : List ℕ → ℕ → ℕ → ℕ
+entryCode s i room = seenCode s (hasEntry s i) (entrySeen s i) room
+
+abbrev pub entryOut : List ℕ → ℕ → List ℕ → List ℕ
+entryOut s i old = seenOut s (hasEntry s i) (entrySeen s i) old
+
+abbrev pub playerCode : List ℕ → ℕ → ℕ → ℕ
+playerCode s p room = seenCode s (hasPlayer p) (playerSeen s p) room
+
+abbrev pub playerOut : List ℕ → ℕ → List ℕ → List ℕ
+playerOut s p old = seenOut s (hasPlayer p) (playerSeen s p) old
+
+abbrev pub leftCode : List ℕ → ℕ → ℕ → ℕ → ℕ
+leftCode s i time room = seenCode s (hasEntry s i) (leftSeen s time i) room
+
+abbrev pub leftOut : List ℕ → ℕ → ℕ → List ℕ → List ℕ
+leftOut s i time old = seenOut s (hasEntry s i) (leftSeen s time i) old
+
+-- ## Why
+
+-- whether the code's count says the same
+module _ (s : List ℕ) (b : Book) (n i : ℕ) (same : b ≡ heldBook s) where
+  pub asset-there : n ≡ min (b .assetcount) 64 → hasAsset s i ≡ ltb i n
+  unfolding hasAsset assetsIn
+  asset-there e = ap (ltb i) (sym (e ∙ ap (λ (x : Book). min (x .assetcount) 64) same))
+
+  pub entry-there : n ≡ min (b .entrycount) 64 → hasEntry s i ≡ ltb i n
+  unfolding hasEntry entriesIn
+  entry-there e = ap (ltb i) (sym (e ∙ ap (λ (x : Book). min (x .entrycount) 64) same))
+
+-- what each way out leaves
+
+module _ (s : List ℕ) (there : Bool) (values old : List ℕ) where
+  abbrev pub Seen : ℕ → List ℕ → Type 0
+  Seen code out = (code ≡ seenCode s there values (length old)) × (out ≡ seenOut s there values old)
+
+  pub seen-refused : (code : ℕ) → code ≡ readCode s → (code ≡ 0 → ⊥) → Seen code old
+  unfolding seenCode seenOut
+  seen-refused code e n = rw (ne-eqb (readCode s) 0 (λ z. n (e ∙ z))) (e, refl)
+
+  pub seen-absent : readCode s ≡ 0 → there ≡ false → Seen absent old
+  unfolding seenCode seenOut
+  seen-absent e f = rw (e, f) (refl, refl)
+
+  pub seen-given :
+      (code : ℕ) (out given : List ℕ) →
+      readCode s ≡ 0 →
+      there ≡ true →
+      given ≡ values →
+      (code ≡ fillCode given (length old)) × (out ≡ filled given old) →
+      Seen code out
+  unfolding seenCode seenOut
+  seen-given code out given e f same p =
+      rw (e, f)
+      (p .0 ∙ ap (λ (v : List ℕ). fillCode v (length old)) same, p .1 ∙ ap (λ (v : List ℕ). filled v old) same)

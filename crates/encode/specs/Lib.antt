@@ -1,0 +1,2 @@
+-- The bytes of a record from its numbers, and that they decode to the same numbers.
+pub mod Record

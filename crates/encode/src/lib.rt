@@ -1,0 +1,33 @@
+// An event's six numbers as the 13 bytes of a record.
+ghost use mathlib.Core.Path.{_≡_};
+ghost use Rattle.laws.specs.Fields.{laidOut};
+ghost use Rattle.model.specs.Events.{recordWidths};
+ghost use Rattle.encode.specs.Record.{recordValues};
+
+// Wrong and ruled out: two fields exchanged, the bytes of a number in another order.
+pub fn record_bytes(
+    player: u8,
+    number: u32,
+    operation: u8,
+    asset: u16,
+    kind: u8,
+    time: u32,
+) -> [u8; 13]
+    ensures { λ r. ⌜ r ≡ laidOut recordWidths (recordValues player number operation asset kind time) ⌝ }
+{
+    [
+        player,
+        (number / 16777216 % 256) as u8,
+        (number / 65536 % 256) as u8,
+        (number / 256 % 256) as u8,
+        (number % 256) as u8,
+        operation,
+        (asset / 256 % 256) as u8,
+        (asset % 256) as u8,
+        kind,
+        (time / 16777216 % 256) as u8,
+        (time / 65536 % 256) as u8,
+        (time / 256 % 256) as u8,
+        (time % 256) as u8,
+    ]
+}

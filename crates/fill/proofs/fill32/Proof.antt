@@ -1,0 +1,78 @@
+-- `fill::fill32` meets its contract. After i turns the first i values stand at the start.
+use mathlib.Core.Path.{_≡_, refl, sym}
+use Prim.Native.Nat.{_-_, _<_, _≤_}
+use native.Mathlib.Omega.{arith}
+use denote.Ref.{now}
+use lib.ListN.{length, take, length-set}
+use Rattle.laws.specs.Buffer.{lay, lay-nil}
+use Rattle.fill.specs.Fill.{fill-next, fill-short, fill-done}
+use Rattle.fill.proofs.fill32.Statement.{statement}
+use Rattle.fill.proofs.fill32.Tie as tie
+
+abbrev Inv-loop : tie.InvT-loop
+Inv-loop out₀ numbers i₀ out i = (i ≤ length numbers) × (out ≡ lay out₀ 0 (take i numbers)) × (length out ≡ length out₀)
+
+abbrev μ-loop : tie.MeasureT-loop
+μ-loop out₀ numbers i₀ out i = length numbers - i
+
+returns : tie.Need-returns Inv-loop μ-loop
+returns c = fill-short _ _ (c .if1 .taken)
+
+loop-holds : tie.Need-loop-holds Inv-loop μ-loop
+loop-holds c = (omega arith, sym (lay-nil _ _), refl)
+
+mul-out : tie.Need-mul-out Inv-loop μ-loop
+mul-out c = omega arith
+
+shared-slice-read-out : tie.Need-shared-slice-read-out Inv-loop μ-loop
+shared-slice-read-out c = omega arith
+
+mul-out-2 : tie.Need-mul-out-2 Inv-loop μ-loop
+mul-out-2 c = omega arith
+
+slice-write-out : tie.Need-slice-write-out Inv-loop μ-loop
+slice-write-out c = omega arith
+
+add-i : tie.Need-add-i Inv-loop μ-loop
+add-i c = omega arith
+
+loop-less : tie.Need-loop-less Inv-loop μ-loop
+loop-less c = omega arith
+
+loop-again : tie.Need-loop-again Inv-loop μ-loop
+loop-again c =
+    let a = c .before .before .before .before .args in
+    let l = c .before .before .loop in
+    let h : l .i < length (now (a .out)) = omega arith in (
+      omega arith,
+      rw (l .inv .1) (fill-next (now (a .out)) (now (a .numbers)) (l .i) h (c .before .loop-test .taken)),
+      simp length-set (l .inv .2),
+    )
+
+same-length : tie.Need-same-length Inv-loop μ-loop
+same-length c = c .before .loop .inv .2
+
+returns-2 : tie.Need-returns-2 Inv-loop μ-loop
+returns-2 c =
+    let a = c .before .before .before .args in
+    let l = c .before .loop in
+    let h : length (now (a .numbers)) ≤ length (now (a .out)) = omega arith in
+    fill-done (now (a .numbers)) (now (a .out)) (l .out) (l .i) h (c .loop-test .left) (l .inv .1)
+
+pub fill32-spec : {M : Type 1} → statement M
+fill32-spec =
+    tie.close
+    (tie.spec
+    Inv-loop
+    μ-loop
+    returns
+    loop-holds
+    mul-out
+    shared-slice-read-out
+    mul-out-2
+    slice-write-out
+    add-i
+    loop-less
+    loop-again
+    same-length
+    returns-2)

@@ -1,0 +1,2 @@
+-- What handing out values returns and leaves.
+pub mod Fill

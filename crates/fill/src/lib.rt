@@ -1,0 +1,37 @@
+// Values handed out at the start of a lent buffer: all of them, or none and 30 where it is too short.
+ghost use mathlib.Core.Path.{_≡_};
+ghost use lib.ListN.{length};
+ghost use Rattle.fill.specs.Fill.{fillCode, filled};
+
+// Wrong and ruled out: a buffer touched where it is too short, a byte touched behind the values.
+pub fn fill8(out: &mut [u8], values: &[u8]) -> u8
+    ensures { λ r. ⌜ (r ≡ fillCode (now (values .entry)) (length (now (out .entry))))
+        × (now (out .exit) ≡ filled (now (values .entry)) (now (out .entry))) ⌝ }
+{
+    if out.len() < values.len() {
+        return 30;
+    }
+    let mut i: usize = 0;
+    while i < values.len() {
+        out[i] = values[i];
+        i = i + 1;
+    }
+    0
+}
+
+// The same for numbers of 32 bits.
+// Wrong and ruled out: a buffer touched where it is too short, a number touched behind the values.
+pub fn fill32(out: &mut [u32], numbers: &[u32]) -> u8
+    ensures { λ r. ⌜ (r ≡ fillCode (now (numbers .entry)) (length (now (out .entry))))
+        × (now (out .exit) ≡ filled (now (numbers .entry)) (now (out .entry))) ⌝ }
+{
+    if out.len() < numbers.len() {
+        return 30;
+    }
+    let mut i: usize = 0;
+    while i < numbers.len() {
+        out[i] = numbers[i];
+        i = i + 1;
+    }
+    0
+}

@@ -1,0 +1,16 @@
+-- `views::left_of` meets its contract.
+use borrow.Author.Needs.{needs}
+use Rattle.views.proofs.left_of.Statement.{statement}
+use Rattle.views.proofs.left_of.Tie as tie
+
+less-requires : tie.Need-less-requires
+less-requires c κs = search needs
+
+pick32-requires : tie.Need-pick32-requires
+pick32-requires c κs = search needs
+
+returns : tie.Need-returns
+returns c = rw (c .pick32 .ensures, c .before .less .ensures)
+
+pub left-of-spec : {M : Type 1} → statement M
+left-of-spec = tie.close (tie.spec less-requires pick32-requires returns)

@@ -1,0 +1,2 @@
+-- What a book holds, as numbers.
+pub mod Views

@@ -1,0 +1,36 @@
+-- What a caller without the book's structs gets to see of it, as lists of numbers. The fields of an asset, an entry and a
+-- player stand in the image's order (`assetValues`, `entryValues`, `playerValues` of `Image`); here is what stands in no image.
+use Prim.Native.Nat.{ℕ, _-_}
+use mathlib.Core.Bool.{Bool, cond}
+use mathlib.Core.List.{List, [], _∷_}
+use lib.Dec.{ltb}
+use Rattle.laws.specs.Count.{one}
+use Rattle.book.specs.declared.Entry.{Entry}
+use Rattle.book.specs.declared.Book.{Book}
+use Rattle.model.specs.Book.{assetsIn, entriesIn, flagged}
+use Rattle.model.specs.Events.{grantable}
+
+-- how many assets and entries there are, and the book's time
+unfoldable pub bookValues : Book → List ℕ
+bookValues b = assetsIn b ∷ entriesIn b ∷ b .time ∷ []
+
+-- no event comes before the book's time, so nothing is looked at before it
+abbrev pub viewTime : ℕ → ℕ → ℕ
+viewTime now time = cond (ltb time now) now time
+
+-- what stands for "not limited": more than any limit
+abbrev pub unlimited : ℕ
+unlimited = 4294967295
+
+abbrev pub left : Bool → ℕ → ℕ → ℕ
+left flag most used = cond flag (most - used) unlimited
+
+-- of an entry at t: whether it is "**Grantable** at t" by its own limits (1 or 0), and what is left of its count, its timed
+-- count and its seconds
+unfoldable pub leftValues : ℕ → Entry → List ℕ
+leftValues t e =
+    one (grantable t (e .limits) (e .meters))
+    ∷ left (flagged 1 (e .limits)) (e .limits .count) (e .meters .count)
+    ∷ left (flagged 2 (e .limits)) (e .limits .timed) (e .meters .timed)
+    ∷ left (flagged 32 (e .limits)) (e .limits .accumulated) (e .meters .seconds)
+    ∷ []

@@ -1,0 +1,111 @@
+// What is in a book as plain numbers, for a caller that has no such structs: the fields in the order of the image, and
+// what is left of an entry.
+ghost use mathlib.Core.Path.{_≡_};
+ghost use Rattle.model.specs.Image.{assetValues, entryValues, playerValues};
+ghost use Rattle.views.specs.Views.{bookValues, left, leftValues, viewTime};
+use book::Asset;
+use book::Book;
+use book::Entry;
+use book::Player;
+use book::at_most_64;
+use rules::flags_of;
+use rules::grantable;
+use rules::less;
+use rules::one;
+use rules::pick32;
+
+// How many assets and entries, and the time.
+// Wrong and ruled out: the two counts exchanged.
+pub fn book_values(b: Book) -> [u32; 3]
+    ensures { λ r. ⌜ r ≡ bookValues b ⌝ }
+{
+    let assets = at_most_64(b.assetcount);
+    let entries = at_most_64(b.entrycount);
+    [assets as u32, entries as u32, b.time]
+}
+
+// Wrong and ruled out: number and inherit exchanged.
+pub fn asset_values(a: Asset) -> [u32; 3]
+    ensures { λ r. ⌜ r ≡ assetValues a ⌝ }
+{
+    [a.number as u32, a.inherit as u32, a.key as u32]
+}
+
+// Wrong and ruled out: a limit and its meter exchanged, a field left out.
+pub fn entry_values(e: Entry) -> [u32; 16]
+    ensures { λ r. ⌜ r ≡ entryValues e ⌝ }
+{
+    let l = e.limits;
+    let m = e.meters;
+    [
+        l.object as u32,
+        l.asset as u32,
+        l.kind as u32,
+        l.flags as u32,
+        l.count,
+        l.timed,
+        l.timer,
+        l.start,
+        l.end,
+        l.interval,
+        l.accumulated,
+        m.count,
+        m.timed,
+        m.first,
+        m.seconds,
+        m.started as u32,
+    ]
+}
+
+// Wrong and ruled out: the answer's until for the open use's.
+pub fn player_values(p: Player) -> [u32; 11]
+    ensures { λ r. ⌜ r ≡ playerValues p ⌝ }
+{
+    let l = p.last;
+    let a = l.answer;
+    let o = p.current;
+    [
+        l.number,
+        l.operation as u32,
+        l.asset as u32,
+        l.kind as u32,
+        a.code as u32,
+        a.entry as u32,
+        a.until,
+        o.on as u32,
+        o.entry as u32,
+        o.begin,
+        o.until,
+    ]
+}
+
+// The time at which a book is looked at: none before its own.
+// Wrong and ruled out: the earlier of the two.
+pub fn view_time(now: u32, time: u32) -> u32
+    ensures { λ r. ⌜ r ≡ viewTime now time ⌝ }
+{
+    pick32(time < now, now, time)
+}
+
+// Wrong and ruled out: a difference where nothing is limited, one that wraps.
+fn left_of(flag: bool, most: u32, used: u32) -> u32
+    ensures { λ r. ⌜ r ≡ left flag most used ⌝ }
+{
+    pick32(flag, less(most, used), 4294967295)
+}
+
+// What is left of an entry at a time at which nothing is due any more.
+// Wrong and ruled out: what is used for what is left, an entry out of its dates as grantable.
+pub fn left_values(e: Entry, time: u32) -> [u32; 4]
+    ensures { λ r. ⌜ r ≡ leftValues time e ⌝ }
+{
+    let l = e.limits;
+    let m = e.meters;
+    let f = flags_of(l);
+    [
+        one(grantable(l, m, time)) as u32,
+        left_of(f.count, l.count, m.count),
+        left_of(f.timed, l.timed, m.timed),
+        left_of(f.accumulated, l.accumulated, m.seconds),
+    ]
+}

@@ -1,0 +1,155 @@
+/* What a call costs: microseconds, and bytes of stack.
+ *
+ *     cost rights.rbk player number operation asset kind time
+ *
+ * calls each function on the book many times over, on a copy of the image for each call that changes it, and prints a
+ * line for each. The stack is measured by painting one and looking how far down the paint is gone. */
+#define _POSIX_C_SOURCE 200809L
+#include <pthread.h>
+#include <stdio.h>
+#include <stdlib.h>
+#include <string.h>
+#include <time.h>
+
+#include "../rights.h"
+
+enum { TIMES = 20000, STACK = 1 << 20, PAINT = 0xa5 };
+
+static uint8_t image[RIGHTS_LONGEST_IMAGE + 1], copy[RIGHTS_LONGEST_IMAGE + 1], record[RIGHTS_RECORD], out[RIGHTS_LINE];
+static size_t length;
+static uint32_t event[6], numbers[RIGHTS_ENTRY_NUMBERS];
+static uint8_t code, entry;
+static uint32_t until;
+static uint64_t written;
+
+static void fail(const char *what)
+{
+    fprintf(stderr, "cost: %s\n", what);
+    exit(1);
+}
+
+static uint8_t nothing(void)
+{
+    memcpy(copy, image, length);
+    return 0;
+}
+
+static uint8_t check(void)
+{
+    return rights_check(image, length);
+}
+
+static uint8_t answer(void)
+{
+    memcpy(copy, image, length);
+    return rights_answer(copy, length, record, sizeof record, out, sizeof out, &written);
+}
+
+static uint8_t answer_one(void)
+{
+    memcpy(copy, image, length);
+    return rights_answer_one(copy, length, (uint8_t)event[0], event[1], (uint8_t)event[2], (uint16_t)event[3],
+                             (uint8_t)event[4], event[5], &code, &entry, &until);
+}
+
+static uint8_t make(void)
+{
+    return rights_record((uint8_t)event[0], event[1], (uint8_t)event[2], (uint16_t)event[3], (uint8_t)event[4],
+                         event[5], record, sizeof record);
+}
+
+static uint8_t book(void)
+{
+    return rights_book(image, length, numbers, RIGHTS_ENTRY_NUMBERS);
+}
+
+static uint8_t asset(void)
+{
+    return rights_asset(image, length, 0, numbers, RIGHTS_ENTRY_NUMBERS);
+}
+
+static uint8_t one_entry(void)
+{
+    return rights_entry(image, length, 0, numbers, RIGHTS_ENTRY_NUMBERS);
+}
+
+static uint8_t left(void)
+{
+    return rights_left(image, length, 0, event[5], numbers, RIGHTS_ENTRY_NUMBERS);
+}
+
+static uint8_t player(void)
+{
+    return rights_player(image, length, 0, numbers, RIGHTS_ENTRY_NUMBERS);
+}
+
+static const struct {
+    const char *name;
+    uint8_t (*call)(void);
+} calls[] = {
+    {"(a copy of the image)", nothing}, {"rights_check", check},   {"rights_record", make},
+    {"rights_answer", answer},          {"rights_answer_one", answer_one},
+    {"rights_book", book},              {"rights_asset", asset},   {"rights_entry", one_entry},
+    {"rights_left", left},              {"rights_player", player},
+};
+
+static uint8_t (*now)(void);
+
+static void *thread(void *nothing_more)
+{
+    (void)nothing_more;
+    now();
+    return NULL;
+}
+
+/* What the thread itself uses of its stack is counted too: some 2 to 3 KB. */
+static size_t stack_of(uint8_t (*call)(void))
+{
+    static uint8_t *stack;
+    pthread_attr_t attributes;
+    pthread_t id;
+    if (!stack && posix_memalign((void **)&stack, 4096, STACK) != 0)
+        fail("no memory");
+    memset(stack, PAINT, STACK);
+    now = call;
+    if (pthread_attr_init(&attributes) || pthread_attr_setstack(&attributes, stack, STACK)
+        || pthread_create(&id, &attributes, thread, NULL) || pthread_join(id, NULL))
+        fail("no thread");
+    size_t free_bytes = 0;
+    while (free_bytes < STACK && stack[free_bytes] == PAINT)
+        free_bytes++;
+    return STACK - free_bytes;
+}
+
+static double seconds(void)
+{
+    struct timespec t;
+    clock_gettime(CLOCK_MONOTONIC, &t);
+    return (double)t.tv_sec + (double)t.tv_nsec / 1e9;
+}
+
+int main(int count, char **words)
+{
+    FILE *f = count == 8 ? fopen(words[1], "rb") : NULL;
+    if (!f)
+        fail("usage: cost rights.rbk player number operation asset kind time");
+    length = fread(image, 1, sizeof image, f);
+    for (int i = 0; i < 6; i++)
+        event[i] = (uint32_t)strtoul(words[i + 2], NULL, 10);
+    if (make() || check())
+        fail("the book is refused");
+    for (size_t i = 0; i < sizeof calls / sizeof *calls; i++) {
+        double best = 1e9;
+        for (int round = 0; round < 5; round++) {
+            double from = seconds();
+            for (int n = 0; n < TIMES; n++)
+                if (calls[i].call())
+                    fail(calls[i].name);
+            double took = (seconds() - from) / TIMES;
+            best = took < best ? took : best;
+        }
+        printf("%-24s %8.3f us %8zu bytes of stack\n", calls[i].name, best * 1e6, stack_of(calls[i].call));
+    }
+    printf("answer: %u %u %u\n", code, entry, until);
+    return 0;
+}

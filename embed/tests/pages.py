@@ -1,0 +1,111 @@
+"""Holds docs/FORMAT.md and embed/rights.h to the second program (oracle/rights.py): each table of fields with its offsets and
+widths, the lengths, and the numbers that the header names. Prints nothing where all of it agrees."""
+
+import re
+import sys
+from pathlib import Path
+
+ROOT = Path(__file__).resolve().parents[2]
+sys.path.insert(0, str(ROOT / "oracle"))
+import rights  # noqa: E402
+
+RECORD_FIELDS = [("player", 1), ("number", 4), ("operation", 1), ("asset", 2), ("kind", 1), ("time", 4)]
+HEADER_FIELDS = [("mark", 3), ("version", 2), ("assets", 1), ("entries", 1), ("time", 4)]
+TABLES = [
+    ("An event record", RECORD_FIELDS), ("Header", HEADER_FIELDS), ("Asset", rights.ASSET_FIELDS),
+    ("Entry", rights.ENTRY_FIELDS), ("Player", rights.PLAYER_FIELDS)]
+
+# the codes of document 01's table, and 31, each with the header's name; the first of each row has the number
+CODES = {
+    0: "OK",
+    1: "BAD_REQUEST BAD_PLAYER OUT_OF_LINE NUMBER_USED BAD_TIME CUT_SHORT",
+    10: "NO_ASSET ALREADY_OPEN NONE_SUITABLE NONE_GRANTABLE NOTHING_OPEN NO_MORE_TIME",
+    20: "IMAGE_LENGTH IMAGE_MARK IMAGE_VERSION IMAGE_HEADER IMAGE_ASSETS IMAGE_ENTRIES IMAGE_PLAYERS IMAGE_METERS",
+    30: "SHORT_OUT NOT_THERE",
+}
+
+# names of the second program's fields that the header has under another name
+RENAMED = {"answer_until": "until", "begin": "open_begin", "until": "open_until"}
+
+
+def must(test, what):
+    if not test:
+        sys.exit(f"pages: {what}")
+
+
+def page_tables(page):
+    for title, fields in TABLES:
+        part = re.search(rf"^##+ {title}: (\d+) bytes\n(.*?)(?=^##|\Z)", page, re.M | re.S)
+        must(part, f"no table of {title}")
+        must(int(part[1]) == sum(width for _, width in fields), f"the length of {title}")
+        rows = re.findall(r"^\| (\d+) \| (\d+) \| (\w+) \|", part[2], re.M)
+        found = [(int(at), int(width), name) for at, width, name in rows]
+        expected, at = [], 0
+        for name, width in fields:
+            expected.append((at, width, name))
+            at += width
+        must(found == expected, f"the fields of {title}: {found}")
+
+
+def page_example(page):
+    """The record and the first lines of the image that the page shows."""
+    record = re.search(r"^`([0-9a-f ]+)`: player 0, number 1", page, re.M)
+    must(record, "no example of a record")
+    event = rights.Event(0, 1, rights.BEGIN, 1, rights.PLAY, 1000)
+    must(bytes.fromhex(record[1].replace(" ", "")) == rights.encode(event), "the example of a record")
+    image = (ROOT / "examples/afternoon/rights.rbk").read_bytes()
+    lines = re.findall(r"^    ((?:[0-9a-f]{2} +)+)(?:\.\.)? *[a-z]", page, re.M)
+    shown = bytes.fromhex("".join(lines).replace(" ", ""))
+    must(len(lines) == 6 and image.startswith(shown), "the example of an image")
+
+
+def header_numbers(header):
+    """The enums of the header: a name with its number, counted on from the one before where none is given."""
+    numbers = {}
+    for block in re.findall(r"enum \{(.*?)\};", re.sub(r"/\*.*?\*/", "", header, flags=re.S), re.S):
+        following = 0
+        for word in filter(None, (word.strip() for word in block.split(","))):
+            name, _, value = (part.strip() for part in word.partition("="))
+            following = int(value) if value else following
+            numbers[name] = following
+            following += 1
+    return numbers
+
+
+def header_positions(numbers):
+    for prefix, fields in (("ASSET", rights.ASSET_FIELDS), ("ENTRY", rights.ENTRY_FIELDS),
+                           ("PLAYER", rights.PLAYER_FIELDS)):
+        for position, (name, _) in enumerate(fields):
+            named = RENAMED.get(name, name) if prefix == "PLAYER" else name
+            must(numbers.get(f"RIGHTS_{prefix}_{named.upper()}") == position, f"{prefix} {name} in the header")
+        must(numbers[f"RIGHTS_{prefix}_NUMBERS"] == len(fields), f"how many numbers of {prefix}")
+    at = 0
+    for name, width in RECORD_FIELDS:
+        must(numbers.get(f"RIGHTS_RECORD_{name.upper()}") == at, f"the record's {name} in the header")
+        at += width
+    must(numbers["RIGHTS_RECORD"] == at, "the record's length in the header")
+
+
+def header_words(numbers):
+    for name in ("BEGIN", "CONTINUE", "STOP", "PLAY", "DISPLAY", "EXECUTE", "PRINT", "EXPORT", "PLAYERS"):
+        must(numbers[f"RIGHTS_{name}"] == getattr(rights, name), name)
+    for name in ("COUNT", "TIMED", "START", "END", "INTERVAL", "ACCUMULATED"):
+        must(numbers[f"RIGHTS_HAS_{name}"] == getattr(rights, name), name)
+    longest = rights.write(rights.Book(0, [rights.Asset()] * rights.MOST, [rights.Entry()] * rights.MOST))
+    must(numbers["RIGHTS_LONGEST_IMAGE"] == len(longest), "the longest image")
+    for first, names in CODES.items():
+        for code, name in enumerate(names.split(), first):
+            must(numbers.get(f"RIGHTS_{name}") == code, f"code {code} in the header")
+
+
+def main():
+    page = (ROOT / "docs/FORMAT.md").read_text()
+    numbers = header_numbers((ROOT / "embed/rights.h").read_text())
+    page_tables(page)
+    page_example(page)
+    header_positions(numbers)
+    header_words(numbers)
+
+
+if __name__ == "__main__":
+    main()
