@@ -57,10 +57,10 @@ wrong-length : (n a p : ℕ) (late : Bool) → 3980 ≤ n
 unfolding imageLength
 wrong-length n a p late h =
     unless (ltb 64 a || ltb 64 p || late) 23 _ _ (λ q.
-      let two = neither (ltb 64 a) (ltb 64 p) (neither (ltb 64 a || ltb 64 p) late q .0) in
-      let la : a ≤ 64 = ltb-false 64 a (two .0) in
-      let lp : p ≤ 64 = ltb-false 64 p (two .1) in
-      ap (λ (t : Bool). cond {A = ℕ} (not t) 20 0) (ne-eqb n (imageLength a p) (λ e. omega arith)))
+    let two = neither (ltb 64 a) (ltb 64 p) (neither (ltb 64 a || ltb 64 p) late q .0) in
+    let la : a ≤ 64 = ltb-false 64 a (two .0) in
+    let lp : p ≤ 64 = ltb-false 64 p (two .1) in
+    ap (λ (t : Bool). cond {A = ℕ} (not t) 20 0) (ne-eqb n (imageLength a p) (λ e. omega arith)))
 
 module _ (s : List ℕ) (long : 3980 ≤ length s) where
   long-header : headerBroken s ≡ longStages (valuesAt headerWidths 0 s)
@@ -87,14 +87,14 @@ module _ (m : ℕ) (enough : 3980 ≤ m) (s : List ℕ) where
   cut-code =
       below-or-not m (length s)
       (λ h.
-        let l : 3980 ≤ length (take m s) = rw (length-take-le m s (omega arith)) enough in
-        long-code (take m s) l ∙ ap longStages (values-cut m s headerWidths 0 (omega arith)) ∙ sym (long-code s (omega arith)))
+      let l : 3980 ≤ length (take m s) = rw (length-take-le m s (omega arith)) enough in
+      long-code (take m s) l ∙ ap longStages (values-cut m s headerWidths 0 (omega arith)) ∙ sym (long-code s (omega arith)))
       (λ h. ap readCode (take-all m s h))
 
   pub cut-book : (held : Book) → readBook held (take m s) ≡ readBook held s
   cut-book held =
       below-or-not m (length s)
       (λ h.
-        let l : 3980 ≤ length (take m s) = rw (length-take-le m s (omega arith)) enough in
-        long-book (take m s) l held ∙ sym (long-book s (omega arith) held))
+      let l : 3980 ≤ length (take m s) = rw (length-take-le m s (omega arith)) enough in
+      long-book (take m s) l held ∙ sym (long-book s (omega arith) held))
       (λ h. ap (readBook held) (take-all m s h))

@@ -32,7 +32,7 @@ returns c f begins =
     let image = a .image .now in
     let least : c .before .lesser .result ≡ min (a .n) (length image) = omega arith in
     let there : take (c .before .lesser .result) image ≡ take (length image) f =
-      ap (λ (k : ℕ). take k image) least ∙ least-take (a .n) image ∙ sym begins in
+    ap (λ (k : ℕ). take k image) least ∙ least-take (a .n) image ∙ sym begins in
     let large : 3980 ≤ length image = omega arith in (
       c .read-first .ensures .0 ∙ ap readCode there ∙ cut-code (length image) large f,
       c .read-first .ensures .1 ∙ ap (readBook noBook) there ∙ cut-book (length image) large f noBook,

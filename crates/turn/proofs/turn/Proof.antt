@@ -13,6 +13,7 @@ use Rattle.book.specs.declared.Book.{Book}
 use Rattle.model.specs.Run.{recordCount, runText, runBook}
 use Rattle.runner.specs.Block.{fits, blockBook, blockWritten, blockBuffer}
 use Rattle.turn.specs.Turn.{keptCount, answeredOf, keptOf, inside, bookAfter, textAfter, writtenAfter, outAfter, keptAfter, inputAfter}
+use Rattle.turn.specs.Kept.{kept-less}
 use Rattle.turn.proofs.turn.Statement.{statement}
 use Rattle.turn.proofs.turn.Tie as tie
 
@@ -29,11 +30,6 @@ left-refused : (b : Book) (input : List ℕ) (n : ℕ) (ended : Bool) (out : Lis
 unfolding bookAfter writtenAfter outAfter keptAfter inputAfter
 left-refused b input n ended out e = (sym e, (rw e, (rw e, (rw e, (rw e, rw e)))))
 
--- no more is kept than is there
-kept-less : (ended : Bool) (n kept : ℕ) → kept ≡ cond ended 0 (n % 13) → kept ≤ n
-kept-less true n kept e = omega arith
-kept-less false n kept e = omega arith
-
 -- a part of the front
 part : (a k : ℕ) (l : List ℕ) → a + k ≤ length l → drop a (take (a + k) l) ≡ take k (drop a l)
 part a k l h = ap (drop a) (take-add a k l) ∙ drop-at (take a l) (take k (drop a l)) a (length-take-le a l (omega arith))
@@ -44,7 +40,8 @@ module _ (b : Book) (input : List ℕ) (n : ℕ) (ended : Bool) (out : List ℕ)
   there = leb-true n (length input) inside-is
 
   less : kept ≤ n
-  less = kept-less ended n kept count
+  unfolding keptCount
+  less = rw count (kept-less ended n)
 
   abbrev records : List ℕ
   records = take (n - kept) input
@@ -98,7 +95,8 @@ pick-requires : tie.Need-pick-requires
 pick-requires c κs = search needs
 
 sub-whole : tie.Need-sub-whole
-sub-whole c = let a = c .before .before .before .before .before .args in kept-less (a .ended) (a .n) (c .pick .result) (c .pick .ensures)
+unfolding keptCount
+sub-whole c = let a = c .before .before .before .before .before .args in rw (c .pick .ensures) (kept-less (a .ended) (a .n))
 
 answer-first-requires : tie.Need-answer-first-requires
 answer-first-requires c κs =
@@ -108,12 +106,13 @@ answer-first-requires c κs =
     omega arith
 
 move-front-requires : tie.Need-move-front-requires
+unfolding keptCount
 move-front-requires c κs =
     let at-pick = c .before .before .before .before .before .before in
     let at-test = at-pick .before in
     let a = at-test .before .before .before .before .args in
     let there : a .n ≤ length (a .input .now) = leb-true (a .n) (length (a .input .now)) (sym (at-test .before .within .ensures) ∙ not-false (at-test .before .within .result) (at-test .if1 .left)) in
-    let less : at-pick .pick .result ≤ a .n = kept-less (a .ended) (a .n) (at-pick .pick .result) (at-pick .pick .ensures) in
+    let less : at-pick .pick .result ≤ a .n = rw (at-pick .pick .ensures) (kept-less (a .ended) (a .n)) in
     omega arith
 
 returns-2 : tie.Need-returns-2
