@@ -8,17 +8,12 @@ use turn::IMAGE;
 use turn::INPUT;
 use turn::OUT;
 
-// A thousandth of a second.
-fn pause() {
-    libc::sched_yield();
-}
-
 // After a read or a write that failed: whether to try it again. A descriptor that does not block had nothing to move yet, or a
 // signal came first.
 fn waited() -> bool {
     let e = os::errno();
     if e == libc::EAGAIN {
-        pause();
+        pause::pause();
         return true;
     }
     e == libc::EINTR

@@ -9,6 +9,7 @@ use mathlib.Core.Bool.{Bool, true, false, cond}
 use mathlib.Core.List.{List, _++_}
 use lib.ListN.{length, take, drop}
 use lib.Seq.{length-take-le, take-take, take-add, drop-at}
+use Rattle.laws.specs.Tests.{on-test}
 use Rattle.book.specs.declared.Book.{Book}
 use Rattle.model.specs.Run.{recordCount, runText, runBook}
 use Rattle.runner.specs.Block.{fits, blockBook, blockWritten, blockBuffer}
@@ -95,8 +96,10 @@ pick-requires : tie.Need-pick-requires
 pick-requires c κs = search needs
 
 sub-whole : tie.Need-sub-whole
-unfolding keptCount
-sub-whole c = let a = c .before .before .before .before .before .args in rw (c .pick .ensures) (kept-less (a .ended) (a .n))
+sub-whole c =
+    on-test (c .before .before .before .before .before .args .ended)
+    (λ q. let e = rw q at (c .pick .ensures) in omega arith)
+    (λ q. let e = rw q at (c .pick .ensures) in omega arith)
 
 answer-first-requires : tie.Need-answer-first-requires
 answer-first-requires c κs =
@@ -106,14 +109,12 @@ answer-first-requires c κs =
     omega arith
 
 move-front-requires : tie.Need-move-front-requires
-unfolding keptCount
 move-front-requires c κs =
     let at-pick = c .before .before .before .before .before .before in
     let at-test = at-pick .before in
     let a = at-test .before .before .before .before .args in
     let there : a .n ≤ length (a .input .now) = leb-true (a .n) (length (a .input .now)) (sym (at-test .before .within .ensures) ∙ not-false (at-test .before .within .result) (at-test .if1 .left)) in
-    let less : at-pick .pick .result ≤ a .n = rw (at-pick .pick .ensures) (kept-less (a .ended) (a .n)) in
-    omega arith
+    on-test (a .ended) (λ q. let e = rw q at (at-pick .pick .ensures) in omega arith) (λ q. let e = rw q at (at-pick .pick .ensures) in omega arith)
 
 returns-2 : tie.Need-returns-2
 returns-2 c =
