@@ -1,139 +1,194 @@
 // The run program: the book from rights.rbk, event records from standard input, a line for each answer on standard output.
-// This crate only moves bytes: what an image and a record mean is decided in the crates below it.
+// This crate only reads and writes: what is done between two reads is the crate `turn`, what an image and a record mean is below that.
 // What one read brings is answered by one write before the next read, so that a player at a pipe need not wait for others.
-ghost use mathlib.Core.Path.{_≡_};
-ghost use Prim.Native.Nat.{_+_, _≤_};
-ghost use lib.ListN.{length, take, drop};
-ghost use Rattle.io.specs.Counts.{Counts};
+ghost use Prim.Native.Nat.{_≤_};
+ghost use lib.ListN.{length};
 use book::Book;
-use image_read::Loaded;
+use turn::IMAGE;
+use turn::INPUT;
+use turn::OUT;
 
-// The book after some records, and whether their lines could be written.
-struct Served {
-    book: Book,
-    sent: bool,
+// After a read or a write that failed: whether to try it again. A descriptor that does not block had nothing to move yet, or a
+// signal came first.
+fn waited() -> bool {
+    let e = os::errno();
+    if e == libc::EAGAIN {
+        pause::pause();
+        return true;
+    }
+    e == libc::EINTR
+}
+
+// One read, behind the first bytes of s: how many bytes came, 0 at the end, less where the read failed.
+fn read_once(fd: i32, s: &mut [u8], from: usize) -> isize
+    requires { ⌜ from ≤ length (now s) ⌝ }
+{
+    libc::read(fd, &mut s[from..])
+}
+
+// The same, tried until bytes come, the end, or a failure that waiting does not mend.
+// A proved loop has to end, and nothing says that the waiting does: it counts down from a number that no run uses up.
+fn read_more(fd: i32, s: &mut [u8], from: usize) -> isize
+    requires { ⌜ from ≤ length (now s) ⌝ }
+{
+    let mut left = u64::MAX;
+    while left > 0 {
+        let got = read_once(fd, s, from);
+        if got >= 0 {
+            return got;
+        }
+        if !waited() {
+            return got;
+        }
+        left = left - 1;
+    }
+    -1
+}
+
+// How many bytes of s are there once got have come behind the first ones.
+fn filled(s: &[u8], from: usize, got: isize) -> usize
+    requires { ⌜ from ≤ length (now s) ⌝ }
+    ensures { λ r. ⌜ r ≤ length (now (s .entry)) ⌝ }
+{
+    from + io::count(got, &s[from..])
+}
+
+// The file's bytes to the start of image, until it ends or image is full, and how many. One that cannot be read counts as empty.
+fn read_file(fd: i32, image: &mut [u8]) -> usize
+    ensures { λ r. ⌜ r ≤ length (now (image .exit)) ⌝ }
+{
+    let mut n: usize = 0;
+    while n < image.len() {
+        let got = read_more(fd, image, n);
+        if got < 0 {
+            os::fail(b"rights.rbk");
+            return 0;
+        }
+        let there = filled(image, n, got);
+        if there <= n {
+            return n;
+        }
+        n = there;
+    }
+    n
 }
 
 // The bytes of rights.rbk to the start of image, and how many. A missing file counts as empty.
-// One byte more than the longest image is enough to refuse a longer file.
-fn load(image: &mut [u8]) -> usize
-    ensures { λ r. ⌜ Counts r (now (image .exit)) ⌝ }
-{
+fn read_image(image: &mut [u8; IMAGE]) -> usize {
     let fd = os::open_read(b"rights.rbk");
     if fd < 0 {
+        if os::errno() != libc::ENOENT {
+            os::fail(b"rights.rbk");
+        }
         return 0;
     }
-    let n = io::read_full(fd, image);
+    let n = read_file(fd, image);
     libc::close(fd);
     n
 }
 
-fn load_book() -> Loaded {
-    let mut image = [0u8; 3980];
-    let n = load(&mut image);
-    image_read::read(book::blank_book(), &image[..n])
-}
-
-fn print_refusal(code: u8) {
-    io::print_decimal(1, code as u64);
-    if !io::write_all(1, b"\n") {
-        os::fail(b"standard output");
-    }
-}
-
-// One read of what is there, behind the kept bytes: how many came, 0 at the end of the input, less where the read failed.
-fn read_more(input: &mut [u8], kept: usize) -> isize
-    requires { ⌜ kept ≤ length (now input) ⌝ }
+// One write of text from a place on: how many bytes were taken, less than 0 where it failed.
+fn write_once(text: &[u8], from: usize) -> isize
+    requires { ⌜ from ≤ length (now text) ⌝ }
 {
-    libc::read(0, &mut input[kept..])
+    libc::write(1, &text[from..])
 }
 
-// How many bytes of input are there once got have come behind the kept ones.
-fn filled(input: &[u8], kept: usize, got: isize) -> usize
-    requires { ⌜ kept ≤ length (now input) ⌝ }
-    ensures { λ r. ⌜ r ≤ length (now (input .entry)) ⌝ }
-{
-    kept + io::count(got, &input[kept..])
-}
-
-// Writes the first n bytes of text.
-fn send(text: &[u8], n: usize) -> bool {
-    if n <= text.len() {
-        return io::write_all(1, &text[..n]);
+// Writes all of text, what one write leaves by the next.
+fn write_text(text: &[u8]) -> bool {
+    let mut done: usize = 0;
+    let mut left = u64::MAX;
+    while left > 0 {
+        if done >= text.len() {
+            return true;
+        }
+        let put = write_once(text, done);
+        if put == 0 {
+            return false;
+        }
+        if put < 0 {
+            if !waited() {
+                return false;
+            }
+        }
+        done = filled(text, done, put);
+        left = left - 1;
     }
     false
 }
 
-// Answers the records at the start of input, n bytes of them, and writes their lines.
-fn answer(b: Book, input: &[u8], n: usize, out: &mut [u8]) -> Served
-    requires { ⌜ n ≤ length (now input) ⌝ }
-{
-    let r = runner::answer_block(b, &input[..n], out);
-    let next = r.book;
-    let sent = send(out, r.written);
-    if !sent {
-        os::fail(b"standard output");
+// Writes text, or says why that failed.
+fn send(text: &[u8]) -> bool {
+    if write_text(text) {
+        return true;
     }
-    Served {
-        book: next,
-        sent: sent,
+    os::fail(b"standard output");
+    false
+}
+
+fn send_first(text: &[u8], n: usize) -> bool
+    requires { ⌜ n ≤ length (now text) ⌝ }
+{
+    send(&text[..n])
+}
+
+fn print_refusal(code: u8) {
+    let mut digits = [0u8; 20];
+    let n = io::decimal(code as u64, &mut digits);
+    if send(&digits[..n]) {
+        send(b"\n");
     }
 }
 
-// Moves the n bytes from a place on to the start.
-fn move_front(s: &mut [u8], from: usize, n: usize)
-    requires { ⌜ from + n ≤ length (now s) ⌝ }
-    ensures { λ _. ⌜ take n (now (s .exit)) ≡ take n (drop from (now (s .entry))) ⌝ }
-{
-    let mut i: usize = 0;
-    while i < n {
-        s[i] = s[from + i];
-        i = i + 1;
-    }
-}
-
-// Answers what each read brings, until the input ends. Less than a record is kept for the next read; what is kept at the end is a record cut short.
-// Only whole records are answered before the end, so the pieces print what the whole input would (the laws of crate `blocks`).
-// A proved loop has to end, and nothing says that the input does: it counts down from a number that no run uses up.
-fn answer_reads(b: Book, input: &mut [u8], out: &mut [u8])
-    requires { ⌜ 13 ≤ length (now input) ⌝ }
-{
+// Answers what each read brings, until the input ends. What is kept of a record goes with the next read.
+// Nothing says that the input ends either: this loop counts down too.
+fn answer_reads(b: Book, input: &mut [u8; INPUT], out: &mut [u8; OUT]) {
     let mut book = b;
     let mut kept: usize = 0;
     let mut left = u64::MAX;
     while left > 0 {
-        let got = read_more(input, kept);
+        let got = read_more(0, input, kept);
         if got < 0 {
             os::fail(b"standard input");
             return;
         }
-        if got == 0 {
-            answer(book, input, kept, out);
-            return;
-        }
+        let ended = got == 0;
         let there = filled(input, kept, got);
-        kept = there % 13;
-        let whole = there - kept;
-        let s = answer(book, input, whole, out);
-        if !s.sent {
+        let t = turn::turn(book, input, there, ended, out);
+        if !send_first(out, t.written) {
             return;
         }
-        let next = s.book;
+        if ended {
+            return;
+        }
+        let next = t.book;
         book = next;
-        move_front(input, whole, kept);
+        kept = t.kept;
         left = left - 1;
     }
 }
 
-// Room for 5,041 records and what is kept of one more, and for their lines of at most 19 bytes each.
 fn answer_all(b: Book) {
-    let mut input = [0u8; 65545];
-    let mut out = [0u8; 95779];
+    let mut input = [0u8; INPUT];
+    let mut out = [0u8; OUT];
     answer_reads(b, &mut input, &mut out);
 }
 
+fn explain() {
+    io::write_all(
+        2,
+        b"run takes no argument. Start it in the folder of rights.rbk, with event records on standard input: run < events\n",
+    );
+}
+
 pub fn serve() {
-    let l = load_book();
+    if os::arg_count() > 1 {
+        explain();
+        return;
+    }
+    let mut image = [0u8; IMAGE];
+    let n = read_image(&mut image);
+    let l = turn::load(&image, n);
     if l.code != 0 {
         print_refusal(l.code);
         return;

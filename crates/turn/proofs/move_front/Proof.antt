@@ -1,13 +1,13 @@
 -- `move_front`: the first i bytes are moved, and those from i on are as they were.
 use Prim.Native.Nat.{ℕ, suc, _+_, _-_, _≤_, _<_}
 use native.Mathlib.Omega.{arith}
-use mathlib.Core.Path.{_≡_, refl, sym, ap, _∙_}
-use mathlib.Core.List.{List}
+use mathlib.Core.Path.{_≡_, refl, sym, ap, ap₂, _∙_}
+use mathlib.Core.List.{List, _++_}
 use native.Mathlib.Numerals.{add-one}
-use lib.ListN.{length, take, drop, set, getD, length-drop, length-set}
+use lib.ListN.{length, take, drop, set, getD, length-drop, length-set, take-append-drop}
 use lib.Seq.{take-suc, take-suc-set, drop-set-lt, drop-drop, getD-drop}
-use Rattle.serve.proofs.move_front.Statement.{statement}
-use Rattle.serve.proofs.move_front.Tie as tie
+use Rattle.turn.proofs.move_front.Statement.{statement}
+use Rattle.turn.proofs.move_front.Tie as tie
 
 abbrev Inv-loop : tie.InvT-loop
 Inv-loop s₀ from n i₀ s i =
@@ -31,6 +31,11 @@ module _ (old s : List ℕ) (from i n : ℕ) (below : i < n) (fits : from + n �
       let o : i + from ≡ from + i = omega arith in
       rw add-one
       (cc (take-suc-set s i value m, take-suc (drop from old) i 0 l, getD-drop from old i 0, getD-drop i s from 0, getD-drop i old from 0))
+
+-- a list is its front and its back
+front-back : (s : List ℕ) (n : ℕ) (old : List ℕ) (from : ℕ) → take n s ≡ take n (drop from old) → drop n s ≡ drop n old
+    → s ≡ take n (drop from old) ++ drop n old
+front-back s n old from f g = sym (take-append-drop n s) ∙ ap₂ (λ (x y : List ℕ). x ++ y) f g
 
 loop-holds : tie.Need-loop-holds Inv-loop μ-loop
 loop-holds c = (omega arith, refl, refl, refl)
@@ -69,8 +74,9 @@ same-length c = c .before .loop .inv .1
 returns : tie.Need-returns Inv-loop μ-loop
 returns c =
     let l = c .before .loop in
-    let e : l .i ≡ c .before .before .args .n = omega arith in
-    rw e at (l .inv .2)
+    let a = c .before .before .args in
+    let e : l .i ≡ a .n = omega arith in
+    front-back (l .s) (a .n) (a .s .now) (a .from) (rw e at (l .inv .2)) (rw e at (l .inv .3))
 
 pub move-front-spec : {M : Type 1} → statement M
 move-front-spec =
