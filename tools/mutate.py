@@ -20,8 +20,8 @@ What comes of an edit of the code:
     kept        proved
 and, beside it, whether the edited code, run without proof on the stored images and days, prints something else than is stored
 (run: differs, same). Of an edit of a definition:
-    computed    refused by a closed run: the checker computes another value than the one written down
-    theorem     refused by the proof of a theorem, and by no closed run
+    computed    refused by a computed example: the checker computes another value than the one written down
+    theorem     refused by the proof of a theorem, and by no computed example
     kept        everything is still proved
 """
 import argparse
@@ -50,14 +50,14 @@ RUN_SECONDS = 60
 DRAWN = {
     'model': 100,
     'book': 4, 'image_records': 5, 'image_entry': 6, 'image_write': 7, 'image_parse': 8, 'image_limits': 8, 'image_players': 9, 'image_meters': 8,
-    'image_check': 4, 'image_read': 4, 'images': 3, 'image_speed': 1, 'fields': 4, 'decode': 7, 'records': 9, 'text': 9, 'rules': 13, 'uses': 11,
-    'assets': 6, 'choose': 7, 'rows': 9, 'places': 6, 'events': 10, 'runner': 10, 'lent': 3, 'serve': 4, 'embed': 4, 'days': 3, 'run': 1,
-    'run_missing': 1, 'run_refused': 1, 'run_cut': 1,
+    'image_check': 4, 'image_read': 4, 'images': 3, 'image_speed': 1, 'fields': 4, 'decode': 7, 'text': 9, 'rules': 13, 'uses': 11,
+    'assets': 6, 'choose': 7, 'rows': 9, 'places': 6, 'events': 10, 'runner': 10, 'lent': 3, 'turn': 6, 'serve': 4, 'encode': 3, 'fill': 3, 'views': 6,
+    'embed': 6, 'days': 3, 'run': 1, 'run_missing': 1, 'run_refused': 1, 'run_cut': 1,
 }
 DEFINITIONS = ['Book', 'Image', 'Events', 'Ledger', 'Run']
-# What of model's proofs is a closed run: no variable stands in it, so the checker computes both sides. A file, or one declaration.
+# What of model's proofs is a computed example: no variable stands in it, so the checker computes both sides. A file, or one declaration.
 CLOSED = {'Afternoon', 'Cases', 'Printed', 'Account', 'Bounds', 'Example.rules-kept', 'BookExamples.noBook-legal', 'BookExamples.greatest-legal', 'BookExamples.greatest-read',
-          'BookExamples.greatest-length', 'BookExamples.small-bytes', 'BookExamples.damaged'}
+          'BookExamples.greatest-length', 'BookExamples.small-bytes', 'BookExamples.damaged', 'BookExamples.two-faults', 'BetweenRules', 'BeginCodes', 'AnswerCodes'}
 
 
 def read(path):
@@ -350,7 +350,7 @@ class Code:
         while self.word() == '::':
             self.take()
             names.append(self.take())
-        if self.word() == '{' and not plain and names[-1][0].isupper():
+        if self.word() == '{' and not plain and (names[-1][0].isupper() or names[-1] == 'timespec'):
             return self.literal(start, names)
         return Node('name', start, self.ended(), names=names, parts=[])
 
@@ -946,7 +946,7 @@ def errors(log):
 
 
 def verdict(crate, status, log):
-    """(what came of the edit, what was said first, where closed runs and theorems refused it)"""
+    """(what came of the edit, what was said first, where computed examples and theorems refused it)"""
     if status is None:
         return 'timeout', '', []
     if status == 0:
@@ -969,125 +969,9 @@ def verdict(crate, status, log):
 
 # ---- Running without proof, as `rt try` does, on what is stored
 
-# More ways to the stored answers, each a stored program with another call in it: event by event on a book by value, the same with
-# the asking player settled where it is lent, and days and images through the library for C.
+# One more way to the stored answers: a stored program with another call in it, here the images through the library for C.
 # (crate, program, its call, the call instead, libraries besides the program's, the function called)
-OTHER_WAYS = [('events', 'days', 'runner::answer_block(', 'other_block(', ['events', 'text'], """
-struct Answered {
-    written: usize,
-}
-
-fn other_block(b: Book, records: &[u8], out: &mut [u8]) -> Answered {
-    let mut held = b;
-    let mut at: usize = 0;
-    let mut from: usize = 0;
-    while from < records.len() {
-        let mut to = from + 13;
-        if records.len() < to {
-            to = records.len();
-        }
-        let o = events::step_record(held, &records[from..to]);
-        let next = o.book;
-        held = next;
-        let answer = o.answer;
-        at = text::put_line(out, at, answer);
-        from = to;
-    }
-    Answered { written: at }
-}
-"""),
-('lent', 'days', 'runner::answer_block(', 'other_block(', ['lent', 'events', 'rules', 'decode', 'text'], """
-struct Answered {
-    written: usize,
-}
-
-fn refused(code: u8) -> book::Answer {
-    book::Answer { code: code, entry: 255, until: 0 }
-}
-
-// 11 and 14 by the player that was settled where it is lent, else the answer given.
-fn judged(b: Book, e: book::Event, given: book::Answer) -> book::Answer {
-    let mut p = b.players[(e.player % 16) as usize];
-    let last = p.last;
-    let gate = rules::gate_of(b.time, last, e);
-    match gate {
-        book::Gate::Take => {
-            lent::settle_in_place(&mut p, e.time);
-            let request = e.request;
-            let w = rules::wire_of(request);
-            if (w.operation == 1) & (p.current.on == 1) {
-                return refused(11);
-            }
-            if !(w.operation == 1) & (p.current.on == 0) {
-                return refused(14);
-            }
-            given
-        }
-        _ => given,
-    }
-}
-
-fn other_block(b: Book, records: &[u8], out: &mut [u8]) -> Answered {
-    let mut held = b;
-    let mut at: usize = 0;
-    let mut from: usize = 0;
-    while from < records.len() {
-        let mut to = from + 13;
-        if records.len() < to {
-            to = records.len();
-        }
-        let o = events::step_record(held, &records[from..to]);
-        let mut answer = o.answer;
-        let read = decode::decode(&records[from..to]);
-        match read {
-            book::Decoded::Valid(e) => {
-                answer = judged(held, e, answer);
-            }
-            book::Decoded::Invalid(code) => {}
-        }
-        at = text::put_line(out, at, answer);
-        let next = o.book;
-        held = next;
-        from = to;
-    }
-    Answered { written: at }
-}
-"""),
-('embed', 'days', 'runner::answer_block(', 'other_block(', ['embed', 'image_write'], """
-struct Answered {
-    written: usize,
-}
-
-fn other_block(b: Book, records: &[u8], out: &mut [u8]) -> Answered {
-    let mut image = [0u8; 3979];
-    let length = image_write::write(b, &mut image);
-    if embed::rights_check(&image[..length]) != 0 {
-        return Answered { written: 0 };
-    }
-    let mut at: usize = 0;
-    let mut from: usize = 0;
-    while from < records.len() {
-        let mut to = from + 91;
-        if records.len() < to {
-            to = records.len();
-        }
-        let mut line = [0u8; 133];
-        let mut written: u64 = 0;
-        if embed::rights_answer(&mut image[..length], &records[from..to], &mut line, &mut written) != 0 {
-            return Answered { written: at };
-        }
-        let mut i: usize = 0;
-        while i < written as usize {
-            out[at + i] = line[i];
-            i = i + 1;
-        }
-        at = at + written as usize;
-        from = to;
-    }
-    Answered { written: at }
-}
-"""),
-('embed', 'images', 'return answer(', 'return other_answer(', ['embed'], r"""
+OTHER_WAYS = [('embed', 'images', 'return answer(', 'return other_answer(', ['embed'], r"""
 // The image that a call without records leaves, or its refusal, which leaves every byte.
 fn other_answer(held: Book, image: &[u8]) -> Book {
     let mut copy = io::large_buffer();
@@ -1122,7 +1006,7 @@ def stored_runs(one, crate):
     for way in OTHER_WAYS:
         through, c, more = way[0], way[1], way[4]
         deps = list(dict.fromkeys(one.deps[c] + more))
-        if crate == through or through != 'lent' and crate in [c] + [x for d in deps if d in one.deps for x in [d] + one.reached(d)]:
+        if crate == through or crate in [c] + [x for d in deps if d in one.deps for x in [d] + one.reached(d)]:
             runs.append(('%s through %s' % (c, through), c, deps, way))
     return runs
 

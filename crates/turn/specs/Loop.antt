@@ -6,8 +6,8 @@ use mathlib.Core.Bool.{Bool, true, false, cond}
 use mathlib.Core.List.{List, [], _∷_, _++_, append-assoc}
 use native.Mathlib.Nat.{sub-zero}
 use native.Mathlib.Omega.{arith}
-use lib.ListN.{length, take, drop, length-drop, take-append-drop}
-use lib.Seq.{length-take-le, take-all, take-add, take-at, take-append-seam}
+use lib.ListN.{length, take, drop, length-append, length-drop, take-append-drop}
+use lib.Seq.{length-take-le, take-all, take-add, take-at, drop-at, take-append-seam}
 use borrow.Author.Tests.{le-leb}
 use Rattle.book.specs.declared.Book.{Book}
 use Rattle.model.specs.Run.{runText, runBook}
@@ -155,3 +155,25 @@ module _ (b : Book) (i o : List ℕ) (rs : List Read) (last : Read) (h : AllDeli
 
   pub reads-book : turnsOn (start b i o) rs last .book ≡ runBook b (input (start b i o) rs last)
   reads-book = from-book (start b i o) rs last h
+
+-- ## The premise can be met
+
+-- the read that brings a piece: it stands after the kept bytes, and the rest of the buffer stays
+abbrev pub bringing : Between → List ℕ → Read
+bringing l piece = record { buffer = take (l .kept) (l .input) ++ (piece ++ drop (l .kept + length piece) (l .input)); got = length piece }
+
+-- after any reads, any piece for which there is room can come
+module _ (l : Between) (piece : List ℕ) (room : l .kept + length piece ≤ length (l .input)) where
+  kept-length : length (take (l .kept) (l .input)) ≡ l .kept
+  kept-length = length-take-le (l .kept) (l .input) (omega arith)
+
+  pub brought : Delivered l (bringing l piece)
+  brought = (
+    take-at (take (l .kept) (l .input)) (piece ++ drop (l .kept + length piece) (l .input)) (l .kept) kept-length,
+    simp (length-append) (omega (arith, kept-length)),
+  )
+
+  pub brings : came l (bringing l piece) ≡ piece
+  brings =
+      ap (take (length piece)) (drop-at (take (l .kept) (l .input)) (piece ++ drop (l .kept + length piece) (l .input)) (l .kept) kept-length)
+      ∙ take-append-seam piece (drop (l .kept + length piece) (l .input))
