@@ -350,7 +350,7 @@ class Code:
         while self.word() == '::':
             self.take()
             names.append(self.take())
-        if self.word() == '{' and not plain and (names[-1][0].isupper() or names[-1] == 'timespec'):
+        if self.word() == '{' and not plain and names[-1][0].isupper():
             return self.literal(start, names)
         return Node('name', start, self.ended(), names=names, parts=[])
 
@@ -813,7 +813,7 @@ def sources(crate):
 class Pass:
     def __init__(self):
         self.deps = crates()
-        self.code = {c: {p: Code(read(os.path.join(ROOT, 'crates', c, p))) for p in sources(c)} for c in self.deps}
+        self.code = {c: {p: Code(read(os.path.join(ROOT, 'crates', c, p))) for p in sources(c) if c in DRAWN} for c in self.deps}
         self.edits = {}
         for crate in self.deps:
             if crate == 'model':
