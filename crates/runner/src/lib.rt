@@ -154,6 +154,8 @@ pub fn answer_block(b: Book, records: &[u8], out: &mut [u8]) -> Block
                 at = put_line(out, at, refused(code));
             }
             Decoded::Valid(event) => {
+                let request = event.request;
+                let w = wire_of(request);
                 let j = (event.player % 16) as usize;
                 let asking = book.players[j];
                 let last = asking.last;
@@ -201,8 +203,6 @@ pub fn answer_block(b: Book, records: &[u8], out: &mut [u8]) -> Block
                         }
                         let player = book.players[j];
                         let o = player.current;
-                        let request = event.request;
-                        let w = wire_of(request);
                         let mut k = o.entry as usize;
                         let mut code = further_code(o.on == 1);
                         match request {

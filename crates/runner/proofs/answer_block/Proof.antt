@@ -55,16 +55,16 @@ abbrev endsFor : Book → List ℕ
 endsFor b = map endOfPlayer (b .players)
 
 abbrev Inv-loop2 : tie.InvT-loop2
-Inv-loop2 records out size count book₀ places parents rows₀ ends₀ next₀ at i from to event j t p₀ book rows ends next p = (p ≤ 16) × (book ≡ settledTo t p book₀) × (next ≡ leastEnd t (book₀ .players) p) × (rows ≡ rowsFor book) × (ends ≡ endsFor book) × (length (book .players) ≡ 16)
+Inv-loop2 records out size count book₀ places parents rows₀ ends₀ next₀ at i from to event request w j t p₀ book rows ends next p = (p ≤ 16) × (book ≡ settledTo t p book₀) × (next ≡ leastEnd t (book₀ .players) p) × (rows ≡ rowsFor book) × (ends ≡ endsFor book) × (length (book .players) ≡ 16)
 
 abbrev μ-loop2 : tie.MeasureT-loop2
-μ-loop2 records out size count book₀ places parents rows₀ ends₀ next₀ at i from to event j t p₀ book rows ends next p = 16 - p
+μ-loop2 records out size count book₀ places parents rows₀ ends₀ next₀ at i from to event request w j t p₀ book rows ends next p = 16 - p
 
 abbrev Inv-loop3 : tie.InvT-loop3
-Inv-loop3 records out size count book places parents rows ends next at i from to event j t o request w k code asset kind reach n best₀ e₀ best e = (e ≤ n) × (n ≤ 64) × (best ≡ bestAfter (book .entries) asset (reach .parent) kind t e)
+Inv-loop3 records out size count book places parents rows ends next at i from to event request w j t o k code asset kind reach n best₀ e₀ best e = (e ≤ n) × (n ≤ 64) × (best ≡ bestAfter (book .entries) asset (reach .parent) kind t e)
 
 abbrev μ-loop3 : tie.MeasureT-loop3
-μ-loop3 records out size count book places parents rows ends next at i from to event j t o request w k code asset kind reach n best₀ e₀ best e = n - e
+μ-loop3 records out size count book places parents rows ends next at i from to event request w j t o k code asset kind reach n best₀ e₀ best e = n - e
 
 abbrev Inv-loop : tie.InvT-loop
 Inv-loop records out₀ size count book₀ places parents rows₀ ends₀ next₀ at₀ i₀ out book rows ends next at i = (i ≤ count) × (Upto book₀ records out₀ i book out at) × (Quiet next (book .players)) × (length (book .entries) ≡ 64) × (length (book .players) ≡ 16) × (rows ≡ rowsFor book) × (book .assets ≡ book₀ .assets) × (book .assetcount ≡ book₀ .assetcount) × (ends ≡ endsFor book)
@@ -107,7 +107,7 @@ abbrev turn : Read → Turn
 turn c = c .before .before .before
 
 abbrev read : Judged → Read
-read c = c .before .before .before .before .before .before .before
+read c = c .before .before .before .before .before .before .before .before
 
 abbrev judged : Taken → Judged
 judged c = c .before .before
@@ -116,7 +116,7 @@ abbrev taken : AllSettled → Taken
 taken c = c .before
 
 abbrev all-settled : Chosen → AllSettled
-all-settled c = c .before .before .before .before .before .before .before
+all-settled c = c .before .before .before .before .before .before
 
 -- ## What is known there
 
@@ -143,10 +143,10 @@ is-decoded c =
     c .decode .ensures ∙ ap decoded (record-part (entered (turn c) .args .records .now) i (c .before .before .lesser .result - 13 * i) (omega arith))
 
 abbrev event-at : Judged → Event
-event-at c = c .before .before .before .before .before .event .given .0 .0
+event-at c = c .before .before .before .before .before .before .event .given .0 .0
 
 is-valid : (c : Judged) → decoded (record-at (turn (read c))) ≡ Valid (event-at c)
-is-valid c = sym (is-decoded (read c)) ∙ c .before .before .before .before .before .event .given .1
+is-valid c = sym (is-decoded (read c)) ∙ c .before .before .before .before .before .before .event .given .1
 
 is-admitted : (c : Taken) → Admitted (book-at (turn (read (judged c)))) (record-at (turn (read (judged c)))) (event-at (judged c))
 is-admitted c =
@@ -329,6 +329,9 @@ loop-again c =
 
 enum-known-event : tie.Need-enum-known-event Inv-loop2 μ-loop2 Inv-loop3 μ-loop3 Inv-loop μ-loop
 enum-known-event c = search needs
+
+wire-of-requires : tie.Need-wire-of-requires Inv-loop2 μ-loop2 Inv-loop3 μ-loop3 Inv-loop μ-loop
+wire-of-requires c κs = tt
 
 cast-j : tie.Need-cast-j Inv-loop2 μ-loop2 Inv-loop3 μ-loop3 Inv-loop μ-loop
 cast-j c = search needs
@@ -536,9 +539,6 @@ element-copy-out-player-2 :
     tie.Need-element-copy-out-player-2 Inv-loop2 μ-loop2 Inv-loop3 μ-loop3 Inv-loop μ-loop
 element-copy-out-player-2 c = search needs
 
-wire-of-requires : tie.Need-wire-of-requires Inv-loop2 μ-loop2 Inv-loop3 μ-loop3 Inv-loop μ-loop
-wire-of-requires c κs = tt
-
 cast-k-2 : tie.Need-cast-k-2 Inv-loop2 μ-loop2 Inv-loop3 μ-loop3 Inv-loop μ-loop
 cast-k-2 c = search needs
 
@@ -566,8 +566,8 @@ looked-at-requires c κs = tt
 loop3-holds : tie.Need-loop3-holds Inv-loop2 μ-loop2 Inv-loop3 μ-loop3 Inv-loop μ-loop
 unfolding bestAfter choiceAfter chooseOf anyOf
 loop3-holds c =
-    let n = c .before .before .before .before .before .before .before .before .before .before .before .before .before .before .before .before .if2 .book in
-    let m = looked-most (isOn (openAt (n .players) (event-at (judged (taken (c .before .before .before .before .before .before .before .before .before .before .before .before .before .before .before .before))) .player % 16))) (c .before .before .before .reach-at .result .usable) (c .before .at-most-64 .result) in
+    let n = c .before .before .before .before .before .before .before .before .before .before .before .before .before .before .before .if2 .book in
+    let m = looked-most (isOn (openAt (n .players) (event-at (judged (taken (c .before .before .before .before .before .before .before .before .before .before .before .before .before .before .before))) .player % 16))) (c .before .before .before .reach-at .result .usable) (c .before .at-most-64 .result) in
     (omega arith, omega (arith, m, c .looked-at .ensures, c .before .at-most-64 .ensures, min-le-right (n .entrycount) 64), refl)
 
 mul-row : tie.Need-mul-row Inv-loop2 μ-loop2 Inv-loop3 μ-loop3 Inv-loop μ-loop
@@ -589,7 +589,7 @@ loop3-less c = omega arith
 loop3-again : tie.Need-loop3-again Inv-loop2 μ-loop2 Inv-loop3 μ-loop3 Inv-loop μ-loop
 loop3-again c =
     let l = c .before .before .before .loop3 in
-    let s = c .before .before .before .before .before .before .before .before .before .before .before .before .before .before .before .before .before .before .before .before in
+    let s = c .before .before .before .before .before .before .before .before .before .before .before .before .before .before .before .before .before .before .before in
     let es = s .if2 .book .entries in
     let t = event-at (judged (taken s)) .time in
     let asset = c .before .before .before .before .before .before .before .before .before .before .before .before .request .given .0 .1 .0 in
@@ -696,7 +696,7 @@ loop-again-4 c =
     let es = n .entries in
     let ps = n .players in
     let o = open-at d in
-    let w = c .before .before .before .before .before .before .before .before .before .before .before .before .before .before .before .before .before .before .before .before .wire-of in
+    let w = c .before .before .before .before .before .before .before .before .before .before .before .before .before .before .before .before .before .before .before .before .before .before .before .before .before .before .before .before .before .wire-of in
     let z = after-settle s in
     let kept = assets-kept s in
     let k = d .match3 .k in
@@ -781,7 +781,7 @@ loop-again-5 c =
     let es = n .entries in
     let ps = n .players in
     let o = open-at d in
-    let w = c .before .before .before .before .before .before .before .before .before .before .wire-of in
+    let w = c .before .before .before .before .before .before .before .before .before .before .before .before .before .before .before .before .before .before .before .wire-of in
     let z = after-settle s in
     let kept = assets-kept s in
     let x = c .before .before .before .before .refused3 in
@@ -848,6 +848,7 @@ answer-block-spec =
     loop-less
     loop-again
     enum-known-event
+    wire-of-requires
     cast-j
     mul-asking
     element-copy-out-asking
@@ -889,7 +890,6 @@ answer-block-spec =
     loop2-again
     mul-player-2
     element-copy-out-player-2
-    wire-of-requires
     cast-k-2
     further-code-requires
     enum-known-request
