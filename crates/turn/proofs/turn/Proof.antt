@@ -31,7 +31,7 @@ left-refused : (b : Book) (input : List ℕ) (n : ℕ) (ended : Bool) (out : Lis
 unfolding bookAfter writtenAfter outAfter keptAfter inputAfter
 left-refused b input n ended out e = (sym e, (rw e, (rw e, (rw e, (rw e, rw e)))))
 
--- a prefix of a prefix
+-- a slice of a prefix
 part : (a k : ℕ) (l : List ℕ) → a + k ≤ length l → drop a (take (a + k) l) ≡ take k (drop a l)
 part a k l h = ap (drop a) (take-add a k l) ∙ drop-at (take a l) (take k (drop a l)) a (length-take-le a l (omega arith))
 
