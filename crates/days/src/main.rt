@@ -31,7 +31,7 @@ fn fill(fd: i32, n: usize, buf: &mut [u8]) -> bool {
     false
 }
 
-// Reads the image that is the first n bytes of buf.
+// Reads the image in the first n bytes of buf.
 fn load(n: usize, buf: &[u8]) -> Loaded {
     let blank = book::blank_book();
     if n <= buf.len() {
@@ -52,7 +52,7 @@ fn send(text: &[u8], n: usize) {
     }
 }
 
-// Where the record that begins there ends.
+// The end offset of the record that begins at `from`.
 fn record_end(from: usize, size: usize) -> usize
     requires { ⌜ from < size ⌝ }
     ensures { λ r. ⌜ (from < r) × (r ≤ size) ⌝ }
@@ -102,7 +102,7 @@ fn same_book(a: Book, b: Book) -> bool {
     (n == m) & same(&first, &second)
 }
 
-// Prints the answers to the events that are the first n bytes of buf.
+// Prints the answers to the events in the first n bytes of buf.
 fn print_answers(b: Book, n: usize, buf: &[u8]) {
     let mut out = [0u8; 95798];
     let mut singly = [0u8; 95798];

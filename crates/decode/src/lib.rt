@@ -40,7 +40,7 @@ pub fn request_legal(operation: u8, asset: u16, kind: u8) -> bool
     (2 <= operation) & (operation <= 3) & (asset == 0) & (kind == 0)
 }
 
-// Rules out 1 before 2 (player 16, operation 9), and a continue that names an asset.
+// Rules out: 1 before 2 (player 16, operation 9), a continue that names an asset.
 pub fn decode(s: &[u8]) -> Decoded
     ensures { λ r. ⌜ r ≡ decoded (now (s .entry)) ⌝ }
 {

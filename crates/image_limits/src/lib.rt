@@ -33,7 +33,7 @@ fn asset_legal(assets: [Asset; 64], n: usize, i: usize, a: Asset) -> bool
         & (a.key <= 1)
 }
 
-// Rules out: true for two assets with one number; false for an illegal asset, key 0 with an inherit.
+// Rules out: true for two assets with the same number; false for an illegal asset, key 0 with an inherit.
 pub fn assets_legal(b: Book) -> bool
     ensures { λ r. ⌜ r ≡ assetsLegal b ⌝ }
 {

@@ -12,7 +12,7 @@ fn print_byte(b: u8) {
     io::print_hex(1, b as u64, 2);
 }
 
-// The first n bytes of s.
+// Prints the first n bytes of s.
 fn print_bytes(s: &[u8], n: usize) {
     let mut i: usize = 0;
     while i < n {

@@ -1,7 +1,7 @@
 -- Demand 1 as a statement: "Every event and every book image that meets the rules of document 01 is accepted, and gets the answer and
 -- the new book that those rules fix. Everything else is turned away with the number in its table, and the book and every byte lent to
 -- the server are then what they were." Claimed of every book, legal or not, and of every list of numbers as a record. It is proved in
--- `Proof.Demand1`. Imports no proofs. What a record says and the checks before an event is taken are stated here a second time, in terms of
+-- `Proof.Demand1`. This file imports no proofs. What a record says and the checks before an event is taken are stated here a second time, in terms of
 -- byte positions and numbers. Of the rules only the step itself and the settling of entries are used.
 -- Which of 10 to 15 a taken event gets, which entry a begin gets, until when, and what that entry's meters become, is stated by `Demand3`, in terms of
 -- the ledger.

@@ -1,7 +1,7 @@
 -- Demand 3 as a statement: what is claimed of every list of events run from a fresh legal book. It is proved in `Proof.Demand3`.
--- Imports no proofs. The rules are used here only where document 01 says so ("with the ledger's figures for the meters");
+-- This file imports no proofs. The rules are used here only where document 01 says so ("with the ledger's figures for the meters");
 -- the checks before an event is taken, which of 10 to 13 a begin is answered, suitable, the order of the choice, until, and what a continue and
--- a stop are answered are stated a second time, independently of the rules.
+-- a stop are answered are stated a second time, worded separately.
 use mathlib.Core.Path.{_≡_}
 use mathlib.Core.Logic.{_↔_, _⊎_}
 use Prim.Native.Nat.{ℕ, suc, _+_, _-_, _≤_, _<_}

@@ -1,5 +1,5 @@
 -- The ledger: document 01, section "The ledger". It is built from events and answers alone; nothing here looks at a book's meters or players.
--- Written from that section, independently of the rules of events. Quotations are that document's.
+-- Written from that section, separately from the rules of events. Quotations are that document's.
 use Prim.Native.Nat.{ℕ, _+_, _-_, min}
 use mathlib.Core.Bool.{Bool, true, false, not, _&&_, _||_, cond}
 use mathlib.Core.List.{List, [], _∷_}

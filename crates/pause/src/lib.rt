@@ -13,7 +13,7 @@ fn wait_for(asked: timespec, mut left: timespec) {
     libc::nanosleep(&asked, &mut left);
 }
 
-// One millisecond.
+// Waits one millisecond.
 pub fn pause() {
     wait_for(span(0, 1000000), span(0, 0));
 }

@@ -23,7 +23,7 @@ pub const OUT: usize = 95798;
 pub const IMAGE: usize = 3980;
 
 // The next book, how many bytes of text are at the start of the output buffer, and how many of the next record are at the start of
-// the input buffer. Not done: n was more than the input buffer holds.
+// the input buffer. Done is false if n was more than the input buffer holds.
 pub struct Turned {
     pub done: bool,
     pub book: Book,
@@ -50,7 +50,7 @@ fn within(s: &[u8], n: usize) -> bool
     n <= s.len()
 }
 
-// The block of the first n bytes.
+// Answers the block in the first n bytes.
 fn answer_first(b: Book, input: &[u8], n: usize, out: &mut [u8]) -> Block
     requires { ⌜ n ≤ length (now input) ⌝ }
     ensures { λ r. ⌜ r .book ≡ blockBook b (take n (now (input .entry))) (length (now (out .entry))) ⌝ }
@@ -60,7 +60,7 @@ fn answer_first(b: Book, input: &[u8], n: usize, out: &mut [u8]) -> Block
     runner::answer_block(b, &input[..n], out)
 }
 
-// The book in the first n bytes.
+// Reads the book in the first n bytes.
 fn read_first(image: &[u8], n: usize) -> Loaded
     requires { ⌜ n ≤ length (now image) ⌝ }
     ensures { λ r. ⌜ (r .code ≡ readCode (take n (now (image .entry)))) × (r .book ≡ readBook noBook (take n (now (image .entry)))) ⌝ }

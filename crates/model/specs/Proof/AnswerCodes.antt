@@ -102,8 +102,8 @@ pub nothing-changed : (
 unfolding requestLegal kindOf requestOf eventIn decoded sameRequest sameNumber inLine timely gate stepBy step arrive stepRecord
 nothing-changed = refl
 
--- Taken: number, request, answer and time are stored. The stale use ends at its until, and its timed count, below the timer, goes back: in both
--- cases, whoever asks. A stop then finds nothing open; a begin of the other player counts itself.
+-- Taken: number, request, answer and time are stored. The stale use ends at its until and, being shorter than the timer, gives its timed count back: in both
+-- cases, whichever player asks. The stop then finds nothing open; the other player's begin adds its own timed count.
 pub stored : (stepRecord odd (bytes 0 6 3 0 0 100) ∷ stepRecord odd (bytes 1 1 1 1 1 101) ∷ []) ≡ (
     record { answer = refused 14; book = book 100 1 (player 6 3 0 0 (refused 14) closed) noPlayer }
     ∷ record {
