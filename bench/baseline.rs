@@ -1,10 +1,10 @@
-//! The rights server of document 01 in ordinary Rust, tuned and not proved: what the proved program is measured
+//! The rights server of document 01 in ordinary Rust, tuned and not proved: the baseline that the proved program is measured
 //! against. It reads `rights.rbk` in the working folder, then 13-byte event records from standard input, and prints
 //! `code entry until` for each, as document 01's run program does.
 //!
 //!     rustc --edition 2021 -C opt-level=3 -o baseline baseline.rs
 //!
-//! What makes it quick: one book changed in place; the limits of missing flags set to numbers that never bind, so
+//! What makes it fast: one book changed in place; the limits of missing flags set to numbers that never bind, so
 //! that no flag is tested; the rank of an entry in one word; the assets' numbers in a plain array; uses settled only
 //! when the earliest until may have passed; one read and one write for some eight thousand events, with digits written
 //! by hand. A begin looks at every entry, as the rules are written; `sorted.rs` beside this file does not.
@@ -31,7 +31,7 @@ const RECORD: usize = 13;
 const BLOCK: usize = 8192;
 const LINE: usize = 16; // the longest line, `0 63 4294967295` and its end
 
-// ---- The image, as it stands in the file
+// ---- The image, as it is in the file
 
 const HEADER_SIZE: usize = 11;
 const ASSET_SIZE: usize = 5;
@@ -90,7 +90,7 @@ fn u32_at(data: &[u8], at: usize) -> u32 {
     u32::from_be_bytes([data[at], data[at + 1], data[at + 2], data[at + 3]])
 }
 
-/// The image's fields if document 01's rules accept it, else the number 20 to 27 that refuses it.
+/// The image's fields if document 01's rules accept it, otherwise the number 20 to 27 that refuses it.
 fn read_image(data: &[u8]) -> Result<Image, u8> {
     if data.len() < HEADER_SIZE {
         return Err(20);
@@ -307,7 +307,7 @@ struct Server {
     players: [Player; PLAYERS],
     entries: [Entry; MOST],
     numbers: Vec<u16>,      // of the assets
-    parents: Vec<u16>,      // the parent's number, or the asset's own where it has none
+    parents: Vec<u16>,      // the parent's number, or the asset's own if it has none
     usable: Vec<bool>,
     count: usize,
 }
@@ -528,7 +528,7 @@ impl Entry {
             & (self.used_seconds < self.accumulated)
     }
 
-    /// The order of the choice in one number, the lesser first.
+    /// The order of the choice in one number, the smaller first.
     #[inline(always)]
     fn rank(&self, asked: u16) -> u64 {
         ((self.flags != 0) as u64) << 34 | (self.end as u64) << 2 | ((self.last == NEVER) as u64) << 1 | (self.asset != asked) as u64
@@ -544,7 +544,7 @@ impl Entry {
 
 // ---- Lines of text
 
-/// Writes lines into a buffer. The digits above the last four seldom change from one until to the next and are kept.
+/// Writes lines into a buffer. The digits before the last four seldom change from one until to the next and are kept.
 struct Lines {
     refusals: [[u8; LINE]; 16],
     entries: [([u8; LINE], usize); 256],

@@ -2,11 +2,11 @@
 //!
 //!     days KIND EVENTS SEED FOLDER [ENTRIES]
 //!
-//! writes FOLDER/rights.rbk and FOLDER/events.bin. The same words give the same bytes. The kinds of days:
+//! writes FOLDER/rights.rbk and FOLDER/events.bin. The same arguments give the same bytes. The kinds of days:
 //!
-//!   small    five assets and six entries, operations by chance
+//!   small    five assets and six entries, random operations
 //!   full     64 assets and 64 entries over four parents, all kinds and flags, most begins granted
-//!   worst    64 entries (or ENTRIES), all suitable for every begin, and nothing but begins
+//!   worst    64 entries (or ENTRIES), all suitable for every begin, and only begins
 //!   expire   the book of small, with times that jump so that most uses lapse
 
 use std::fs::File;
@@ -103,8 +103,8 @@ fn full_book(rng: &mut Rng) -> Book {
     Book { entries: entries.collect(), assets }
 }
 
-/// Half of the entries come first by their end and are soon spent by their interval; of the others each comes before
-/// the one below it, so that whoever searches from position 0 changes its mind at each.
+/// Half of the entries come first by their end and are soon spent by their interval; each of the others comes before
+/// the one below it, so that a search from position 0 finds a better one at every step.
 fn worst_book(entries: u32) -> Book {
     let entry = |i: u32| {
         let soon_spent = i < entries / 2;
@@ -150,7 +150,7 @@ fn image_of(book: &Book) -> Vec<u8> {
 struct Player {
     number: u32,
     request: [u8; 4],
-    open_until: u32, // as far as can be told without the answers
+    open_until: u32, // as far as can be known without the answers
 }
 
 struct Day {

@@ -2,8 +2,8 @@
 
     python3 bench/measure.py PROGRAM FOLDER
 
-FOLDER holds the programs `baseline`, `sorted` and `days`. Two times are given, the clock's and the processor's (user and system);
-on a machine with other work the second is the steadier one. Each figure is the median of interleaved runs.
+FOLDER holds the programs `baseline`, `sorted` and `days`. Two times are given, wall-clock and processor (user and system);
+on a busy machine the second is more stable. Each figure is the median of interleaved runs.
 """
 
 import filecmp
@@ -30,7 +30,7 @@ def make_day(bench, name, kind, events, entries=None):
 
 
 def run_once(program, folder, output):
-    """Seconds by the clock and seconds of the processor of one run over the folder's day."""
+    """Wall-clock seconds and processor seconds of one run on the folder's day."""
     with open(folder / "events.bin", "rb") as events, open(output, "wb") as out:
         began = time.perf_counter()
         child = subprocess.Popen([program], cwd=folder, stdin=events, stdout=out)
@@ -64,7 +64,7 @@ def first_difference(folder, ours, theirs):
 
 
 def interleaved(programs, folder):
-    """For each program the median clock time and processor time."""
+    """For each program the median wall-clock time and processor time."""
     found = [[] for _ in programs]
     for _ in range(RUNS):
         for program, results in zip(programs, found):

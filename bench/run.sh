@@ -2,10 +2,10 @@
 # The bench: the built program against a tuned server in ordinary Rust, and against one that keeps sorted candidates,
 # on four kinds of days.
 #
-#     bench/run.sh [PROGRAM]        (target/bin/run if not told)
+#     bench/run.sh [PROGRAM]        (target/bin/run by default)
 #
 # EVENTS (2000000), RUNS (7), GROWTH (10000000: the longest day, 0 for none), SQLITE (1000 events, 0 for none) and
-# SEED (1) may be set in the environment. Everything that is made goes to target/bench. One process runs at a time.
+# SEED (1) may be set in the environment. All files go to target/bench. One process runs at a time.
 set -eu
 cd "$(dirname "$0")/.."
 program=$(realpath "${1:-target/bin/run}")

@@ -1,12 +1,12 @@
-//! The rights server of document 01 in ordinary Rust, not proved, with another way to choose: lists of candidates kept
-//! in order. The proved program is measured against it too, to show what a better algorithm would bring. It reads `rights.rbk` in the working folder, then 13-byte event records from standard input, and prints
+//! The rights server of document 01 in ordinary Rust, not proved, with a different way to choose: lists of candidates kept
+//! in order. The proved program is measured against it too, to show what a better algorithm would gain. It reads `rights.rbk` in the working folder, then 13-byte event records from standard input, and prints
 //! `code entry until` for each, as document 01's run program does.
 //!
 //!     rustc --edition 2021 -C opt-level=3 -o sorted sorted.rs
 //!
-//! What makes it quick: one book changed in place; the limits of missing flags set to numbers that never bind, so
-//! that no flag is tested; for each asset and kind a list of the suitable entries in the order of the choice, sorted
-//! again only when an interval starts; uses settled only when the earliest until may have passed; one read and one
+//! What makes it fast: one book changed in place; the limits of missing flags set to numbers that never bind, so
+//! that no flag is tested; for each asset and kind a list of the suitable entries in the order of the choice, re-sorted
+//! only when an interval starts; uses settled only when the earliest until may have passed; one read and one
 //! write for some eight thousand events, with digits written by hand.
 
 use std::fs::File;
@@ -31,7 +31,7 @@ const RECORD: usize = 13;
 const BLOCK: usize = 8192;
 const LINE: usize = 16; // the longest line, `0 63 4294967295` and its end
 
-// ---- The image, as it stands in the file
+// ---- The image, as it is in the file
 
 const HEADER_SIZE: usize = 11;
 const ASSET_SIZE: usize = 5;
@@ -90,7 +90,7 @@ fn u32_at(data: &[u8], at: usize) -> u32 {
     u32::from_be_bytes([data[at], data[at + 1], data[at + 2], data[at + 3]])
 }
 
-/// The image's fields if document 01's rules accept it, else the number 20 to 27 that refuses it.
+/// The image's fields if document 01's rules accept it, otherwise the number 20 to 27 that refuses it.
 fn read_image(data: &[u8]) -> Result<Image, u8> {
     if data.len() < HEADER_SIZE {
         return Err(20);
@@ -574,7 +574,7 @@ impl Entry {
 
 // ---- Lines of text
 
-/// Writes lines into a buffer. The digits above the last four seldom change from one until to the next and are kept.
+/// Writes lines into a buffer. The digits before the last four seldom change from one until to the next and are kept.
 struct Lines {
     refusals: [[u8; LINE]; 16],
     entries: [([u8; LINE], usize); 256],

@@ -2,10 +2,10 @@
 
     python3 bench/sqlite.py FOLDER DATABASE [EVENTS [off]]
 
-takes FOLDER/rights.rbk into a new database file, answers the first EVENTS records (2,000 if not told) of
-FOLDER/events.bin from it, prints the answers, and on the error output the time for one event. SQLite's settings are
-the default ones: each commit is on the disk before the answer goes out. With the word `off` SQLite does not wait for
-the disk, which is the nearer comparison, since the run program writes no book.
+loads FOLDER/rights.rbk into a new database file, answers the first EVENTS records (2,000 by default) of
+FOLDER/events.bin from it, prints the answers, and on standard error the time per event. SQLite's settings are
+the defaults: each commit is on the disk before the answer goes out. With the word `off` SQLite does not wait for
+the disk, which is the closer comparison, since the run program writes no book.
 """
 
 import os

@@ -2,11 +2,11 @@
  *
  *     example rights.rbk events.bin next.rbk
  *
- * writes the next image to next.rbk, which may be rights.rbk itself, and then prints the answers. The order is that of
- * docs/EMBEDDING.md: the image goes to a file beside next.rbk, is synced and renamed, and only then do answers leave.
- * Where anything fails before that, it says what, prints no answer, leaves next.rbk as it was and ends with status 1.
- * Where the printing itself fails, the status is 1 too, and the new book stays: a player that sends its last event again
- * gets the answer that the book has stored. Status 2: the command line is wrong. docs/EMBEDDING.md has how it is linked. */
+ * writes the next image to next.rbk, which may be rights.rbk itself, and then prints the answers. The order is the one in
+ * docs/EMBEDDING.md: the image goes to a file beside next.rbk, is synced and renamed, and only then do the answers go out.
+ * If anything fails before that, it says what, prints no answer, leaves next.rbk as it was and exits with status 1.
+ * If the printing itself fails, the status is 1 too, and the new book stays: a player that sends its last event again
+ * gets the answer that the book has stored. Status 2: the command line is wrong. docs/EMBEDDING.md shows how to link it. */
 #define _POSIX_C_SOURCE 200809L
 #include <errno.h>
 #include <fcntl.h>
@@ -27,7 +27,7 @@ static void fail(const char *name, const char *why)
 
 static void *allocate(size_t bytes)
 {
-    /* one byte more, so that the pointer is never NULL for want of a length */
+    /* one byte more, so that the pointer is not NULL even for length 0 */
     void *memory = bytes < SIZE_MAX ? malloc(bytes + 1) : NULL;
     if (!memory)
         fail("memory", "there is not enough");
@@ -81,7 +81,7 @@ static int write_all(int file, const uint8_t *bytes, size_t length)
     return 0;
 }
 
-/* The folder that a file's name is in, synced, so that the new name is there after a power cut. */
+/* Syncs the folder of a file, so that the new name is there after a power cut. */
 static int sync_folder(const char *name)
 {
     char *copy = allocate(strlen(name));
@@ -94,7 +94,7 @@ static int sync_folder(const char *name)
     return done;
 }
 
-/* Beside, sync, rename. What was there under the name stays until the new file is whole. */
+/* Write beside, sync, rename. What was there under the name stays until the new file is complete. */
 static void save(const char *name, const uint8_t *bytes, size_t length)
 {
     char *beside = allocate(strlen(name) + 4);

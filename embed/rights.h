@@ -1,13 +1,13 @@
 /* The rights server's core for C: the functions of the static library libembed.a.
  *
- * The library holds nothing between calls. The book is its image, the bytes of rights.rbk: the caller keeps them,
+ * The library keeps no state between calls. The book is passed as its image, the bytes of rights.rbk: the caller keeps them,
  * lends them for the length of a call, and saves them when it likes. What the functions return and leave in the
  * buffers is proved for every input; this header is not checked against that proof, so it changes only with
  * crates/embed/src/lib.rt. docs/EMBEDDING.md shows how to use it, docs/FORMAT.md has the bytes of records and images.
  *
- * What a caller owes in every call:
- *  - each pointer points to as many elements as the length beside it says (one where there is no length), and is not
- *    NULL even where the length is 0;
+ * What the caller must ensure in every call:
+ *  - each pointer points to as many elements as the length beside it says (one if there is no length), and is not
+ *    NULL even if the length is 0;
  *  - the buffers of one call do not overlap, and nothing else reads or writes them until it returns;
  *  - the stack has RIGHTS_STACK bytes left.
  * Calls on different buffers may run at the same time. The functions allocate nothing and call nothing but memcpy,
@@ -22,8 +22,8 @@
 extern "C" {
 #endif
 
-/* What a call returns. Document 01 has the rules behind 20 to 27, in the order in which they are judged.
- * Where a call does not return 0, everything lent to it is as it was. */
+/* What a call returns. Document 01 has the rules for 20 to 27, in the order in which they are checked.
+ * If a call does not return 0, everything lent to it is unchanged. */
 enum {
     RIGHTS_OK = 0,
     RIGHTS_IMAGE_LENGTH = 20,  /* the image is too short, or its length is not what its header says */
@@ -52,7 +52,7 @@ enum {
     RIGHTS_NO_ASSET = 10,      /* the asset is not in the book, or has key 0 */
     RIGHTS_ALREADY_OPEN = 11,  /* a begin while the player has a use open */
     RIGHTS_NONE_SUITABLE = 12, /* no entry of that kind for the asset */
-    RIGHTS_NONE_GRANTABLE = 13, /* there are some, and none can be used now */
+    RIGHTS_NONE_GRANTABLE = 13, /* there are some, but none can be used now */
     RIGHTS_NOTHING_OPEN = 14,  /* a continue or stop while nothing is open */
     RIGHTS_NO_MORE_TIME = 15   /* a continue that would add no second */
 };
@@ -61,7 +61,7 @@ enum {
 enum { RIGHTS_BEGIN = 1, RIGHTS_CONTINUE = 2, RIGHTS_STOP = 3 };
 enum { RIGHTS_PLAY = 1, RIGHTS_DISPLAY = 2, RIGHTS_EXECUTE = 3, RIGHTS_PRINT = 4, RIGHTS_EXPORT = 5 };
 
-/* Which limits of an entry hold: its flags are a sum of these. */
+/* Which limits an entry has: its flags are a sum of these. */
 enum {
     RIGHTS_HAS_COUNT = 1,
     RIGHTS_HAS_TIMED = 2, /* and its timer */
@@ -73,7 +73,7 @@ enum {
 
 enum {
     RIGHTS_RECORD = 13,          /* bytes of an event record */
-    RIGHTS_LINE = 19,            /* no answer's line is longer, its line feed included */
+    RIGHTS_LINE = 19,            /* the longest line of an answer, including its line feed */
     RIGHTS_NO_ENTRY = 255,       /* the entry in an answer that is no grant */
     RIGHTS_LONGEST_IMAGE = 3979, /* bytes of an image with 64 assets and 64 entries */
     RIGHTS_PLAYERS = 16,
@@ -90,27 +90,27 @@ enum {
     RIGHTS_RECORD_TIME = 9       /* 4 bytes */
 };
 
-/* The bytes that out needs for so many bytes of records. A last record that is cut short counts. */
+/* The bytes that out needs for that many bytes of records. A last record that is cut short counts as one. */
 #define RIGHTS_ROOM(records_length) (((size_t)(records_length) + RIGHTS_RECORD - 1) / RIGHTS_RECORD * RIGHTS_LINE)
 
 /* Whether the bytes are the image of a legal book: 0, or 20 to 27. The image is only read. */
 uint8_t rights_check(const uint8_t *image, size_t image_length);
 
-/* Answers event records from the book in the image, one after the other.
+/* Answers event records from the book in the image, in turn.
  *
  * image    in: the book. Out: the book after the last record. Its length stays the same.
- * records  the event records, 13 bytes each, behind each other; a last one cut short is answered too. Only read.
- * out      out: a line "code entry until" for each record, with a line feed and no 0 at the end. Bytes behind the
- *          text stay as they were.
+ * records  the event records, 13 bytes each, one after another; a last one cut short is answered too. Only read.
+ * out      out: a line "code entry until" for each record, with a line feed and no 0 at the end. Bytes after the
+ *          text are unchanged.
  * written  out: the length of the text.
  *
- * Returns 0, or 20 to 27 where the image is refused, or 30 where out is shorter than RIGHTS_ROOM(records_length). */
+ * Returns 0, or 20 to 27 if the image is refused, or 30 if out is shorter than RIGHTS_ROOM(records_length). */
 uint8_t rights_answer(uint8_t *image, size_t image_length,
                       const uint8_t *records, size_t records_length,
                       uint8_t *out, size_t out_length,
                       uint64_t *written);
 
-/* Answers one event, given and answered in numbers. It is the step that rights_answer does for the record of these
+/* Answers one event, given and answered as numbers. It does the same step as rights_answer for the record of these
  * numbers: the same next image, and the numbers that its line would have.
  *
  * image               in: the book. Out: the book after the event. Its length stays the same.
@@ -118,23 +118,23 @@ uint8_t rights_answer(uint8_t *image, size_t image_length,
  *                     with asset 0 and kind 0. Time is in seconds since 1970-01-01 UTC.
  * code, entry, until  out: the answer. A code other than 0 comes with entry 255 and until 0.
  *
- * Returns 0 where the event was answered, whatever the answer, or 20 to 27 where the image is refused. */
+ * Returns 0 if the event was answered, whatever the answer, or 20 to 27 if the image is refused. */
 uint8_t rights_answer_one(uint8_t *image, size_t image_length,
                           uint8_t player, uint32_t number, uint8_t operation,
                           uint16_t asset, uint8_t kind, uint32_t time,
                           uint8_t *code, uint8_t *entry, uint32_t *until);
 
 /* Puts the 13 bytes of the record that holds these numbers at the start of out, whether or not they make a legal event.
- * Returns 0, or 30 where out is shorter than RIGHTS_RECORD. */
+ * Returns 0, or 30 if out is shorter than RIGHTS_RECORD. */
 uint8_t rights_record(uint8_t player, uint32_t number, uint8_t operation,
                       uint16_t asset, uint8_t kind, uint32_t time,
                       uint8_t *out, size_t out_length);
 
 /* ---- Reading an image
  *
- * Each call puts its numbers at the start of out, at the positions below, and leaves what is behind them. It returns 0,
- * or 20 to 27 where the image is refused, or 31 where the book has nothing at that position, or 30 where out has fewer
- * elements than the call gives numbers. The image is only read. Later versions may add numbers at the end. */
+ * Each call puts its numbers at the start of out, at the positions below, and leaves what follows unchanged. It returns 0,
+ * or 20 to 27 if the image is refused, or 31 if the book has nothing at that position, or 30 if out has fewer
+ * elements than the call has numbers. The image is only read. Later versions may add numbers at the end. */
 
 /* The book: how many assets and entries, and the time of the latest event taken. */
 enum { RIGHTS_BOOK_ASSETS, RIGHTS_BOOK_ENTRIES, RIGHTS_BOOK_TIME, RIGHTS_BOOK_NUMBERS };
@@ -147,7 +147,7 @@ enum { RIGHTS_ASSET_NUMBER, RIGHTS_ASSET_INHERIT, RIGHTS_ASSET_KEY, RIGHTS_ASSET
 uint8_t rights_asset(const uint8_t *image, size_t image_length, uint32_t position, uint32_t *out, size_t out_length);
 
 /* The entry at a position, from 0: its limits, and what the image says has been used. A limit whose flag is missing is
- * 0, and so is its meter. Seconds of an open use are counted as used up to its until. */
+ * 0, and so is its meter. The seconds of an open use are counted as used up to its until. */
 enum {
     RIGHTS_ENTRY_OBJECT,      /* number of the rights object */
     RIGHTS_ENTRY_ASSET,
@@ -171,8 +171,8 @@ enum {
 uint8_t rights_entry(const uint8_t *image, size_t image_length, uint32_t position, uint32_t *out, size_t out_length);
 
 /* What is left of the entry at a position, as an event at that time would find it: uses that are over by then have
- * ended, and a timed count that goes back by that is back. A time before the book's counts as the book's, so 0 asks for
- * what is left in the image as it stands. Grantable is 1 where the entry's own limits allow a grant at that time; whether
+ * ended, and any timed count that this gives back is back. A time before the book's counts as the book's, so 0 asks for
+ * what is left in the image as it is. Grantable is 1 if the entry's own limits allow a grant at that time; whether
  * an asset can use the entry is not judged. */
 enum {
     RIGHTS_LEFT_GRANTABLE,
@@ -182,7 +182,7 @@ enum {
     RIGHTS_LEFT_NUMBERS
 };
 
-/* In place of a number left: there is no such limit. */
+/* In place of a remaining number: there is no such limit. */
 #define RIGHTS_NO_LIMIT UINT32_C(4294967295)
 
 uint8_t rights_left(const uint8_t *image, size_t image_length, uint32_t position, uint32_t time,
@@ -197,7 +197,7 @@ enum {
     RIGHTS_PLAYER_CODE,
     RIGHTS_PLAYER_ENTRY,
     RIGHTS_PLAYER_UNTIL,
-    RIGHTS_PLAYER_OPEN,       /* 1: a use is open, in the image as it stands */
+    RIGHTS_PLAYER_OPEN,       /* 1: a use is open, in the image as it is */
     RIGHTS_PLAYER_OPEN_ENTRY,
     RIGHTS_PLAYER_OPEN_BEGIN,
     RIGHTS_PLAYER_OPEN_UNTIL,

@@ -1,6 +1,6 @@
 #!/bin/sh
-# Builds the static library, links C and Rust programs against it, and holds what they print to the stored days and images,
-# to the second program (oracle/rights.py) and to the pages. Needs rt, a C compiler (CC, default cc), rustc and python3.
+# Builds the static library, links C and Rust programs against it, and compares what they print with the stored days and images,
+# the second program (oracle/rights.py) and the pages. Needs rt, a C compiler (CC, default cc), rustc and python3.
 # The last line is 'embed: N passed, 0 failed'.
 set -u
 cd "$(dirname "$0")/.." || exit 2
@@ -10,7 +10,7 @@ images=crates/images/data/cases.bin
 afternoon=examples/afternoon
 passed=0 failed=0
 
-# judged NAME STATUS: a test that passed where the status is 0
+# judged NAME STATUS: a test that passed if the status is 0
 judged() {
     if [ "$2" -eq 0 ]; then
         passed=$((passed + 1))
@@ -20,7 +20,7 @@ judged() {
     fi
 }
 
-# holds NAME FILE COMMAND..: the command ends well and prints what the file has
+# holds NAME FILE COMMAND..: the command succeeds and prints what is in the file
 holds() {
     name=$1 expected=$2
     shift 2
@@ -28,7 +28,7 @@ holds() {
     judged "$name" $?
 }
 
-# fails NAME STATUS WORDS COMMAND..: the command ends with that status, prints nothing and says those words
+# fails NAME STATUS WORDS COMMAND..: the command exits with that status, prints nothing and reports those words
 fails() {
     name=$1 expected=$2 words=$3
     shift 3
@@ -49,7 +49,7 @@ flags='-std=c11 -O2 -Wall -Wextra -Werror'
 }
 rustc --edition 2021 -O -D warnings -L target/staticlib -o $work/calls_rs embed/tests/calls.rs || exit 1
 
-# The stored days and images, in a stack of RIGHTS_STACK bytes.
+# The stored days and images, with a stack of RIGHTS_STACK bytes.
 stack_kb=$(sed -n 's/.*RIGHTS_STACK = \([0-9]*\).*/\1/p' embed/rights.h)
 stack_kb=$((stack_kb / 1024))
 small() {
@@ -64,14 +64,14 @@ for language in c rs; do
     holds "$language, images" crates/images/stdout small $calls images $images
 done
 
-# What is in an image, by the second program.
+# What is in an image, according to the second program.
 python3 embed/tests/seen.py seen $days >$work/seen_days || exit 1
 python3 embed/tests/seen.py seen-images $images >$work/seen_images || exit 1
 holds "c, what is in the books of the days" $work/seen_days small $work/calls_c seen $days
 holds "rs, what is in the books of the days" $work/seen_days small $work/calls_rs seen $days
 holds "c, what is in the stored images" $work/seen_images small $work/calls_c seen-images $images
 
-# The stack that a call takes is at most half of what the header asks for.
+# A call uses at most half of the stack that the header asks for.
 $work/cost $afternoon/rights.rbk 0 1 1 1 1 1000 >$work/costs &&
     awk -v most=$((stack_kb * 512)) '/bytes of stack/ { n++; if ($(NF - 3) > most) bad = 1 } END { exit bad || n != 10 }' $work/costs
 judged "the stack" $?
@@ -95,7 +95,7 @@ done
 sed -n 's/^    \(cc .*example.c.*\)/\1/p' docs/EMBEDDING.md | sed "s,-o example,-o $work/example_as_printed," >$work/command
 holds "the page's command line for the example" /dev/null sh $work/command
 
-# The example; then a run without records from the image that it saved, which leaves that image; then over the book itself.
+# The example; then a run without records on the image it saved, which leaves that image; then one that overwrites the book itself.
 holds "example" $afternoon/expected.txt $work/example_as_printed $afternoon/rights.rbk $afternoon/events.bin $work/next.rbk
 holds "example with no records" /dev/null $work/example $work/next.rbk /dev/null $work/same.rbk
 holds "a saved image that stays" $work/next.rbk cat $work/same.rbk
@@ -103,7 +103,7 @@ cp $afternoon/rights.rbk $work/over.rbk
 holds "example over its own book" $afternoon/expected.txt $work/example $work/over.rbk $afternoon/events.bin $work/over.rbk
 holds "the book written over" $work/next.rbk cat $work/over.rbk
 
-# Where the example fails: it says why, prints no answer, and leaves what was there.
+# When the example fails: it says why, prints no answer, and leaves what was there.
 ran() {
     "$work/example" "$@"
 }

@@ -1,12 +1,12 @@
-"""Chance days: books and events that are crowded enough to meet the rules' corners.
+"""Random days: books and events crowded enough to reach the rules' edge cases.
 
-Few assets, few entries, small limits and short steps of time, so that limits are reached, uses lapse, entries
+Few assets, few entries, small limits and short time steps, so that limits are reached, uses lapse, entries
 compete and players ask again. The same seed gives the same day on every machine.
 
     python3 oracle/days.py
 
 writes the stored days: `crates/days/data/days.bin`, for each day the length of its image in 32 bits, big-endian, the
-image, the length of its event bytes in 32 bits, and these, to the end of the file; and `crates/days/stdout`, for each
+image, the length of its event bytes in 32 bits, and those bytes, to the end of the file; and `crates/days/stdout`, for each
 day a line `day N`, N from 1, and what the run program prints for it.
 """
 
@@ -24,7 +24,7 @@ TOP = 4_294_967_295         # the greatest 32-bit number
 # ---- Books
 
 def fresh_book(rng, around):
-    """A legal book with nothing used yet, its dates near the time around."""
+    """A legal book with nothing used yet, and dates near the time `around`."""
     book = Book()
     numbers = rng.sample(range(1, 9), rng.randint(1, 5))
     for number in numbers:
@@ -85,7 +85,7 @@ def wide_book(rng, around):
 
 
 def greatest_limits(rng, book):
-    """Raises limits of the book to the greatest that the rules allow."""
+    """Raises some of the book's limits to the greatest that the rules allow."""
     for entry in book.entries:
         if entry.has(COUNT) and rng.random() < 0.5:
             entry.count = 1_000_000
@@ -100,7 +100,7 @@ def greatest_limits(rng, book):
 
 
 def stretch(rng, book, around, times):
-    """Raises limits with the length of the day, so that not all of them are reached early in it."""
+    """Raises limits with the length of the day, so that not all of them are reached early."""
     for entry in book.entries:
         if rng.random() < 0.2:
             continue
@@ -114,7 +114,7 @@ def stretch(rng, book, around, times):
 
 
 def subscription_book(rng, around):
-    """One season subscription that all cabins share, and a few contents that inherit from it."""
+    """One season subscription shared by all cabins, and a few contents that inherit from it."""
     book = Book(assets=[Asset(9, 0, 0)] + [Asset(number, 9, 1) for number in range(1, rng.randint(2, 5))])
     for _ in range(rng.randint(1, 4)):
         entry = fresh_entry(rng, rng.choice((9, 9, 9, 1)), around)
@@ -139,7 +139,7 @@ def make_old(rng, book):
 # ---- Events
 
 def edges(book, t):
-    """Times soon to come at which a rule turns: dates, ends of intervals, ends of open uses."""
+    """Times in the near future at which some rule's result changes: dates, ends of intervals, ends of open uses."""
     found = [player.until for player in book.players if player.open]
     for entry in book.entries:
         if entry.has(START):
@@ -152,7 +152,7 @@ def edges(book, t):
 
 
 def next_event(rng, book, around):
-    """An event for the book as it stands: mostly in line, at times a resend or one to be turned away."""
+    """An event for the current book: mostly in line, sometimes a resend or one to be turned away."""
     index = rng.choice((0, 0, 1, 1, 2, 3, rng.randrange(16)))
     player = book.players[index]
     t = max(book.time, around) + rng.choice((0, 0, 0, 1, 1, 2, 3, 5, 10, 20, 30, 59, 60, 61))
@@ -184,7 +184,7 @@ def next_event(rng, book, around):
 
 
 class Cabins:
-    """Players on one subscription. An acknowledgement may be lost; that cabin then asks the same again, after others
+    """Players on one subscription. An acknowledgement may be lost; that cabin then sends the same request again, after others
     have had their turn."""
 
     def __init__(self, rng, book):
@@ -211,7 +211,7 @@ class Cabins:
 
 
 def damaged(rng, record):
-    """Now and then a record with a byte changed, or one of chance bytes."""
+    """Now and then a record with a byte changed, or one of random bytes."""
     chance = rng.random()
     if chance < 0.985:
         return record
@@ -267,7 +267,7 @@ def play(rng, book, around, cabins, length):
 
 
 def damaged_day(rng, around):
-    """An image with a few bytes changed, cut or added to, and few events, whatever it is answered."""
+    """An image with a few bytes changed, cut off or added, and a few events, whatever the answer."""
     book = fresh_book(rng, around)
     play(rng, book, around, None, rng.randint(1, 40))
     image = bytearray(rights.write(book))

@@ -1,11 +1,11 @@
-"""Chance days against a built program, until so many events have been answered:
+"""Random days against a built program, until EVENTS events have been answered:
 
     python3 oracle/fuzz.py EVENTS [SEED] [--program PATH] [--jobs 1 or 2]
 
-Each day is made from its own number (SEED, SEED + 1, and so on; 1 if not told). The program (target/bin/run if not
-told) is run in a folder of its own with the day's rights.rbk and the events on standard input; in some days these
-come in pieces, as from a pipe. The first difference from the answers of rights.py ends the run: the day's number, the
-event's number, the line expected and the line got are printed, and the day's files are kept under target/fuzz.
+Each day is made from its own seed (SEED, SEED + 1, and so on; from 1 by default). The program (target/bin/run by
+default) is run in its own folder with the day's rights.rbk and the events on standard input; on some days these
+come in pieces, as from a pipe. The first difference from the answers of rights.py ends the run: the day's seed, the
+event's number, the expected and the printed line are shown, and the day's files are kept under target/fuzz.
 
     python3 oracle/fuzz.py --day SEED [--program PATH]
 
@@ -13,7 +13,7 @@ runs one day again.
 
     python3 oracle/fuzz.py --waiting SEED [--program PATH]
 
-plays one day as a player would that waits for each answer before it asks again: every line must come while the
+plays one day like a player that waits for each answer before asking again: every line must come while the
 input is still open.
 """
 
@@ -32,7 +32,7 @@ import days
 import rights
 
 ROOT = Path(__file__).resolve().parent.parent
-BATCH = 40                  # days for one task of a process
+BATCH = 40                  # days per task
 
 
 def day(seed):
@@ -67,7 +67,7 @@ def ask(program, folder, image, events, pieces):
 
 
 def wait_for_each(program, folder, seed):
-    """None if each record is answered before the next one is sent, else what differs."""
+    """None if each record is answered before the next one is sent, otherwise what differs."""
     image, events, expected = days.make_day(seed, 200, "crowd")
     (Path(folder) / "rights.rbk").write_bytes(image)
     child = subprocess.Popen([program], cwd=folder, stdin=subprocess.PIPE, stdout=subprocess.PIPE, bufsize=0)
@@ -90,7 +90,7 @@ def wait_for_each(program, folder, seed):
 
 
 def try_day(program, folder, seed):
-    """(events, None) if the day's answers agree, else (events, what differs)."""
+    """(events, None) if the day's answers agree, otherwise (events, what differs)."""
     image, events, expected = day(seed)
     got = ask(program, folder, image, events, pieces=seed % 50 == 0)
     if got == expected.encode():
@@ -135,7 +135,7 @@ def batch(program, first):
 
 
 def run_batches(program, seed, jobs):
-    """Yields the result of one batch after the other, in order, with at most two processes."""
+    """Yields the results of the batches in order, with at most two processes."""
     if jobs == 1:
         while True:
             yield batch(program, seed)

@@ -1,7 +1,7 @@
 """Makes the stored image cases: python3 oracle/images.py
 
-Each case is a base book or its image with a few small edits, and the answer that document 01 gives it, which is
-written here by hand. The reader of rights.py must agree with every one of them, or nothing is written. It writes
+Each case is a base book or its image with a few small edits, and the answer that document 01 gives, which is
+written here by hand. The reader of rights.py must agree with every one of them, or nothing is written. The script writes
 
   crates/images/data/cases.bin   for each case its length in 16 bits, big-endian, then its bytes, to the end of file
   crates/images/stdout           for each case one line: the number of a refusal, or 0, a space, and the bytes that
@@ -10,8 +10,8 @@ written here by hand. The reader of rights.py must agree with every one of them,
   oracle/images.txt              for each case its answer, its length, its name, its base and its edits
 
 Edits are words: `time N`; `asset I FIELD N`, `entry I FIELD N` and `player I FIELD N` set a field of a record;
-`entry I limits ..` and `use ..` set several (see below); `drop asset I` takes an asset out; `byte I N` and `length N`
-(cut, or filled up with 0) change the image that was made so far.
+`entry I limits ..` and `use ..` set several (see below); `drop asset I` removes an asset; `byte I N` and `length N`
+(cut, or padded with 0) change the image made so far.
 """
 
 from pathlib import Path
@@ -107,7 +107,7 @@ ENTRY_LIMITS = ("count", "timed", "timer", "start", "end", "interval", "accumula
 
 
 def image(base, edits):
-    """The image of a base book after its edits; those of bytes come last."""
+    """The image of a base book after its edits; edits of bytes come last."""
     book, data = base(), None
     for edit in filter(None, (part.strip() for part in edits.split(";"))):
         word, *rest = edit.split()
@@ -135,7 +135,7 @@ def edit_book(book, word, rest):
     if word == "drop":
         del book.assets[int(rest[1])]
         return
-    if word == "use":        # use PLAYER ENTRY BEGIN UNTIL: that player has begun, and has it open
+    if word == "use":        # use PLAYER ENTRY BEGIN UNTIL: that player has sent a begin and has the use open
         index, entry, begin, until = map(int, rest)
         book.players[index] = Player(1, 1, 1, 1, 0, entry, until, 1, entry, begin, until)
         return
@@ -240,7 +240,7 @@ def entries():
         case(25, f"flags {flags}", bare, f"entry 0 flags {flags}")
     case(25, "flags 127, limits in order", limited, "entry 0 flags 127")
     case(25, "last of 64 entries", full, "entry 63 object 0")
-    # Start is bounded by the base's end, 200, and end by its start, 50: equal is good, one beyond is not.
+    # Start is bounded by the base's end, 200, and end by its start, 50: equal is accepted, one beyond is not.
     bounds = [
         ("count", 1, 1, 1_000_000), ("timed", 2, 1, 1_000_000), ("timer", 2, 0, 1_000_000), ("start", 4, 0, 200),
         ("end", 8, 50, 4_000_000_000), ("interval", 16, 1, 100_000_000), ("accumulated", 32, 1, 100_000_000)]
@@ -309,7 +309,7 @@ def players():
 
 
 def odd_but_good_records():
-    """No event leads to these, but they break no rule."""
+    """No event produces these, but they break no rule."""
     case(0, "a stop with code 10", busy, "player 0 code 10; player 0 entry 255; player 0 answer_until 0")
     case(0, "a stop with code 13", busy, "player 0 code 13; player 0 entry 255; player 0 answer_until 0")
     case(0, "an open use beside a granted stop", busy, "player 1 operation 3; player 1 asset 0; player 1 kind 0")

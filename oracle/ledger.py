@@ -1,8 +1,8 @@
 """The ledger of document 01, and demand 3 judged by it.
 
-A ledger is built from events and answers alone. Of the book it reads what no event changes: assets, kinds, flags
-and limits. It is written apart from the rules of events in rights.py, even where the two look alike, so that a
-fault in one of them shows as a difference. It imports nothing.
+A ledger is built from events and answers alone. From the book it reads only what no event changes: assets, kinds, flags
+and limits. It is written separately from the rules of events in rights.py, even where the two look alike, so that a
+fault in one of them shows up as a difference. It imports nothing.
 """
 
 
@@ -33,7 +33,7 @@ class Ledger:
         self.answers = {}    # player: its answer
         self.T = 0           # the time of the latest taken event
 
-    # -- what the papers call by name
+    # -- the terms that the papers define
 
     def is_resend(self, event):
         request = (event.number, event.operation, event.asset, event.kind)
@@ -76,10 +76,10 @@ class Ledger:
         limits = self.entries[entry]
         return (limits.flags & 4 and T < limits.start) or (limits.flags & 8 and T > limits.end)
 
-    # -- the book's assets and entries, in words of their own
+    # -- the book's assets and entries, written separately
 
     def relation(self, entry, asset):
-        """'own' or 'inherited' if the entry can serve the asset, else None."""
+        """'own' or 'inherited' if the entry can serve the asset, otherwise None."""
         holder = self.entries[entry].asset
         if holder == asset:
             return "own"
@@ -94,7 +94,7 @@ class Ledger:
         return [p for p in range(len(self.entries)) if self.entries[p].kind == kind and self.relation(p, asset)]
 
     def comes_before(self, a, b, asset):
-        """Whether the entry at position a goes before the one at b: rules (i) to (v), one after the other."""
+        """Whether the entry at position a goes before the one at b: rules (i) to (v), in turn."""
         x, y = self.entries[a], self.entries[b]
         if (x.flags == 0) != (y.flags == 0):
             return x.flags == 0
@@ -125,7 +125,7 @@ class Ledger:
             found.append(old_until + limits.accumulated - self.spent_seconds(entry))
         return found
 
-    # -- judging one answer by the ledger before it, and taking it in
+    # -- judging one answer by the ledger before it, then adding it to the ledger
 
     def judge(self, event, answer):
         code, entry, until = answer

@@ -1,7 +1,7 @@
 """The rights server a second time, in plain Python, from document 01 alone.
 
 It holds the book, reads and writes its image, decodes an event record and answers one event.
-It shares nothing with the proved program, so that an answer on which both agree was reached twice.
+It shares nothing with the proved program, so an answer on which both agree was reached twice.
 """
 
 from dataclasses import dataclass, field
@@ -204,14 +204,14 @@ def is_grantable(entry, t):
 
 
 def rank(entry, position, asked):
-    """Least is chosen first: rules (i) to (v) of the choice."""
+    """The least rank is chosen: rules (i) to (v) of the choice."""
     end = entry.end if entry.has(END) else LATEST + 1
     running = entry.has(INTERVAL) and entry.started
     return (0 if entry.flags == 0 else 1, end, 0 if running else 1, 0 if entry.asset == asked else 1, position)
 
 
 def least_until(entry, first, t, paid_to):
-    """The least of the bounds; the seconds already paid for reach up to paid_to."""
+    """The least of the bounds; the seconds already counted reach up to paid_to."""
     bounds = [t + GRANT]
     if entry.has(END):
         bounds.append(entry.end + 1)
@@ -274,7 +274,7 @@ def answer_record(book, record):
 
 
 def run(image, records):
-    """What the run program prints, as text: the image's bytes, then the bytes of its input."""
+    """What the run program prints, as text, given the image's bytes and the bytes of its input."""
     code, book = read(image)
     if code != 0:
         return f"{code}\n"

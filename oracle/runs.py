@@ -2,11 +2,11 @@
 
     python3 oracle/runs.py
 
-writes, for the program of each crate, its input, the book and the text that it must print, by the second program:
+writes, for the program of each crate, its input, its book, and the text that it must print according to the second program:
 
-  crates/run_long   a book of the greatest size, 3,979 bytes, and 16,000 records and a half: several times the 65,545 bytes
-                    that the program reads at most at a time
-  crates/run_over   the same book with one byte behind it: refused, and no record is answered
+  crates/run_long   a book of the greatest size, 3,979 bytes, and 16,000 and a half records: several times the 65,545 bytes
+                    that the program reads at once
+  crates/run_over   the same book with one byte after it: refused, and no record is answered
 """
 
 import random
@@ -23,7 +23,7 @@ AROUND = 1_700_000_000
 
 
 def greatest_book(rng):
-    """64 assets and 64 entries with limits that last for a part of the day."""
+    """64 assets and 64 entries, with limits that last for part of the day."""
     book = days.wide_book(rng, AROUND)
     while (len(book.assets), len(book.entries)) != (MOST, MOST):
         book = days.wide_book(rng, AROUND)
@@ -32,7 +32,7 @@ def greatest_book(rng):
 
 
 def resends(book):
-    """Each player's latest request again, and another request under a number that is used."""
+    """Each player's latest request again, and another request under a used number."""
     for index, player in enumerate(book.players):
         if player.number != 0:
             yield Event(index, player.number, player.operation, player.asset, player.kind, book.time)
@@ -41,7 +41,7 @@ def resends(book):
 
 
 def long_run(rng, book):
-    """The records: chance events, and where a read ends the resends of what came before it."""
+    """The records: random events, and where a read ends, resends of what came before it."""
     records = []
     waiting = []
     while len(records) < RECORDS:

@@ -1,7 +1,7 @@
 """The second program tests itself: python3 oracle/selftest.py [events]
 
-The worked afternoon of document 01, then random days. Of each day, demand 3 is judged by the ledger; every book on
-the way is written and read back; what is turned away and what is a resend leaves the book; and the day without its
+The afternoon of document 01, then random days. On each day, demand 3 is judged by the ledger; every book along
+the way is written and read back; events turned away and resends must leave the book unchanged; and the day without its
 resends is run again. Last, servers with one planted fault each must be caught by the ledger.
 """
 
@@ -112,7 +112,7 @@ def run_day(rng, length):
     return seen
 
 
-# ---- Planted faults: each must be caught, else the tests above see too little
+# ---- Planted faults: each must be caught, or the tests above are too weak
 
 def resend_compares_time(real):
     def step(book, event):

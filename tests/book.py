@@ -3,8 +3,8 @@
 
     python3 tests/book.py [BOOKS [PART ..]]
 
-BOOKS is how many random books are tried (300 if not given), a PART one of the parts that are printed. Builds the
-library for C if it is missing. The last line is `N passed, M failed`; the exit status is 1 where anything failed.
+BOOKS is how many random books are tried (300 if not given), PART is one of the parts that are printed. Builds the
+library for C if it is missing. The last line is `N passed, M failed`; the exit status is 1 if anything failed.
 """
 
 import copy
@@ -34,7 +34,7 @@ passed = failed = 0
 
 
 def check_all(name, parts):
-    """One test of many parts, each whether it holds and what it is about."""
+    """One test of many parts, each with whether it holds and what it is about."""
     wrong = [detail for ok, detail in parts if not ok]
     check(name, not wrong, "; ".join(map(str, wrong[:3])))
 
@@ -67,7 +67,7 @@ def call(*args, stdin=b"", tool=TOOL, **how):
 
 
 def refused(name, fragment, *args, **how):
-    """The call ends with 2, prints nothing on standard output, and says this, plainly."""
+    """The call ends with status 2, prints nothing on standard output, and gives this message, plainly."""
     done = call(*args, **how)
     plain = "Traceback" not in done.err and len(done.err) < 600 and 0 < done.err.count("\n") <= 3
     check(name, done.status == 2 and done.out == b"" and fragment in done.err and plain, f"wanted `{fragment}`, got {done}")
@@ -79,7 +79,7 @@ def refused(name, fragment, *args, **how):
 BOOK = "asset 1 key\nasset 9 parent\n"
 ENTRY = "entry 0: object 1, asset 1, play"
 NINES = "9" * 5000
-BOOK_LINES = [          # the text behind BOOK, the number of the line that is named, a part of the message
+BOOK_LINES = [          # the text after BOOK, the number of the line that is named, a part of the message
     ("count 2", 3, "a line begins with time, asset, entry or player, not with `count`"),
     ("time", 3, "the line ends where the time is expected"),
     ("time 5\ntime 6", 4, "`time` is given twice"),
@@ -264,7 +264,7 @@ def test_inputs(folder):
 
 
 def test_forgiving(folder):
-    """What a text may have: Windows line ends, tabs, a byte order mark, an empty file, no line feed at the end."""
+    """What a text may contain: Windows line ends, tabs, a byte order mark, an empty file, no line feed at the end."""
     plain = "time 5\nasset 1 key\nentry 0: object 1, asset 1, play, count 2\n"
     wanted = call("make", "-", "-", stdin=plain.encode())
     check("make from and to standard streams", wanted.status == 0 and wanted.err == "" and len(wanted.out) == 451, wanted)
@@ -383,7 +383,7 @@ def test_files(folder):
 
 
 def test_streams(folder):
-    """Standard output that is closed or full."""
+    """Standard output closed or full."""
     for args in (["show", AFTERNOON / "rights.rbk"], ["--help"], ["make", AFTERNOON / "book.txt", "-"],
                  ["explain", AFTERNOON / "events.bin", AFTERNOON / "expected.txt"]):
         with open("/dev/full", "wb") as full:
@@ -514,7 +514,7 @@ def test_round_trips(folder, how_many):
 # ---- diff
 
 def fields_of(book):
-    """(what diff names, the record, a field) for the fields of a book that can be one greater in some other book."""
+    """(what diff names, the record, a field) for the fields of a book that can be one larger in some other book."""
     yield "time", book, "time"
     for asset in book.assets:
         yield f"asset {asset.number}", asset, "inherit"
@@ -576,8 +576,8 @@ def free_player(book, t):
 
 
 def asked_alone(rng, book, position, t):
-    """(a book in which no other entry has this entry's kind, a begin of that kind at t for each asset that could have to
-    do with it, and for a few others)."""
+    """(a book in which no other entry has this entry's kind, a begin of that kind at t for each asset that could be
+    concerned, and for a few others)."""
     book, wanted = copy_of(book), book.entries[position]
     for other, entry in enumerate(book.entries):
         if other != position and entry.kind == wanted.kind:
@@ -592,7 +592,7 @@ def granted_by_oracle(book, events):
 
 
 def granted_by_run(folder, book, events):
-    """The same asked of the proved program, one run for each request."""
+    """The same question to the proved program, one run for each request."""
     (folder / "rights.rbk").write_bytes(rights.write(book))
     for event in events:
         done = subprocess.run([str(RUN)], input=rights.encode(event), cwd=folder, capture_output=True)
@@ -625,7 +625,7 @@ def test_left(folder, how_many):
 
 
 def figures(book, t, lines):
-    """The figures of `left` are the meters after a request at t that itself changes none."""
+    """The figures of `left` are the meters after a request at t that itself changes no meter."""
     answer = rights.step(book, Event(*free_player(book, t), rights.STOP, 0, 0, t))
     yield answer[0] == 14, "nothing to stop"
     for position, entry in enumerate(book.entries):
@@ -746,8 +746,8 @@ def compare_after(folder, name, data, stream):
 
 
 def test_building(folder):
-    """On a fresh copy, with a stand-in for rt: what is missing is built, quietly; without its tools, or if they fail,
-    that is said."""
+    """On a fresh copy, with a stand-in for rt: what is missing is built quietly; if tools are missing or fail,
+    a message says so."""
     root = folder / "root"
     for part in ("tools", "embed", "oracle", "examples"):
         shutil.copytree(ROOT / part, root / part, ignore=shutil.ignore_patterns("__pycache__"))
@@ -811,7 +811,7 @@ def test_explain(folder):
 
 
 def test_help(folder):
-    """What --help shows as text is read."""
+    """The example texts that --help shows can be read."""
     shown = call("--help").out.decode()
     lines = [re.sub("  .*", "", line.strip()) for line in shown.splitlines() if line.startswith("    ")]
     book = [line for line in lines if line.split()[0] in ("time", "asset", "entry")]

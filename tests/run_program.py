@@ -1,9 +1,9 @@
-"""What the run program does with its files and pipes, where no contract can speak.
+"""What the run program does with its files and pipes, which no contract can cover.
 
     python3 tests/run_program.py [PROGRAM]
 
 PROGRAM is target/bin/run if none is named. What it must print comes from the second program, oracle/rights.py. The last line is
-`N passed, 0 failed`, and the exit status is not 0 where a test failed.
+`N passed, 0 failed`, and the exit status is not 0 if a test failed.
 """
 
 import fcntl
@@ -27,7 +27,7 @@ SHORT_EVENTS = (ROOT / "crates" / "run" / "stdin").read_bytes()
 LONG = (ROOT / "crates" / "run_long" / "data" / "rights.rbk").read_bytes()
 LONG_EVENTS = (ROOT / "crates" / "run_long" / "stdin").read_bytes()
 NOBODY = 65534
-SET_PIPE_SIZE = 1031        # F_SETPIPE_SZ of Linux, which fcntl names from Python 3.10 on
+SET_PIPE_SIZE = 1031        # Linux's F_SETPIPE_SZ, which fcntl has only from Python 3.10
 
 
 class Skipped(Exception):
@@ -63,7 +63,7 @@ def run(image, events, arguments=(), folder=None, **options):
 
 
 def through_pipes(image, events, pieces, blocking_in=True, blocking_out=True, size=None, lazy=0.0):
-    """Standard output and error where the events come in pieces over a pipe; lazy: seconds between two reads of the answers."""
+    """Standard output and error when the events come in pieces over a pipe; lazy: seconds between two reads of the answers."""
     with folder_with(image) as folder:
         in_read, in_write = os.pipe()
         out_read, out_write = os.pipe()
@@ -101,7 +101,7 @@ def through_pipes(image, events, pieces, blocking_in=True, blocking_out=True, si
 
 
 def pieces_of(length, sizes):
-    """Those sizes in turn, as many as lie within the length."""
+    """The sizes in turn, repeated as long as they fit the length."""
     found = []
     while sum(found) < length:
         found.append(sizes[len(found) % len(sizes)])
@@ -168,7 +168,7 @@ def test_a_long_input_from_a_file():
     same(done.stderr, b"", "standard error")
 
 
-# ---- Descriptors that do not block
+# ---- Non-blocking descriptors
 
 def test_standard_input_that_does_not_block():
     events = LONG_EVENTS[:13 * 3000 + 5]
@@ -196,7 +196,7 @@ def test_a_refusal_where_standard_output_does_not_block():
 
 
 def test_waiting_takes_no_time_of_the_processor():
-    """A second of waiting at an input that does not block."""
+    """A second of waiting on a non-blocking input."""
     with folder_with(SHORT) as folder:
         in_read, in_write = os.pipe()
         os.set_blocking(in_read, False)
@@ -250,7 +250,7 @@ def test_the_longest_image_and_one_byte_more():
         same(err, "", "standard error")
 
 
-# ---- Starting it wrong
+# ---- Wrong invocations
 
 def test_an_argument():
     for arguments in (["rights.rbk"], ["--help"], [""], ["a", "b"]):

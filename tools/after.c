@@ -1,10 +1,10 @@
-/* Answers a file of event records from a book, and writes the book after them, over the proved library:
+/* Answers a file of event records from a book, and writes the book after them, using the proved library:
  *
  *     after BOOK NEXT < EVENTS > ANSWERS
  *
- * Events are read in blocks, so there may be any number; calls on one block of whole records after the other print the
+ * Events are read in blocks, so there may be any number; calls on successive blocks of whole records print the
  * same and end with the same book as one call on all of them (crates/embed/specs/Pieces.antt). The exit status is 0; 20
- * to 27 where the book is refused with that number; 1 where a file cannot be read or written. `tools/book.py after`
+ * to 27 if the book is refused with that number; 1 if a file cannot be read or written. `tools/book.py after`
  * builds and calls it. */
 #include <stdio.h>
 #include <stdlib.h>
@@ -36,7 +36,7 @@ int main(int count, char **words)
         return 1;
     }
     FILE *book = opened(words[1], "rb");
-    size_t image_length = fread(image, 1, sizeof image, book); /* a longer file is refused as this part of it is */
+    size_t image_length = fread(image, 1, sizeof image, book); /* a longer file is refused like this part of it */
     if (ferror(book))
         fail(words[1]);
 

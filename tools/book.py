@@ -71,7 +71,7 @@ COMMANDS = {
 
 
 def run(words):
-    """Does what the words ask; the exit status."""
+    """Runs the command in the words; returns the exit status."""
     if not words or "--help" in words or words[0] in ("-h", "help"):
         print(__doc__.strip())
         return 0
@@ -96,7 +96,7 @@ def take_time(words):
         if word == "--at" and at + 1 < len(words):
             end = at + 2
             while end < len(words) and re.fullmatch(r"[0-9]{2}:[0-9:]+Z?|UTC|\([0-9]+\)", words[end]):
-                end += 1        # a time of several words that has no quotes around it
+                end += 1        # a time of several words, without quotes
             return words[:at] + words[end:], {"at": " ".join(words[at + 1:end])}
     return words, {}
 
@@ -109,7 +109,7 @@ def main():
     except Trouble as trouble:
         print(trouble, file=sys.stderr)
         status = 2
-    except BrokenPipeError:     # whoever reads has seen enough, as in `| head`
+    except BrokenPipeError:     # the reader has seen enough, as in `| head`
         status = 0
     except OSError as problem:
         print(f"standard output: {(problem.strerror or str(problem)).lower()}", file=sys.stderr)
@@ -120,7 +120,7 @@ def main():
 
 
 def leave(status):
-    """Ends without a second message where standard output or error cannot take what is left for it."""
+    """Exits without a second message if standard output or error cannot take the rest."""
     for stream in (sys.stdout, sys.stderr):
         try:
             stream.flush()

@@ -1,26 +1,26 @@
 #!/usr/bin/env python3
-"""The mutation pass: edits of one place in the code and in the definitions, each given to the prover.
+"""The mutation pass: single edits of the code and of the definitions, each given to the prover.
 
     tools/mutate.py list [CRATE..]           how many edits there are, and how many are drawn, by crate and kind
-    tools/mutate.py show ID..                the edits' diffs and what came of them
-    tools/mutate.py run [--jobs N] [CRATE..] check the edits that are drawn; without names, of every crate
-    tools/mutate.py table [CRATE..]          what came of them: counts by crate and by kind, then what no check refused
+    tools/mutate.py show ID..                the edits' diffs and their results
+    tools/mutate.py run [--jobs N] [CRATE..] check the edits that are drawn; without names, those of every crate
+    tools/mutate.py table [CRATE..]          the results: counts by crate and by kind, then what no check refused
 
 The edits of `model` are edits of its definitions (specs/*.antt; not the proofs, and not the statements Demand1, Demand2, Demand3,
-Saved, Exact). Those of every other crate are edits of its code (src/*.rt; not contracts, types, `use` and comments).
+Saved, Exact, Renewed). Those of every other crate are edits of its code (src/*.rt; not contracts, types, `use` and comments).
 
-Needs target/ with every crate proved (`rt check`), Python 3 and, for the runs without proof, rustc. Which edits are drawn depends
-on nothing but the files. Each is checked as `rt must-fail` would, in a copy of its crate over the proved libraries below it. A
-line for each goes into target/mutants/results.jsonl; a second run takes up where the first one stopped. An edit that the
-compiler refuses is thrown away, and the next one is drawn for it.
+Needs target/ with every crate proved (`rt check`), Python 3 and, for the runs without proof, rustc. The sample of edits depends
+only on the files. Each edit is checked as `rt must-fail` would, in a copy of its crate on top of the proved libraries below it. A
+line for each goes into target/mutants/results.jsonl; a second run continues where the first one stopped. An edit that the
+compiler refuses is thrown away, and the next one is drawn in its place.
 
-What comes of an edit of the code:
+Results for an edit of the code:
     fact        refused: a fact that the code must meet is false, or is no longer found
-    shape       refused, but first because a proof file no longer fits the code, which shows nothing
+    shape       refused, but first because a proof file no longer fits the code, which is no evidence
     kept        proved
-and, beside it, whether the edited code, run without proof on the stored images and days, prints something else than is stored
-(run: differs, same). Of an edit of a definition:
-    computed    refused by a computed example: the checker computes another value than the one written down
+and also whether the edited code, run without proof on the stored images and days, prints something other than what is stored
+(run: differs, same). For an edit of a definition:
+    computed    refused by a computed example: the checker computes a value other than the one written down
     theorem     refused by the proof of a theorem, and by no computed example
     kept        everything is still proved
 """
@@ -46,7 +46,7 @@ SEED = 'rights'
 CHECK_SECONDS = 900
 RUN_SECONDS = 60
 
-# How many edits are drawn of each crate. The run programs have one call to drop.
+# How many edits are drawn from each crate. The run programs have one call to drop.
 DRAWN = {
     'model': 100,
     'book': 4, 'image_records': 5, 'image_entry': 6, 'image_write': 7, 'image_parse': 8, 'image_limits': 8, 'image_players': 9, 'image_meters': 8,
@@ -55,7 +55,7 @@ DRAWN = {
     'embed': 6, 'days': 3, 'run': 1, 'run_missing': 1, 'run_refused': 1, 'run_cut': 1,
 }
 DEFINITIONS = ['Book', 'Image', 'Events', 'Ledger', 'Run']
-# What of model's proofs is a computed example: no variable stands in it, so the checker computes both sides. A file, or one declaration.
+# Which of model's proofs are computed examples: they have no variables, so the checker computes both sides. A file, or one declaration.
 CLOSED = {'Afternoon', 'Cases', 'Printed', 'Account', 'Bounds', 'Example.rules-kept', 'BookExamples.noBook-legal', 'BookExamples.greatest-legal', 'BookExamples.greatest-read',
           'BookExamples.greatest-length', 'BookExamples.small-bytes', 'BookExamples.damaged', 'BookExamples.two-faults', 'BetweenRules', 'BeginCodes', 'AnswerCodes'}
 
@@ -66,7 +66,7 @@ def read(path):
 
 
 class Edit:
-    """One place of a file, from start to end, with another text there."""
+    """A replacement of one place in a file, from start to end."""
 
     def __init__(self, crate, path, where, kind, start, end, new):
         self.crate, self.path, self.where, self.kind = crate, path, where, kind
@@ -84,7 +84,7 @@ class Edit:
 
 
 def exchanged(text, a, b):
-    """The span from a's start to b's end with the two texts exchanged."""
+    """The span from a's start to b's end with the two texts swapped."""
     return a[0], b[1], text[b[0]:b[1]] + text[a[1]:b[0]] + text[a[0]:a[1]]
 
 
@@ -385,7 +385,7 @@ class Code:
 
 
 class Types:
-    """What the crates declare, as far as the edits need it: fields of structs, parameters and results of functions."""
+    """What the crates declare, as far as the edits need it: struct fields, and the parameters and results of functions."""
 
     def __init__(self, files):
         self.fields, self.functions = {}, {}
@@ -482,7 +482,7 @@ class CodeEdits:
         start, end = node.place
         operator = node.operator
         for turned in TURNED.get(operator, []):
-            # `x == 0` and `x <= 0` say the same
+            # `x == 0` and `x <= 0` mean the same
             if operator + turned != '==<=' or self.text[right.start:right.end] != '0':
                 self.add('comparison', start, end, turned)
         if operator in '&|':
@@ -497,7 +497,7 @@ class CodeEdits:
             self.add('logic', node.start, node.start + 1, '')
 
     def on_field(self, node, known):
-        """The field read, exchanged for the next one of its type."""
+        """The field read, replaced by the next one of its type."""
         fields = self.types.fields.get(self.types.of(node.parts[0], known) or '', [])
         names = [n for n, t in fields if t == dict(fields).get(node.name)]
         if len(names) > 1:
@@ -526,7 +526,7 @@ class CodeEdits:
             self.exchange('arms', node.parts[k], node.parts[k + 1])
 
     def step(self, node):
-        """A loop's step, `i = i + 1`: without it the program does not end, which is no edit worth a check."""
+        """A loop's step, `i = i + 1`: without it the program does not end, so the edit is not worth a check."""
         return node.form == 'store' and re.fullmatch(r'(\w+) = \1 [-+] 1;', self.text[node.start:node.end])
 
     def on_store(self, node, known):
@@ -702,7 +702,7 @@ class DefinitionEdits:
             self.walk(clause.body)
 
     def names(self, node, clause):
-        """Whether the clause's variables stand in the term: then it means nothing in another clause."""
+        """Whether the clause's variables occur in the term: then it means nothing in another clause."""
         bound = re.findall(r"[^\s()]+", ' '.join(clause.patterns))
         return node.form == 'id' and node.name in bound or any(self.names(p, clause) for p in node.parts)
 
@@ -752,7 +752,7 @@ class DefinitionEdits:
         if head.form != 'id':
             return
         turned = {'ltb': 'leb', 'leb': 'ltb', 'eqb': 'leb'}.get(head.name)
-        # `eqb x 0` and `leb x 0` say the same
+        # `eqb x 0` and `leb x 0` mean the same
         if turned and not (head.name == 'eqb' and given[-1].form == 'num' and given[-1].name == '0'):
             self.add('comparison', head.start, head.end, turned)
         if head.name in ('ltb', 'leb') and len(given) == 2:
@@ -768,7 +768,7 @@ class DefinitionEdits:
                     self.exchange('operands', given[k], given[k + 1])
 
     def on_field(self, node):
-        """The field read, exchanged for the next one of its type."""
+        """The field read, replaced by the next one of its type."""
         if node.parts[0].form == 'field':
             inner = node.parts[0].name
             kind = {'limits': 'Limits', 'meters': 'Meters', 'last': 'Last', 'current': 'Open', 'answer': 'Answer', 'event': 'Event'}.get(inner)
@@ -872,7 +872,7 @@ class Pass:
 # ---- Checking an edit
 
 def crate_words(deps, crate, file):
-    """The words that `rt` gives to rattle for a crate."""
+    """The arguments that `rt` passes to rattle for a crate."""
     words = ['--crate-name', crate, file, '--extern', 'std=%s/rlib/std.rlib' % OWN]
     for d in deps[crate]:
         place = os.path.join(TARGET, 'rlib') if d in deps else os.path.join(OWN, 'rlib')
@@ -882,7 +882,7 @@ def crate_words(deps, crate, file):
 
 
 def timed_run(words, seconds, **more):
-    """Runs a command, and ends it and what it started when its time is over: (status or None, output)."""
+    """Runs a command, and kills it and its children when its time is over: (status or None, output)."""
     p = subprocess.Popen(words, stdout=subprocess.PIPE, stderr=subprocess.STDOUT, start_new_session=True, **more)
     try:
         out, _ = p.communicate(timeout=seconds)
@@ -894,7 +894,7 @@ def timed_run(words, seconds, **more):
 
 
 def crate_copy(edit, where):
-    """The edit's crate with the edit made, in a folder of its own."""
+    """The edit's crate with the edit made, in its own folder."""
     shutil.rmtree(where, ignore_errors=True)
     os.makedirs(where)
     for part in ('src', 'specs', 'proofs'):
@@ -924,8 +924,8 @@ def check(deps, edit, slot):
 
 # ---- What the prover said
 
-# A fact that fails: an equation whose sides differ, or a search, a rewriting or a decision procedure that does not reach its goal.
-# Everything else is put down to a proof file that does not fit, as is a lemma given what it is not about (`?` in what is expected).
+# A fact that fails: an equation whose sides differ, or a search, a rewrite or a decision procedure that does not reach its goal.
+# Everything else is attributed to a proof file that does not fit, including a lemma applied to the wrong thing (`?` in what is expected).
 FAILS = re.compile(r"it is not proved that|must be a path whose two ends are equal|`search`: no proof|omega|`cc`|`arith`|does not hold|"
                    r"the two (?:types|values) (?:first )?(?:differ|are)|expected type")
 MISFITS = re.compile(r"\?\d+ c|`\?\d|has no field|types\.Kit\.rel|no occurrence of|is expected here|→ Prim\.⊥`?\s*\(expected\)|"
@@ -933,7 +933,7 @@ MISFITS = re.compile(r"\?\d+ c|`\?\d|has no field|types\.Kit\.rel|no occurrence 
 
 
 def errors(log):
-    """(place, declaration, text) of each refusal that is not the echo of another one, in order."""
+    """(place, declaration, text) of each refusal that does not merely follow from another one, in order."""
     found = []
     for m in re.finditer(r'^(\S+?):(\d+):(\d+): error: (?:`([^`]*)`: )?(.*(?:\n  .*)*)', log, re.M):
         if 'was not admitted' not in m.group(5).split('\n')[0]:
@@ -946,7 +946,7 @@ def errors(log):
 
 
 def verdict(crate, status, log):
-    """(what came of the edit, what was said first, where computed examples and theorems refused it)"""
+    """(the edit's result, the first message, where computed examples and theorems refused it)"""
     if status is None:
         return 'timeout', '', []
     if status == 0:
@@ -967,7 +967,7 @@ def verdict(crate, status, log):
     return 'fact' if fails else 'shape', first[:600], []
 
 
-# ---- Running without proof, as `rt try` does, on what is stored
+# ---- Running without proof, as `rt try` does, on the stored runs
 
 # One more way to the stored answers: a stored program with another call in it, here the images through the library for C.
 # (crate, program, its call, the call instead, libraries besides the program's, the function called)
@@ -1000,7 +1000,7 @@ def stored_runs(one, crate):
     """(name, crate with data and stdout, libraries, other way) of each stored run that reaches the crate."""
     runs = []
     for c in one.deps:
-        # what the programs of measuring and of reading from a pipe reach, `images` and `days` reach too
+        # whatever the programs for timing and for reading from a pipe reach, `images` and `days` reach too
         if 'main' in sources(c)[0] and crate in [c] + (one.reached(c) if c in ('images', 'days') else ['serve'] if 'serve' in one.deps[c] else []):
             runs.append((c, c, one.deps[c], None))
     for way in OTHER_WAYS:
@@ -1012,7 +1012,7 @@ def stored_runs(one, crate):
 
 
 def unproved(one, edit, copied):
-    """Whether a stored run prints something else with the edit made: (differs, same or broken, the first that differs)."""
+    """Whether a stored run prints something different with the edit made: (differs, same or broken, the first that differs)."""
     at = os.path.join(ROOT, 'crates')
     for name, crate, deps, way in stored_runs(one, edit.crate):
         place = lambda c: copied if c == edit.crate else os.path.join(at, c)
@@ -1142,7 +1142,7 @@ def list_edits(one, names):
 
 
 def described(one, r):
-    """The edit as the lines that it changes."""
+    """The edit, shown as the lines it changes."""
     yield '%s %s/%s:%d, %s, %s' % (r['id'], r['crate'], r['path'], r['line'], r['where'], r['kind'])
     e = one.all.get(r['id'])
     if e:

@@ -1,6 +1,6 @@
-//! The rights server's core for Rust: safe functions over the static library `libembed.a`.
+//! The rights server's core for Rust: safe functions on top of the static library `libembed.a`.
 //!
-//! The library holds nothing between calls. The book is its image, the bytes of `rights.rbk`: the caller keeps them and
+//! The library keeps no state between calls. The book is passed as its image, the bytes of `rights.rbk`: the caller keeps them and
 //! saves them when it likes. What a call returns and leaves in the buffers is proved for every input. The declarations
 //! below are not checked against that proof, so they change only with `crates/embed/src/lib.rt`.
 //!
@@ -9,15 +9,15 @@
 
 /// Bytes of an event record.
 pub const RECORD: usize = 13;
-/// No answer's line is longer, its line feed included.
+/// The longest line of an answer, including its line feed.
 pub const LINE: usize = 19;
 pub const LONGEST_IMAGE: usize = 3979;
 /// Bytes of stack that are enough for any call (`docs/EMBEDDING.md`).
 pub const STACK: usize = 262_144;
-/// In place of a number left: there is no such limit.
+/// In place of a remaining number: there is no such limit.
 pub const NO_LIMIT: u32 = u32::MAX;
 
-/// Why a call was refused. Where it was, no byte of any buffer has changed.
+/// Why a call was refused. If it was, no byte of any buffer has changed.
 #[derive(Clone, Copy, Debug, PartialEq, Eq)]
 pub enum Refused {
     /// The image breaks a rule: 20 to 27 of document 01's table.
@@ -28,7 +28,7 @@ pub enum Refused {
     NotThere,
 }
 
-/// An event in numbers, as they stand in a record: operation 1 begin, 2 continue, 3 stop; kind 1 play, 2 display,
+/// An event in numbers, as they are in a record: operation 1 begin, 2 continue, 3 stop; kind 1 play, 2 display,
 /// 3 execute, 4 print, 5 export. Asset and kind are 0 for a continue and a stop.
 #[derive(Clone, Copy, Debug, PartialEq, Eq)]
 pub struct Event {
@@ -84,10 +84,10 @@ pub struct Entry {
     pub started: u32,
 }
 
-/// What is left of an entry at a time; `NO_LIMIT` where there is no such limit.
+/// What is left of an entry at a time; `NO_LIMIT` if there is no such limit.
 #[derive(Clone, Copy, Debug, PartialEq, Eq)]
 pub struct Left {
-    /// 1 where the entry's own limits allow a grant at that time.
+    /// 1 if the entry's own limits allow a grant at that time.
     pub grantable: u32,
     pub count: u32,
     pub timed: u32,
@@ -111,7 +111,7 @@ pub struct Player {
 }
 
 mod library {
-    // A slice passes as its pointer and its length.
+    // A slice is passed as its pointer and its length.
     #[link(name = "embed", kind = "static")]
     extern "C" {
         pub fn rights_check(image: *const u8, image_length: usize) -> u8;
@@ -171,7 +171,7 @@ fn judged(code: u8) -> Result<(), Refused> {
     }
 }
 
-/// The bytes that `out` needs for so many bytes of records. A last record that is cut short counts.
+/// The bytes that `out` needs for that many bytes of records. A last record that is cut short counts as one.
 pub fn room(records_length: usize) -> usize {
     records_length.div_ceil(RECORD).saturating_mul(LINE)
 }
@@ -182,11 +182,11 @@ pub fn check(image: &[u8]) -> Result<(), Refused> {
     judged(unsafe { library::rights_check(image.as_ptr(), image.len()) })
 }
 
-/// Answers event records from the book in the image, one after the other, and leaves the book after the last record in
+/// Answers event records from the book in the image, in turn, and leaves the book after the last record in
 /// the image. The answers are lines `code entry until` at the start of `out`; their length is returned.
 pub fn answer(image: &mut [u8], records: &[u8], out: &mut [u8]) -> Result<usize, Refused> {
     let mut written = 0u64;
-    // The borrows say that the slices are valid and do not overlap. The function keeps no pointer.
+    // The borrows guarantee that the slices are valid and do not overlap. The function keeps no pointer.
     let code = unsafe {
         library::rights_answer(
             image.as_mut_ptr(),
@@ -201,7 +201,7 @@ pub fn answer(image: &mut [u8], records: &[u8], out: &mut [u8]) -> Result<usize,
     judged(code).map(|()| written as usize)
 }
 
-/// As `answer`, with the text in a buffer of its own. The image alone can be refused.
+/// Like `answer`, with the text in its own buffer. Only the image can be refused.
 pub fn answers(image: &mut [u8], records: &[u8]) -> Result<Vec<u8>, Refused> {
     let mut out = vec![0; room(records.len())];
     let written = answer(image, records, &mut out)?;
@@ -209,11 +209,11 @@ pub fn answers(image: &mut [u8], records: &[u8]) -> Result<Vec<u8>, Refused> {
     Ok(out)
 }
 
-/// Answers one event from the book in the image, and leaves the book after it in the image: the step that `answer` does
-/// for the event's record. The image alone can be refused.
+/// Answers one event from the book in the image, and leaves the book after it in the image: the same step as `answer` does
+/// for the event's record. Only the image can be refused.
 pub fn answer_one(image: &mut [u8], event: Event) -> Result<Answer, Refused> {
     let mut answer = Answer { code: 0, entry: 0, until: 0 };
-    // The borrows say that what is pointed to is valid and does not overlap. The function keeps no pointer.
+    // The borrows guarantee that what is pointed to is valid and does not overlap. The function keeps no pointer.
     let code = unsafe {
         library::rights_answer_one(
             image.as_mut_ptr(),
@@ -295,7 +295,7 @@ pub fn entry(image: &[u8], position: u32) -> Result<Entry, Refused> {
 }
 
 /// What is left of the entry at a position, as an event at that time would find it. A time before the book's counts as
-/// the book's, so 0 asks for what is left in the image as it stands.
+/// the book's, so 0 asks for what is left in the image as it is.
 pub fn left(image: &[u8], position: u32, time: u32) -> Result<Left, Refused> {
     let mut out = [0; 4];
     let code = unsafe { library::rights_left(image.as_ptr(), image.len(), position, time, out.as_mut_ptr(), out.len()) };

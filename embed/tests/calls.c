@@ -1,13 +1,13 @@
-/* Calls the library on stored files and prints what the programs of crates/days and crates/images print for them:
+/* Calls the library on the stored files and prints what the programs of crates/days and crates/images print for them:
  *
- *     calls days N days.bin     the answers of each day, N records to a call (0: all of them), the image handed from call to call
- *     calls ones days.bin       the same by rights_answer_one, an event to a call (a last record cut short by rights_answer)
+ *     calls days N days.bin     the answers of each day, N records per call (0: all of them), the image handed from call to call
+ *     calls ones days.bin       the same with rights_answer_one, one event per call (a last record cut short goes through rights_answer)
  *     calls images cases.bin    the number of a refusal, or 0 and the image that a call without records leaves
- *     calls seen days.bin       what the calls that read an image say of each day's book, before it, on the way and after it
- *     calls seen-images cases.bin    the same of each stored image; embed/tests/seen.py prints both by the second program
+ *     calls seen days.bin       what the calls that read an image say of each day's book, before, during and after the day
+ *     calls seen-images cases.bin    the same for each stored image; embed/tests/seen.py prints both from the second program
  *
- * On the way it holds every call to its word: bytes behind the text stay, a refused call changes no byte of any buffer.
- * It ends with status 1 at the first that does not. */
+ * It also checks what every call promises: bytes after the text stay, a refused call changes no byte of any buffer.
+ * It exits with status 1 at the first violation. */
 #include <stdio.h>
 #include <stdlib.h>
 #include <string.h>
@@ -16,7 +16,7 @@
 
 enum { LONGEST = 70000, ROOM = 110000, BEHIND = 64, FILL = 0xa5 };
 
-/* Each with more bytes than are ever lent, so that a write behind the end is seen. */
+/* Each has more bytes than are ever lent, so that a write past the end is noticed. */
 static uint8_t image[LONGEST + BEHIND], image_before[LONGEST + BEHIND];
 static uint8_t records[LONGEST + BEHIND];
 static uint8_t out[ROOM + BEHIND], out_before[ROOM + BEHIND];
@@ -47,7 +47,7 @@ static void fill(FILE *f, uint8_t *buffer, size_t length)
         fail("a stored file is cut short or has too long a part");
 }
 
-/* One call with all that it must not touch compared before and after. Returns the code, and the text's length. */
+/* One call; everything it must not touch is compared before and after. Returns the code, and the text's length. */
 static uint8_t call(size_t image_length, const uint8_t *from, size_t length, size_t room, uint64_t *written)
 {
     size_t all_out = room + BEHIND, all_image = image_length + BEHIND;
@@ -71,7 +71,7 @@ static uint8_t call(size_t image_length, const uint8_t *from, size_t length, siz
     return code;
 }
 
-/* One call with just enough room, behind one with a byte too little. */
+/* One call with just enough room, after one with a byte too little. */
 static uint8_t call_twice(size_t image_length, const uint8_t *from, size_t length, uint64_t *written)
 {
     size_t room = RIGHTS_ROOM(length);
@@ -132,7 +132,7 @@ static uint32_t number_at(const uint8_t *bytes, int width)
     return n;
 }
 
-/* The numbers of a record make the record again, and a buffer that is a byte too short stays as it was. */
+/* The numbers of a record give the record back, and a buffer that is a byte too short stays as it was. */
 static void encode(const uint8_t *from)
 {
     uint8_t made[RIGHTS_RECORD + BEHIND];
@@ -153,7 +153,7 @@ static void encode(const uint8_t *from)
     }
 }
 
-/* One event by its numbers. The call on its record, from a copy of the image, has to print the same numbers and leave
+/* One event as numbers. The call on its record, with a copy of the image, has to print the same numbers and leave
  * the same image. */
 static uint8_t one(size_t image_length, const uint8_t *from)
 {
@@ -210,7 +210,7 @@ static void ones(FILE *f)
     }
 }
 
-/* What a reading call gives, as a line; where it refuses, its code. It is called with every room up to what it needs. */
+/* What a reading call gives, as a line; if it refuses, its code. It is called with every buffer size up to what it needs. */
 enum { MOST = 32 };
 
 static uint8_t reading(const char *name, size_t image_length, uint32_t at, uint32_t time, uint32_t *numbers, size_t room)
@@ -252,7 +252,7 @@ static uint8_t look(const char *name, size_t image_length, uint32_t at, uint32_t
     return last;
 }
 
-/* Everything that can be asked of an image, one position past each end too. The times are the book's, some around the
+/* Everything that can be asked of an image, including one position past each end. The times are the book's, some around the
  * ends of open uses, and one later than any. */
 static void see(size_t image_length)
 {

@@ -1,12 +1,12 @@
 //! Calls the library through the safe functions of `embed/rust/rights.rs` and prints what the programs of `crates/days`
 //! and `crates/images` print for the stored files:
 //!
-//!     calls days N days.bin     the answers of each day, N records to a call (0: all of them)
-//!     calls ones days.bin       the same by `answer_one`, an event to a call (a last record cut short by `answers`)
+//!     calls days N days.bin     the answers of each day, N records per call (0: all of them)
+//!     calls ones days.bin       the same with `answer_one`, one event per call (a last record cut short goes through `answers`)
 //!     calls images cases.bin    the number of a refusal, or 0 and the image that a call without records leaves
 //!     calls seen days.bin       what the functions that read an image say, as calls.c prints it
 //!
-//! A refused call has to leave every byte of every buffer.
+//! A refused call has to leave every byte of every buffer unchanged.
 
 #[path = "../rust/rights.rs"]
 mod rights;
@@ -14,7 +14,7 @@ mod rights;
 use rights::{Event, Refused};
 use std::io::Write;
 
-/// The next part of the file: its length in so many bytes, big-endian, and then its bytes.
+/// The next part of the file: its length in `width` bytes, big-endian, and then its bytes.
 fn part<'a>(file: &mut &'a [u8], width: usize) -> Option<&'a [u8]> {
     if file.is_empty() {
         return None;
@@ -26,7 +26,7 @@ fn part<'a>(file: &mut &'a [u8], width: usize) -> Option<&'a [u8]> {
     Some(bytes)
 }
 
-/// One call with just enough room, behind one with a byte too little, which must change nothing.
+/// One call with just enough room, after one with a byte too little, which must change nothing.
 fn answered(image: &mut [u8], records: &[u8]) -> Result<Vec<u8>, Refused> {
     let before = image.to_vec();
     let mut out = vec![0xa5; rights::room(records.len())];
@@ -99,7 +99,7 @@ fn event_in(record: &[u8]) -> Event {
     }
 }
 
-/// One record by its numbers, or by the text where it is cut short.
+/// One record as numbers, or through the text call if it is cut short.
 fn one(image: &mut [u8], record: &[u8]) -> Result<String, Refused> {
     if record.len() < rights::RECORD {
         return rights::answers(image, record).map(|text| String::from_utf8(text).unwrap());
@@ -134,7 +134,7 @@ fn ones(file: &[u8], print: &mut impl Write) {
     }
 }
 
-/// A line of numbers, or of the code that refuses them.
+/// A line of numbers, or with the code of the refusal.
 fn seen_line(print: &mut impl Write, name: &str, at: u32, time: Option<u32>, numbers: Result<Vec<u32>, Refused>) {
     write!(print, "{name} {at}").unwrap();
     if let Some(time) = time {

@@ -3,7 +3,7 @@
  *     cost rights.rbk player number operation asset kind time
  *
  * calls each function on the book many times over, on a copy of the image for each call that changes it, and prints a
- * line for each. The stack is measured by painting one and looking how far down the paint is gone. */
+ * line for each. The stack is measured by filling it with a pattern and looking how far down the pattern is overwritten. */
 #define _POSIX_C_SOURCE 200809L
 #include <pthread.h>
 #include <stdio.h>
@@ -102,7 +102,7 @@ static void *thread(void *nothing_more)
     return NULL;
 }
 
-/* What the thread itself uses of its stack is counted too: some 2 to 3 KB. */
+/* The thread's own use of its stack is counted too: some 2 to 3 KB. */
 static size_t stack_of(uint8_t (*call)(void))
 {
     static uint8_t *stack;

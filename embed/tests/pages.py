@@ -1,5 +1,5 @@
-"""Holds docs/FORMAT.md and embed/rights.h to the second program (oracle/rights.py): each table of fields with its offsets and
-widths, the lengths, and the numbers that the header names. Prints nothing where all of it agrees."""
+"""Checks docs/FORMAT.md and embed/rights.h against the second program (oracle/rights.py): each table of fields with its offsets and
+widths, the lengths, and the numbers that the header names. Prints nothing if everything agrees."""
 
 import re
 import sys
@@ -24,7 +24,7 @@ CODES = {
     30: "SHORT_OUT NOT_THERE",
 }
 
-# names of the second program's fields that the header has under another name
+# fields of the second program that have another name in the header
 RENAMED = {"answer_until": "until", "begin": "open_begin", "until": "open_until"}
 
 
@@ -60,7 +60,7 @@ def page_example(page):
 
 
 def header_numbers(header):
-    """The enums of the header: a name with its number, counted on from the one before where none is given."""
+    """The header's enums: each name with its number, one more than the previous if none is given."""
     numbers = {}
     for block in re.findall(r"enum \{(.*?)\};", re.sub(r"/\*.*?\*/", "", header, flags=re.S), re.S):
         following = 0

@@ -1,4 +1,4 @@
-"""What the calls that read an image must say, by the second program (oracle/rights.py), in the words of calls.c:
+"""What the calls that read an image must print, according to the second program (oracle/rights.py), in the format of calls.c:
 
     python3 embed/tests/seen.py seen days.bin
     python3 embed/tests/seen.py seen-images cases.bin
@@ -16,7 +16,7 @@ EVERY = 97
 
 
 def parts(data, width):
-    """The parts of a stored file, each behind its length in so many bytes."""
+    """The parts of a stored file, each preceded by its length in `width` bytes."""
     at = 0
     while at < len(data):
         length = int.from_bytes(data[at:at + width], "big")
@@ -29,7 +29,7 @@ def print_line(name, at, numbers, *time):
 
 
 def left(entry, time):
-    """Whether it can be granted at that time, and what is left of count, timed count and seconds."""
+    """Whether the entry can be granted at that time, and what is left of its count, timed count and seconds."""
     pairs = ((rights.COUNT, entry.count, entry.used_count), (rights.TIMED, entry.timed, entry.used_timed),
              (rights.ACCUMULATED, entry.accumulated, entry.used_seconds))
     return [int(rights.is_grantable(entry, time))] + [

@@ -1,7 +1,7 @@
 """The parts of tools/book.py: helpers for people, in Python, not proved.
 
-words    a text line by line and word by word, with a plain message for what cannot be read
-files    reading and writing files; nothing is lost where a write fails
+words    parses a text line by line and word by word, with a plain message for what cannot be read
+files    reading and writing files; nothing is lost if a write fails
 texts    a book from its text, and a book as text
 state    who can use an entry, what is left of it, what differs between two books
 records  event records from their text, and in words with their answers

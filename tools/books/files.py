@@ -1,6 +1,6 @@
 """Reading and writing files. A file named - is standard input or output.
 
-A file is written beside its place, synced and renamed, so that a write that fails leaves what was there. Nothing is
+A file is written beside its target, synced and renamed, so that a write that fails leaves what was there. Nothing is
 written over an input of the same command, or over a file of another kind.
 """
 
@@ -12,7 +12,7 @@ import tempfile
 
 from .words import Trouble
 
-IMAGE_MOST = 4096           # more than any image has: what is longer is refused for its length all the same
+IMAGE_MOST = 4096           # more than any image has: a longer file is refused for its length anyway
 
 
 def reason(problem):
@@ -80,7 +80,7 @@ def keep_inputs(output, *inputs):
 
 
 def write_bytes(path, data, over):
-    """Writes the file; `over` lists the kinds of files that it may replace, beside an empty one."""
+    """Writes the file; `over` lists the kinds of files that it may replace, besides an empty one."""
     if path == "-":
         sys.stdout.buffer.write(data)
         return
@@ -89,7 +89,7 @@ def write_bytes(path, data, over):
         if there and not stat.S_ISREG(there.st_mode):      # a device or a pipe
             with open(path, "wb") as file:
                 file.write(data)
-        else:       # a link stays, and what it leads to is written
+        else:       # a link stays, and its target is written
             write_beside(os.path.realpath(path), data, stat.S_IMODE(there.st_mode) if there else 0o666 & ~umask())
     except (OSError, ValueError) as problem:
         why = "there is no such folder" if isinstance(problem, FileNotFoundError) else reason(problem)
@@ -98,7 +98,7 @@ def write_bytes(path, data, over):
 
 
 def what_is_there(path, over):
-    """The state of the file that is there already and may be replaced; None if there is none."""
+    """The state of the existing file that may be replaced; None if there is none."""
     if path.endswith(os.sep):
         raise Trouble(f"{path}: this names a folder, not a file")
     there = os.stat(path) if os.path.exists(path) else None
@@ -115,7 +115,7 @@ def what_is_there(path, over):
 
 
 def write_beside(place, data, mode):
-    """Writes a new file in the same folder, syncs it, and gives it the name."""
+    """Writes a new file in the same folder, syncs it, and renames it."""
     folder, name = os.path.split(place)
     handle, beside = tempfile.mkstemp(prefix=f".{name[:100]}.", dir=folder)
     try:

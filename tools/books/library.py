@@ -1,7 +1,7 @@
 """The answers to a file of events and the book after them, from the proved library for C (crates/embed).
 
-The library and the small program over it (tools/after.c) are built where they are missing or older than their
-sources; what the prover and the compiler say goes into target/tools/after.log.
+The library and the small program on top of it (tools/after.c) are built if they are missing or older than their
+sources; the messages of the prover and the compiler go into target/tools/after.log.
 """
 
 import os
@@ -40,12 +40,12 @@ def after(book, events, following):
             said = done.stderr.decode(errors="replace").strip()
             raise Trouble(f"{events}: {said or f'{PROGRAM} ended with status {done.returncode}'}")
         write_bytes(following, (work / "next").read_bytes(), ["a book image"])
-        with open(work / "answers", "rb") as answers:       # they leave only when the book is saved
+        with open(work / "answers", "rb") as answers:       # answers go out only once the book is saved
             shutil.copyfileobj(answers, sys.stdout.buffer)
 
 
 def answer(image, stream, work):
-    """Runs the program over the library, with its files in the folder `work`."""
+    """Runs the program built on the library, with its files in the folder `work`."""
     try:
         (work / "book").write_bytes(image)
         with open(work / "answers", "wb") as answers:

@@ -27,7 +27,7 @@ def settled(book, t):
 
 
 def grounds(book, position, t):
-    """Why nobody can be granted the entry at t; empty if somebody can. The book is settled to t."""
+    """Why nobody can be granted the entry at t; empty if somebody can. The book must be settled to t."""
     entry, found = book.entries[position], []
     asset = book.asset(entry.asset)
     if asset.is_parent() and not heirs(book, asset):
@@ -79,7 +79,7 @@ def end_words(entry):
 
 
 def used_words(entry):
-    """What is used and what is left, limit by limit."""
+    """What is used and what is left, for each limit."""
     words = []
     if entry.has(rights.COUNT):
         words.append(f"count {entry.used_count} of {entry.count} used, {entry.count - entry.used_count} left")
@@ -174,7 +174,7 @@ def told_time(at):
 
 
 def left_lines(book, t):
-    """A line for each entry of a book that is settled to t."""
+    """A line for each entry of a book settled to t."""
     if not book.entries:
         yield "the book has no entries"
     for position, entry in enumerate(book.entries):

@@ -25,7 +25,7 @@ REFUSED = {
 # ---- From text
 
 class Once:
-    """The words of a line that were given, each at most once."""
+    """The words given in a line, each at most once."""
 
     def __init__(self):
         self.given = {}

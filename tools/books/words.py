@@ -1,4 +1,4 @@
-"""A text line by line and word by word, and numbers, times and lengths in words.
+"""Parses a text line by line and word by word; and puts numbers, times and lengths into words.
 
 What cannot be read is a Mistake, which is reported with its line; everything else that ends a command is a Trouble.
 """
@@ -141,7 +141,7 @@ def when(seconds):
 
 
 def time_text(seconds):
-    """A time for a text that is to be read again: a date, or the number where that is small, as in an example."""
+    """A time for a text that will be read again: a date, or the number if it is small, as in an example."""
     return date(seconds).replace(" ", "T") if seconds >= 100_000_000 else str(seconds)
 
 

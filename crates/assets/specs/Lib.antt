@@ -1,2 +1,2 @@
--- What is found in a table of assets.
+-- What a begin finds in a table of assets.
 pub mod Reach

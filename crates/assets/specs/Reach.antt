@@ -1,4 +1,4 @@
--- What a begin for an asset reaches: the asset as the book has it, whether it can be used, and its parent.
+-- What a begin for an asset reaches: the asset in the book, whether it can be used, and its parent.
 use Prim.Native.Nat.{ℕ, _<_, min}
 use mathlib.Core.Path.{_≡_, refl, sym, ap, _∙_}
 use mathlib.Core.Bool.{Bool, true, false, cond, _&&_}
@@ -16,7 +16,7 @@ use Rattle.model.specs.Events.{Catalog, catalogOf, holds, assetNamed, usable, p
 use Rattle.assets.specs.declared.Found.{Found}
 use Rattle.assets.specs.declared.Reach.{Reach}
 
--- a table of assets as a catalogue with no entries: what is asked of assets does not look at entries
+-- a table of assets as a catalogue with no entries: the questions about assets do not look at entries
 unfoldable pub tableOf : List Asset → ℕ → Catalog
 tableOf ats count = record { assets = ats; assetCount = min count 64; entryCount = 0 }
 
@@ -31,11 +31,11 @@ pub reach-in-book : (b : Book) (number : ℕ) → reachIn (tableOf (b .assets) (
 unfolding reachIn tableOf catalogOf usable parentOf assetNamed holds assetsIn
 reach-in-book b number = refl
 
--- what the search asks of a position
+-- what the search tests at a position
 abbrev pub numbered : List Asset → ℕ → ℕ → Bool
 numbered ats number i = eqb (assetAt ats i .number) number
 
--- the search ends at a position, or at the end
+-- the search ends at a position, or at the end of the table
 pub found-at :
     (ats : List Asset) (count number n i : ℕ) →
     n ≡ min count 64 →

@@ -1,4 +1,4 @@
-// What a begin for an asset reaches in a table of assets: whether the asset can be used, and the parent whose entries serve it too.
+// What a begin for an asset reaches in a table of assets: whether the asset is usable, and the parent whose entries also serve it.
 // A count above 64, which no image has, counts as 64.
 ghost use mathlib.Core.Path.{_≡_};
 ghost use mathlib.Core.Bool.{cond};
@@ -6,7 +6,7 @@ ghost use Rattle.assets.specs.Reach.{tableOf, foundIn, reachIn};
 use book::Asset;
 use book::at_most_64;
 
-// The asset with a number, blank if it is not there.
+// The asset with that number, blank if there is none.
 pub struct Found {
     pub there: bool,
     pub asset: Asset,
@@ -18,14 +18,14 @@ pub struct Reach {
     pub parent: u16,
 }
 
-// Wrong and ruled out: the two exchanged, the first whatever the test.
+// Rules out: the two swapped, the first whatever the test.
 pub fn pick16(w: bool, a: u16, b: u16) -> u16
     ensures { λ r. ⌜ r ≡ cond w a b ⌝ }
 {
     if w { a } else { b }
 }
 
-// Wrong and ruled out: a slot behind the count, a second asset of that number.
+// Rules out: a slot past the count, a second asset with that number.
 pub fn asset_named(assets: [Asset; 64], count: u8, number: u16) -> Found
     ensures { λ r. ⌜ r ≡ foundIn (tableOf assets count) number ⌝ }
 {
@@ -51,7 +51,7 @@ pub fn asset_named(assets: [Asset; 64], count: u8, number: u16) -> Found
     }
 }
 
-// Wrong and ruled out: use of a parent or an illegal asset, a parent through an illegal asset or over two levels, an inherit that is not in the book.
+// Rules out: using a parent or an illegal asset, reaching a parent through an illegal asset or over two levels, an inherit that is not in the book.
 pub fn reach_of(assets: [Asset; 64], count: u8, number: u16) -> Reach
     ensures { λ r. ⌜ r ≡ reachIn (tableOf assets count) number ⌝ }
 {

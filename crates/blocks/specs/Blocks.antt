@@ -1,5 +1,5 @@
--- Answering in blocks: some bytes of whole records, and then what follows them, print the same and leave the same book as all at once.
--- So it makes no difference to the run program's text how its input comes in pieces.
+-- Answering in blocks: whole records first, and then what follows them, print the same text and leave the same book as all at once.
+-- So the run program's text does not depend on how its input is split.
 use Prim.Native.Nat.{ℕ, zero, suc, _+_, _*_, _-_, _<_}
 use mathlib.Core.Path.{_≡_, refl, sym, ap, ap₂, _∙_}
 use mathlib.Core.List.{List, [], _∷_, _++_, append-assoc, append-nil}
@@ -41,7 +41,7 @@ listed-joined f k (suc n) =
     (ap (λ (l : List (List ℕ)). l ++ (f (k + n) ∷ [])) (listed-joined f k n)
     ∙ append-assoc (listed f k) (listed (λ (i : ℕ). f (k + i)) n) (f (k + n) ∷ []))
 
--- ## Bytes of whole records, and any bytes behind them
+-- ## Bytes of whole records, and any bytes after them
 
 module _ (s t : List ℕ) (k : ℕ) (whole : length s ≡ 13 * k) where
   record-before : (i : ℕ) → i < k → recordAt (s ++ t) i ≡ recordAt s i

@@ -1,1 +1,1 @@
-// No code: the laws of blocks stand in specs/.
+// No code: the laws of blocks are in specs/.

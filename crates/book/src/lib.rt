@@ -1,6 +1,6 @@
-// The book of rights, an event and an answer: the types that every crate names, their blank values, and reading a table.
-// What no event changes (limits) stands apart from what events change (meters), so that a new field joins one struct.
-// Numbers that an image can hold against the rules (a kind of 9, an open mark of 2) stay numbers here: the reader judges them.
+// The book of rights, an event and an answer: the types that every crate uses, their blank values, and table lookup.
+// What no event changes (limits) is kept apart from what events change (meters), so that a new field goes into one struct only.
+// Fields to which an image can give an illegal value (a kind of 9, an open mark of 2) are plain numbers here; the reader validates them.
 ghost use mathlib.Core.Path.{_≡_};
 ghost use Prim.Native.Nat.{min};
 ghost use lib.ListN.{getD};
@@ -27,7 +27,7 @@ pub struct Limits {
     pub accumulated: u32,
 }
 
-// What of an entry has been used. Started is 0 or 1, first is the time at which the interval began.
+// An entry's usage so far. Started is 0 or 1, first is the time at which the interval began.
 pub struct Meters {
     pub count: u32,
     pub timed: u32,
@@ -41,14 +41,14 @@ pub struct Entry {
     pub meters: Meters,
 }
 
-// What is returned for an event: a code of document 01's table, 0 for a grant, the entry's position, and until.
+// What is returned for an event: a code of document 01's table (0 for a grant), the entry's position, and until.
 pub struct Answer {
     pub code: u8,
     pub entry: u8,
     pub until: u32,
 }
 
-// The last event taken from a player, with the answer that a resend gets. Number 0: none yet.
+// A player's latest taken event, with the answer that a resend gets. Number 0 means none yet.
 pub struct Last {
     pub number: u32,
     pub operation: u8,
@@ -70,7 +70,7 @@ pub struct Player {
     pub current: Open,
 }
 
-// Slots behind the counts are blank in a legal book, so that equal books are equal values.
+// Slots past the counts are blank in a legal book, so that equal books are equal values.
 pub struct Book {
     pub time: u32,
     pub assetcount: u8,
@@ -101,13 +101,13 @@ pub struct Event {
     pub time: u32,
 }
 
-// What the bytes of an event record hold: an event, or the code that refuses them.
+// What the bytes of an event record decode to: an event, or the code that refuses them.
 pub enum Decoded {
     Invalid(u8),
     Valid(Event),
 }
 
-// What becomes of an event before the book is touched: turned away with a code, a resend, or taken.
+// What the checks say of an event before the book is touched: turned away with a code, a resend, or taken.
 pub enum Gate {
     Refuse(u8),
     Resend,
@@ -120,7 +120,7 @@ pub struct Outcome {
     pub book: Book,
 }
 
-// Wrong and ruled out: a number or a key that is not 0.
+// Rules out: a number or a key that is not 0.
 pub fn blank_asset() -> Asset
     ensures { λ r. ⌜ r ≡ noAsset ⌝ }
 {
@@ -131,7 +131,7 @@ pub fn blank_asset() -> Asset
     }
 }
 
-// Wrong and ruled out: a flag or a meter that is not 0.
+// Rules out: a flag or a meter that is not 0.
 pub fn blank_entry() -> Entry
     ensures { λ r. ⌜ r ≡ noEntry ⌝ }
 {
@@ -159,7 +159,7 @@ pub fn blank_entry() -> Entry
     }
 }
 
-// Wrong and ruled out: a last number or an open use.
+// Rules out: a last number or an open use.
 pub fn blank_player() -> Player
     ensures { λ r. ⌜ r ≡ noPlayer ⌝ }
 {
@@ -184,8 +184,8 @@ pub fn blank_player() -> Player
     }
 }
 
-// An entry, blank at a position past the table's end.
-// Wrong and ruled out: the last entry past the end, a neighbour.
+// The entry at a position, blank past the table's end.
+// Rules out: the last entry for a position past the end, a neighbouring entry.
 pub fn entry_at(entries: [Entry; 64], k: usize) -> Entry
     ensures { λ r. ⌜ r ≡ getD entries k noEntry ⌝ }
 {
@@ -195,8 +195,8 @@ pub fn entry_at(entries: [Entry; 64], k: usize) -> Entry
     blank_entry()
 }
 
-// How many slots of a table count: a count above 64, which no image has, counts as 64.
-// Wrong and ruled out: 63 for 64, a count above 64 passed on.
+// How many slots of a table are in use: a count above 64, which no image has, counts as 64.
+// Rules out: 63 for 64, a count above 64 passed on.
 pub fn at_most_64(count: u8) -> usize
     ensures { λ r. ⌜ r ≡ min count 64 ⌝ }
 {
@@ -204,8 +204,8 @@ pub fn at_most_64(count: u8) -> usize
     if n < 64 { n } else { 64 }
 }
 
-// The book with nothing in it.
-// Wrong and ruled out: a time or a count that is not 0.
+// The empty book.
+// Rules out: a time or a count that is not 0.
 pub fn blank_book() -> Book
     ensures { λ r. ⌜ r ≡ noBook ⌝ }
 {

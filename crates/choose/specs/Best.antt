@@ -1,4 +1,4 @@
--- The best entry of the first so many, as a loop over the entries carries it, and the law of one turn.
+-- The best entry among the first n, as the loop over the entries carries it, and the law of one turn.
 use Prim.Native.Nat.{ℕ, _+_}
 use mathlib.Core.Path.{_≡_, refl, sym, ap, _∙_}
 use mathlib.Core.Bool.{Bool, true, false, not, _&&_, _||_, cond, or-true, or-false, and-false}
@@ -15,7 +15,7 @@ use Rattle.rules.specs.declared.Rank.{Rank}
 use Rattle.rules.specs.Rules.{asRank}
 use Rattle.choose.specs.declared.Best.{Best}
 
--- the position that was chosen, 64 where nobody is
+-- the chosen position, 64 if there is none
 abbrev pub position : Choice → ℕ
 position nobody = 64
 position (chosen i) = i
@@ -29,7 +29,7 @@ rankNumbers asset l m = record {
   inherited = rankOf asset l m .inherited;
 }
 
--- every entry's rank goes before this one
+-- a rank after that of every entry
 abbrev pub lastRank : Rank
 lastRank = record { flags = 2; end = 0; fresh = 0; inherited = 0 }
 
@@ -43,11 +43,11 @@ suitsAt es asset parent kind i = suitable asset parent kind (limitsAt es i)
 abbrev pub allowedAt : List Entry → ℕ → ℕ → ℕ → ℕ → ℕ → Bool
 allowedAt es asset parent kind t i = suitsAt es asset parent kind i && grantable t (limitsAt es i) (metersAt es i)
 
--- of the first n entries, the one chosen
+-- the entry chosen among the first n
 unfoldable pub choiceAfter : List Entry → ℕ → ℕ → ℕ → ℕ → ℕ → Choice
 choiceAfter es asset parent kind t n = chooseOf (allowedAt es asset parent kind t) (goesBefore es asset) n
 
--- of the first n entries: whether any suits, the position of the one chosen, and its rank
+-- for the first n entries: whether any is suitable, the position of the one chosen, and its rank
 unfoldable pub bestAfter : List Entry → ℕ → ℕ → ℕ → ℕ → ℕ → Best
 bestAfter es asset parent kind t n = record {
   suits = anyOf (suitsAt es asset parent kind) n;
@@ -99,7 +99,7 @@ module _ (es : List Entry) (asset k : ℕ) (any : Bool) where
   turn true true nobody = rw (before-last asset (limitsAt es k) (metersAt es k)) (suits-now (chosen k))
   turn true true (chosen j) = against (goesBefore es asset k j) j
 
--- what a loop over the entries carries, one entry further
+-- what the loop over the entries carries, one entry further
 pub best-turn :
     (es : List Entry) (asset parent kind t k : ℕ) →
     bestAfter es asset parent kind t (k + 1)

@@ -1,4 +1,4 @@
--- What the best entry says of the model's choice: it is the one chosen and is grantable, or nobody is chosen.
+-- What the best entry says about the model's choice: it is the one chosen and is grantable, or none is chosen.
 use Prim.Native.Nat.{ℕ, zero, suc, _<_, _≤_}
 use mathlib.Core.Path.{_≡_, refl}
 use mathlib.Core.Bool.{Bool, true, false, cond}
@@ -47,7 +47,7 @@ module _ (c : Catalog) (es : List Entry) (t asset kind : ℕ) where
   abbrev best : Best
   best = bestAfter es asset (parentOf c asset) kind t (c .entryCount)
 
-  -- 12 is answered where this is false
+  -- 12 is answered if this is false
   pub best-suits : best .suits ≡ anyOf (suits c es asset kind) (c .entryCount)
   unfolding bestAfter
   best-suits = refl

@@ -1,4 +1,4 @@
--- The best entry so far, what it says of the choice, and what the choice asks of an entry.
+-- The best entry so far, what it says about the choice, and what the choice needs to know of an entry.
 pub mod Best
 pub mod Choice
 pub mod Row

@@ -1,4 +1,4 @@
--- What the choice asks of an entry, as a row: a turn of the choice over a row is a turn over its entry.
+-- What the choice needs to know of an entry, as a row: a turn of the choice on a row is a turn on its entry.
 use Prim.Native.Nat.{ℕ, _+_, _<_, _≤_, min}
 use mathlib.Core.Path.{_≡_, refl, _∙_}
 use mathlib.Core.Bool.{Bool, true, false, not, _&&_, _||_, cond}
@@ -24,13 +24,13 @@ spent l m =
     || (flagged 2 l && leb (l .timed) (m .timed))
     || (flagged 32 l && leb (l .accumulated) (m .seconds))
 
--- the first time from which on an entry is not grantable any more; `noEnd` where there is none, 0 where it is spent
+-- the time from which an entry is no longer grantable; `noEnd` if there is none, 0 if it is spent
 unfoldable pub windowOf : Limits → Meters → ℕ
 windowOf l m =
     cond (spent l m) 0
     (min (cond (flagged 8 l) (l .end + 1) noEnd) (cond (flagged 16 l && isStarted m) (m .first + l .interval) noEnd))
 
--- the time from which on an entry is grantable
+-- the time from which an entry is grantable
 unfoldable pub startOf : Limits → ℕ
 startOf l = where-flagged (flagged 4 l) (l .start)
 
@@ -73,9 +73,9 @@ rowConsidered asset parent kind t i row best =
     (record { suits = true; at = best .at; rank = best .rank }))
     best
 
--- ## A turn over a row is a turn over its entry
+-- ## A turn on a row is a turn on its entry
 
--- a number is below the lesser of two where it is below both
+-- a number is below the smaller of two if it is below both
 below-min : (t a b : ℕ) → ltb t (min a b) ≡ ltb t a && ltb t b
 below-min t a b =
     on-test (ltb t a)
@@ -133,7 +133,7 @@ ordered false false false true false v = refl
 ordered false false false true true false = refl
 ordered false false false true true true = refl
 
--- from the start on and before the window ends, an entry is grantable
+-- from the start until before the window ends, an entry is grantable
 pub window-grants : (t : ℕ) (l : Limits) (m : Meters) → t < noEnd → (leb (startOf l) t && ltb t (windowOf l m)) ≡ grantable t l m
 unfolding startOf windowOf spent grantable countLeft timedLeft inDates intervalLeft secondsLeft
 window-grants t l m h =

@@ -1,5 +1,5 @@
-// The entry that a begin gets: of the suitable and grantable ones, the one that goes first by document 01's order.
-// A loop over the entries carries the best so far, and considers one entry at a turn, by a row with what the choice asks of it.
+// The entry that a begin gets: among the suitable and grantable ones, the one that comes first in document 01's order.
+// A loop over the entries keeps the best so far. It considers one entry per turn, through a row that holds what the choice needs to know of it.
 ghost use mathlib.Core.Path.{_≡_};
 ghost use mathlib.Core.Bool.{cond};
 ghost use Prim.Native.Nat.{min};
@@ -18,15 +18,15 @@ use rules::rank_of;
 use rules::ranks_before;
 use rules::when;
 
-// Whether any entry suits, the position of the best grantable one (64 where there is none), and its rank.
+// Whether any entry is suitable, the position of the best grantable one (64 if there is none), and its rank.
 pub struct Best {
     pub suits: bool,
     pub at: usize,
     pub rank: Rank,
 }
 
-// Flags, end and fresh are those of the entry's rank; whether it is inherited depends on the asset asked for.
-// The entry is grantable from start on (0 where none is flagged) and before window (0 where a count or the seconds are spent).
+// Flags, end and fresh are from the entry's rank; whether it is inherited depends on the asset asked for.
+// The entry is grantable from start (0 if none is flagged) until before window (0 if a count or the seconds are spent).
 pub struct Row {
     pub asset: u16,
     pub kind: u8,
@@ -37,14 +37,14 @@ pub struct Row {
     pub end: u64,
 }
 
-// A bound where it is asked for, else one later than any time.
+// The bound if it applies, otherwise one later than any time.
 fn bound(w: bool, v: u64) -> u64
     ensures { λ r. ⌜ r ≡ cond w v noEnd ⌝ }
 {
     if w { v } else { 4294967296 }
 }
 
-// Wrong and ruled out: end taken as excluded, a limit tested without its flag, an interval that has not started.
+// Rules out: end taken as excluded, a limit tested without its flag, an interval that has not started.
 fn window_of(l: Limits, m: Meters) -> u64
     ensures { λ r. ⌜ r ≡ windowOf l m ⌝ }
 {
@@ -61,7 +61,7 @@ fn window_of(l: Limits, m: Meters) -> u64
     if spent { 0 } else { w }
 }
 
-// Wrong and ruled out: a window that closes at end, a row that is open where a count is spent.
+// Rules out: a window that closes at end, an open row where a count is spent.
 pub fn row_of(l: Limits, m: Meters) -> Row
     ensures { λ r. ⌜ r ≡ rowOf l m ⌝ }
 {
@@ -79,8 +79,8 @@ pub fn row_of(l: Limits, m: Meters) -> Row
     }
 }
 
-// One turn of the choice, over the entry's row. The dates are tested first: that costs two comparisons, and comparing the ranks more.
-// Wrong and ruled out: every entry taken as inherited, a later entry at equal ranks, an entry that suits and is not grantable.
+// One turn of the choice, on the entry's row. The dates are tested first: that takes two comparisons, and comparing ranks takes more.
+// Rules out: every entry taken as inherited, the later entry at equal ranks, an entry that is suitable but not grantable.
 pub fn consider_row(
     best: Best,
     row: Row,
@@ -127,7 +127,7 @@ pub fn consider_row(
     }
 }
 
-// Wrong and ruled out: an entry behind the count, 12 where an entry suits, 13 where one is grantable.
+// Rules out: an entry past the count, 12 where an entry is suitable, 13 where one is grantable.
 pub fn chosen(es: [Entry; 64], count: u8, asset: u16, parent: u16, kind: u8, t: u32) -> Best
     ensures { λ r. ⌜ r ≡ bestAfter es asset parent kind t (min count 64) ⌝ }
 {

@@ -1,4 +1,4 @@
--- A line put into a buffer leaves its length.
+-- Putting a line into a buffer does not change the buffer's length.
 use Prim.Native.Nat.{ℕ, _+_, _≤_}
 use mathlib.Core.Path.{_≡_, refl, ap, _∙_}
 use mathlib.Core.Bool.{true, false}

@@ -1,2 +1,2 @@
--- A line put into a buffer leaves its length.
+-- Putting a line into a buffer does not change the buffer's length.
 pub mod Kept

@@ -1,7 +1,7 @@
-// Reads the stored days of days.bin one after the other and prints, for each, a line `day N` and what the run program prints for it.
-// Each day is answered twice: in one block, as the run program does, and one event at a time on a book by value. Where the two
-// differ, in the text or in the book that is left, a line says so.
-// A day is the length of its image in 32 bits, big-endian, the image, the length of its event bytes in 32 bits, and these.
+// Reads the stored days of days.bin in turn and prints, for each, a line `day N` and what the run program prints for that day.
+// Each day is answered twice: as one block, as the run program does it, and one event at a time on a book passed by value. If the two
+// differ, in the text or in the final book, a line says so.
+// A day is stored as the image's length (32 bits, big-endian), the image, the length of the event bytes (32 bits), and those bytes.
 ghost use Prim.Native.Nat.{_<_, _≤_};
 use book::Book;
 use image_read::Loaded;
@@ -13,7 +13,7 @@ struct Head {
     length: usize,
 }
 
-// The length in the next four bytes of the file, if there are four more.
+// The length in the next four bytes of the file, if there are that many.
 fn read_head(fd: i32) -> Head {
     let mut h = [0u8; 4];
     let n = io::read_full(fd, &mut h);
@@ -23,7 +23,7 @@ fn read_head(fd: i32) -> Head {
     }
 }
 
-// The next n bytes of the file, to the start of buf. False where it has no room for them or they are not there.
+// Reads the next n bytes of the file to the start of buf. False if buf has no room for them or the file ends first.
 fn fill(fd: i32, n: usize, buf: &mut [u8]) -> bool {
     if n <= buf.len() {
         return io::read_full(fd, &mut buf[..n]) == n;
@@ -31,7 +31,7 @@ fn fill(fd: i32, n: usize, buf: &mut [u8]) -> bool {
     false
 }
 
-// Reads the image that is the first n bytes of buf.
+// Reads the image in the first n bytes of buf.
 fn load(n: usize, buf: &[u8]) -> Loaded {
     let blank = book::blank_book();
     if n <= buf.len() {
@@ -52,7 +52,7 @@ fn send(text: &[u8], n: usize) {
     }
 }
 
-// Where the record ends that begins there.
+// The end offset of the record that begins at `from`.
 fn record_end(from: usize, size: usize) -> usize
     requires { ⌜ from < size ⌝ }
     ensures { λ r. ⌜ (from < r) × (r ≤ size) ⌝ }
@@ -102,7 +102,7 @@ fn same_book(a: Book, b: Book) -> bool {
     (n == m) & same(&first, &second)
 }
 
-// Prints the answers to the events that are the first n bytes of buf.
+// Prints the answers to the events in the first n bytes of buf.
 fn print_answers(b: Book, n: usize, buf: &[u8]) {
     let mut out = [0u8; 95798];
     let mut singly = [0u8; 95798];
@@ -121,7 +121,7 @@ fn print_answers(b: Book, n: usize, buf: &[u8]) {
     }
 }
 
-// Prints one day, if there is one more.
+// Prints the next day, if there is one.
 fn one_day(fd: i32, number: u64) -> bool {
     let first = read_head(fd);
     if !first.more {
@@ -148,7 +148,7 @@ fn one_day(fd: i32, number: u64) -> bool {
     true
 }
 
-// A proved loop has to end, and nothing says that a file does: more days than these are not read.
+// A proved loop has to end, and nothing guarantees that a file does: no more days than this are read.
 fn all_days(fd: i32) {
     let mut number: u64 = 1;
     while number < 1000000 {

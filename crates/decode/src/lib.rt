@@ -1,4 +1,4 @@
-// The bytes of an event record, turned into an event or into the code that refuses them: 6, then 2, then 1.
+// Decodes the bytes of an event record into an event or the code that refuses them: 6, then 2, then 1.
 ghost use mathlib.Core.Path.{_≡_};
 ghost use Rattle.model.specs.Book.{requestLegal};
 ghost use Rattle.model.specs.Events.{kindOf, requestOf, decoded};
@@ -29,8 +29,8 @@ fn request_of(operation: u8, asset: u16, kind: u8) -> Request
     }
 }
 
-// A stored request of a player is judged by this too.
-// Wrong and ruled out: kind 0 or 6 for a begin, a stop that names an asset or a kind.
+// A player's stored request is judged by this too.
+// Rules out: kind 0 or 6 for a begin, a stop that names an asset or a kind.
 pub fn request_legal(operation: u8, asset: u16, kind: u8) -> bool
     ensures { λ r. ⌜ r ≡ requestLegal operation asset kind ⌝ }
 {
@@ -40,7 +40,7 @@ pub fn request_legal(operation: u8, asset: u16, kind: u8) -> bool
     (2 <= operation) & (operation <= 3) & (asset == 0) & (kind == 0)
 }
 
-// Rules out 1 before 2 (player 16, operation 9), and a continue that names an asset.
+// Rules out: 1 before 2 (player 16, operation 9), a continue that names an asset.
 pub fn decode(s: &[u8]) -> Decoded
     ensures { λ r. ⌜ r ≡ decoded (now (s .entry)) ⌝ }
 {

@@ -1,4 +1,4 @@
--- What a call of `rights_answer` returns and leaves in the caller's buffers: definitions alone, in the terms of the reader,
+-- What a call of `rights_answer` returns and leaves in the caller's buffers: definitions only, in terms of the reader,
 -- the run program's text and the image. s is the image lent, room the length of the buffer for the text.
 use Prim.Native.Nat.{ℕ}
 use mathlib.Core.Bool.{Bool, cond}
@@ -11,7 +11,7 @@ use Rattle.model.specs.Image.{image, readCode, readBook}
 use Rattle.model.specs.Run.{runText, runBook}
 use Rattle.runner.specs.Block.{fits}
 
--- "20 to 27 | image refused"; 30: no room for 19 bytes a record; 0: answered
+-- "20 to 27 | image refused"; 30: no room for 19 bytes per record; 0: answered
 unfoldable pub answerCode : List ℕ → List ℕ → ℕ → ℕ
 answerCode s records room = cond (eqb (readCode s) 0) (cond (fits records room) 0 30) (readCode s)
 
@@ -26,7 +26,7 @@ heldBook s = readBook noBook s
 unfoldable pub imageAfter : List ℕ → List ℕ → ℕ → List ℕ
 imageAfter s records room = cond (answered s records room) (image (runBook (heldBook s) records)) s
 
--- the text, and behind it what was there
+-- the text, and after it what was there before
 unfoldable pub outAfter : List ℕ → List ℕ → List ℕ → List ℕ
 outAfter s records old =
     cond (answered s records (length old)) (runText (heldBook s) records ++ drop (length (runText (heldBook s) records)) old) old

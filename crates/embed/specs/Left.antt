@@ -1,4 +1,4 @@
--- Why the next image fits where the last one lay: no event changes the length. And what each way out of a call leaves.
+-- Why the next image fits the same buffer: no event changes the length. And what each exit of a call leaves.
 use Prim.Native.Nat.{ℕ, _*_, _≤_, _<_, min}
 use mathlib.Core.Path.{_≡_, refl, sym, ap, ap₂, _∙_}
 use mathlib.Core.Bool.{true, false}
@@ -81,7 +81,7 @@ module _ (s records old : List ℕ) (before : ℕ) where
   unfolding answerCode fits
   left-short e h = kept 30 (rw (e, lt-leb (19 * recordCount records) (length old) h) refl) (λ z. omega arith)
 
-  -- where the records are answered, from the book in the image
+  -- if the records are answered, from the book in the image
   pub left-answered :
       (book b : Book) (s′ out : List ℕ) (written : ℕ) →
       readCode s ≡ 0 →

@@ -1,4 +1,4 @@
--- What a call leaves, why it does, and that calls follow on from each other.
+-- What a call leaves, why, and that calls continue from one another.
 pub mod Calls
 pub mod Left
 pub mod Pieces

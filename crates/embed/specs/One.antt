@@ -1,4 +1,4 @@
--- What a call of `rights_answer_one` returns and leaves: the step of one record, with numbers for its text. s is the image
+-- What a call of `rights_answer_one` returns and leaves: the step of one record, with numbers in place of text. s is the image
 -- lent, r the record that holds the event's numbers (`recordBytes` of `encode`).
 use Prim.Native.Nat.{ℕ}
 use mathlib.Core.Path.{_≡_, refl, sym, ap, _∙_}
@@ -34,7 +34,7 @@ oneEntry s r before = unlessRefused s (oneStep s r .answer .entry) before
 unfoldable pub oneUntil : List ℕ → List ℕ → ℕ → ℕ
 oneUntil s r before = unlessRefused s (oneStep s r .answer .until) before
 
--- ## What each way out leaves
+-- ## What each exit leaves
 
 -- s′, code, entry and until are what is lent after a call that returns result
 module _ (s r : List ℕ) (code₀ entry₀ until₀ : ℕ) where

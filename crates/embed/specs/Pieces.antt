@@ -1,5 +1,5 @@
--- A call's next image is accepted by the next call and holds the book after the records, so calls on one piece of the records
--- after the other answer what one call on all of them would.
+-- A call's next image is accepted by the next call and holds the book after the records, so calls on the records piece by
+-- piece answer what one call on all of them would.
 use Prim.Native.Nat.{ℕ, zero, suc, _*_}
 use mathlib.Core.Path.{_≡_, refl, sym, ap, _∙_}
 use mathlib.Core.Bool.{cond}
@@ -22,7 +22,7 @@ use Rattle.runner.specs.Block.{fits}
 use Rattle.blocks.specs.Blocks.{block-book, block-text}
 use Rattle.embed.specs.Calls.{answerCode, heldBook, imageAfter}
 
--- ## A book stays legal over a block of records
+-- ## A book stays legal through a block of records
 
 abbrev AllBytes : List (List ℕ) → Type 0
 AllBytes [] = Unit {0}
@@ -79,7 +79,7 @@ module _ (s records : List ℕ) (room : ℕ) (bytes : Bytes s) (bytes′ : Bytes
   unfolding heldBook
   next-book = ap heldBook next-is ∙ demand2 .readsBack noBook (runBook (heldBook s) records) (kept .0) (kept .1) .1
 
-  -- whole records, and then any bytes more
+  -- whole records, and then any more bytes
   module _ (more : List ℕ) (k : ℕ) (whole : length records ≡ 13 * k) where
     pub pieces-text :
         runText (heldBook s) records ++ runText (heldBook (imageAfter s records room)) more

@@ -1,4 +1,4 @@
--- The call on one event's numbers and the call on the record that holds them are one step: the same next image, and the
+-- The call on one event's numbers and the call on the record that holds them do the same step: the next image is the same, and the
 -- numbers are those of the text's line. So what is proved of the text holds of the numbers.
 use Prim.Native.Nat.{ℕ, _≤_}
 use mathlib.Core.Path.{_≡_, refl, sym, ap, _∙_}
@@ -45,7 +45,7 @@ module _ (r : List ℕ) (whole : length r ≡ 13) where
   unfolding fits recordCount
   one-fits room h = rw (whole) (le-leb 19 room h)
 
-  -- the same of the text call with room for a line
+  -- the same for the text call, with room for a line
   module _ (s : List ℕ) (room : ℕ) (line-fits : 19 ≤ room) where
     pub same-code : answerCode s r room ≡ readCode s
     unfolding answerCode
@@ -69,7 +69,7 @@ module _ (s : List ℕ) (player number operation asset kind time : ℕ)
   unfolding oneStep stepRecord
   one-arrives = ap (arrive (heldBook s)) (record-decodes player number operation asset kind time fit)
 
-  -- the next call accepts the image, and finds the book that the step left
+  -- the next call accepts the image, and finds in it the book that the step left
   module _ (bytes : Bytes s) (accepted : readCode s ≡ 0) where
     answered : answerCode s r 19 ≡ 0
     answered = same-code r (record-length player number operation asset kind time) s 19 (omega arith) ∙ accepted

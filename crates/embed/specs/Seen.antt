@@ -21,11 +21,11 @@ use Rattle.embed.specs.Calls.{heldBook}
 abbrev pub absent : ℕ
 absent = 31
 
--- 20 to 27 where the image is refused, 31 where what is asked for is not there, 30 where the buffer is too short for the values, else 0
+-- 20 to 27 if the image is refused, 31 if what is asked for is not there, 30 if the buffer is too short for the values, otherwise 0
 unfoldable pub seenCode : List ℕ → Bool → List ℕ → ℕ → ℕ
 seenCode s there values room = cond (eqb (readCode s) 0) (cond there (fillCode values room) absent) (readCode s)
 
--- the values and behind them what was there; all of it as it was where the code is not 0
+-- the values, and after them what was there before; everything as it was if the code is not 0
 unfoldable pub seenOut : List ℕ → Bool → List ℕ → List ℕ → List ℕ
 seenOut s there values old = cond (eqb (readCode s) 0) (cond there (filled values old) old) old
 
@@ -56,11 +56,11 @@ playerSeen s p = playerValues (playerAt (heldBook s .players) p)
 unfoldable pub entryFound : List ℕ → ℕ → ℕ → Entry
 entryFound s t i = getD (settled t (heldBook s .players) (heldBook s .entries)) i noEntry
 
--- what is left of it at that time, or at the book's where that is later
+-- what is left of it at that time, or at the book's time if that is later
 unfoldable pub leftSeen : List ℕ → ℕ → ℕ → List ℕ
 leftSeen s time i = leftValues (viewTime (heldBook s .time) time) (entryFound s (viewTime (heldBook s .time) time) i)
 
--- ## The five calls: what each returns, given the room of its buffer, and the buffer after it
+-- ## The five calls: what each returns, given its buffer's length, and the buffer after it
 
 abbrev pub bookCode : List ℕ → ℕ → ℕ
 bookCode s room = seenCode s true (bookSeen s) room
@@ -94,7 +94,7 @@ leftOut s i time old = seenOut s (hasEntry s i) (leftSeen s time i) old
 
 -- ## Why
 
--- whether the code's count says the same
+-- the code's count gives the same result
 module _ (s : List ℕ) (b : Book) (n i : ℕ) (same : b ≡ heldBook s) where
   pub asset-there : n ≡ min (b .assetcount) 64 → hasAsset s i ≡ ltb i n
   unfolding hasAsset assetsIn
@@ -104,7 +104,7 @@ module _ (s : List ℕ) (b : Book) (n i : ℕ) (same : b ≡ heldBook s) where
   unfolding hasEntry entriesIn
   entry-there e = ap (ltb i) (sym (e ∙ ap (λ (x : Book). min (x .entrycount) 64) same))
 
--- what each way out leaves
+-- what each exit leaves
 
 module _ (s : List ℕ) (there : Bool) (values old : List ℕ) where
   abbrev pub Seen : ℕ → List ℕ → Type 0

@@ -1,5 +1,5 @@
--- What is left at the book's own time is what the image's own limits and meters leave: no use in an accepted image is over
--- at its time, so looking at it settles nothing. A caller that asks for time 0 gets this.
+-- What is left at the book's own time follows from the image's limits and meters alone: no use in an accepted image is over
+-- at its time, so viewing it settles nothing. A caller that asks for time 0 gets this.
 use Prim.Native.Nat.{ℕ, zero, suc, _+_, _<_, _≤_}
 use mathlib.Core.Path.{_≡_, refl, ap, _∙_}
 use mathlib.Core.Bool.{Bool, true, false}

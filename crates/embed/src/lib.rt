@@ -1,5 +1,5 @@
-// The book of rights for a server written in C or Rust: functions on numbers and bytes, linked as a static library.
-// Nothing is held between calls. The book is its image, which the caller keeps and lends.
+// The book of rights for servers written in C or Rust: functions on numbers and bytes, linked as a static library.
+// No state is kept between calls. The book is passed as its image, which the caller keeps and lends.
 ghost use mathlib.Core.Path.{_≡_};
 ghost use lib.ListN.{length};
 ghost use Rattle.model.specs.Image.{readCode};
@@ -11,7 +11,7 @@ ghost use Rattle.embed.specs.Seen.{bookCode, bookOut, assetCode, assetOu
 ghost use Rattle.embed.specs.Seen.{playerCode, playerOut, leftCode, leftOut};
 use image_read::Loaded;
 
-// The book in an image and the code of the image; blank where it is refused.
+// The code of an image, and the book in it; blank if the image is refused.
 fn load(image: &[u8]) -> Loaded
     ensures { λ r. ⌜ (r .code ≡ readCode (now (image .entry))) × (r .book ≡ heldBook (now (image .entry))) ⌝ }
 {
@@ -19,8 +19,8 @@ fn load(image: &[u8]) -> Loaded
     image_read::read(blank, image)
 }
 
-// 0 where the image holds a legal book, else the number of the refusal, 20 to 27.
-// Wrong and ruled out: 0 for an image that breaks a rule, the number of a later rule.
+// 0 if the image holds a legal book, otherwise the number of the refusal, 20 to 27.
+// Rules out: 0 for an image that breaks a rule, the number of a later rule.
 #[no_mangle]
 pub extern "C" fn rights_check(image: &[u8]) -> u8
     ensures { λ r. ⌜ r ≡ readCode (now (image .entry)) ⌝ }
@@ -29,11 +29,11 @@ pub extern "C" fn rights_check(image: &[u8]) -> u8
     loaded.code
 }
 
-// Answers the records one after the other by lines of text in out, puts the next image into image and the text's length into
-// written. The next image has the length of the one before, since no event changes the numbers of assets and entries.
-// Returns 0, or 20 to 27 for the image, or 30 where out has no room for 19 bytes a record.
-// Wrong and ruled out: a refusal that touches a byte, a next image that is not that of the book after the last record, a byte
-// touched behind the text, a length that is not the text's.
+// Answers the records in turn, as lines of text in out, and puts the next image into image and the text's length into
+// written. The next image is as long as the one before, since no event changes how many assets and entries there are.
+// Returns 0, or 20 to 27 if the image is refused, or 30 if out has no room for 19 bytes per record.
+// Rules out: a refusal that touches a byte, a next image that is not the image of the book after the last record, a byte
+// touched after the text, a length that is not the text's.
 #[no_mangle]
 pub extern "C" fn rights_answer(
     image: &mut [u8],
@@ -64,9 +64,9 @@ pub extern "C" fn rights_answer(
     0
 }
 
-// One event by its numbers: the answer's code, entry and until as numbers, and the next image, which is that of the record's step.
-// Returns 0, or 20 to 27 for the image.
-// Wrong and ruled out: a refusal that touches a byte or a number, the image of the book before the event, another answer than the record's.
+// One event given as numbers: the answer's code, entry and until as numbers, and the next image, the same as the record's step leaves.
+// Returns 0, or 20 to 27 if the image is refused.
+// Rules out: a refusal that touches a byte or a number, the image of the book before the event, an answer other than the record's.
 #[no_mangle]
 pub extern "C" fn rights_answer_one(
     image: &mut [u8],
@@ -106,8 +106,8 @@ pub extern "C" fn rights_answer_one(
     0
 }
 
-// The 13 bytes of the record that holds these numbers, at the start of out. Returns 0, or 30 where out is shorter than that.
-// Wrong and ruled out: two fields exchanged, a byte touched behind the record or in a buffer that is too short.
+// Writes the 13 bytes of the record that holds these numbers to the start of out. Returns 0, or 30 if out is too short.
+// Rules out: two fields swapped, a byte touched after the record or in a buffer that is too short.
 #[no_mangle]
 pub extern "C" fn rights_record(
     player: u8,
@@ -126,7 +126,7 @@ pub extern "C" fn rights_record(
 }
 
 // How many assets and entries the book in the image has, and its time.
-// Wrong and ruled out: numbers out of an image that is refused.
+// Rules out: numbers from an image that is refused.
 #[no_mangle]
 pub extern "C" fn rights_book(image: &[u8], out: &mut [u32]) -> u8
     ensures { λ r. ⌜ r ≡ bookCode (now (image .entry)) (length (now (out .entry))) ⌝ }
@@ -143,7 +143,7 @@ pub extern "C" fn rights_book(image: &[u8], out: &mut [u32]) -> u8
 }
 
 // The entry at a position: its limits and its meters, in the image's order.
-// Wrong and ruled out: the blank entry behind the last one, a neighbour.
+// Rules out: the blank entry after the last one, a neighbouring entry.
 #[no_mangle]
 pub extern "C" fn rights_entry(image: &[u8], position: u32, out: &mut [u32]) -> u8
     ensures { λ r. ⌜ r ≡ entryCode (now (image .entry)) position (length (now (out .entry))) ⌝ }
@@ -165,7 +165,7 @@ pub extern "C" fn rights_entry(image: &[u8], position: u32, out: &mut [u32]) -> 
 }
 
 // The asset at a position: its number, inherit and key.
-// Wrong and ruled out: the blank asset behind the last one, a neighbour.
+// Rules out: the blank asset after the last one, a neighbouring asset.
 #[no_mangle]
 pub extern "C" fn rights_asset(image: &[u8], position: u32, out: &mut [u32]) -> u8
     ensures { λ r. ⌜ r ≡ assetCode (now (image .entry)) position (length (now (out .entry))) ⌝ }
@@ -186,8 +186,8 @@ pub extern "C" fn rights_asset(image: &[u8], position: u32, out: &mut [u32]) -> 
     fill::fill32(out, &values)
 }
 
-// A player's last event, its answer, and the open use.
-// Wrong and ruled out: a player above 15.
+// A player's last event with its answer, and the open use.
+// Rules out: a player above 15.
 #[no_mangle]
 pub extern "C" fn rights_player(image: &[u8], player: u32, out: &mut [u32]) -> u8
     ensures { λ r. ⌜ r ≡ playerCode (now (image .entry)) player (length (now (out .entry))) ⌝ }
@@ -208,8 +208,8 @@ pub extern "C" fn rights_player(image: &[u8], player: u32, out: &mut [u32]) -> u
     fill::fill32(out, &values)
 }
 
-// What is left of the entry at a position at a time, as an event at that time would find it; at the book's time where that is later.
-// Wrong and ruled out: a use that is over by then still counted, an entry out of its dates as grantable.
+// What is left of the entry at a position, as an event at that time would find it; at the book's time if that is later.
+// Rules out: still counting a use that is over by then, an entry out of its dates reported as grantable.
 #[no_mangle]
 pub extern "C" fn rights_left(image: &[u8], position: u32, time: u32, out: &mut [u32]) -> u8
     ensures { λ r. ⌜ r ≡ leftCode (now (image .entry)) position time (length (now (out .entry))) ⌝ }

@@ -30,7 +30,7 @@ eventOf player number operation asset kind time =
 
 -- ## The round trip
 
--- the same of values that are read from a record
+-- the same for values that are read from a record
 abbrev decodedOf : List ℕ → Decoded
 decodedOf vs =
     cond (ltb 15 (getD vs 0 0)) (Invalid 2)
@@ -67,7 +67,7 @@ module _ (player number operation asset kind time : ℕ) where
         ap (valuesAt recordWidths 0) (sym (append-nil (laidOut recordWidths (recordValues player number operation asset kind time))))
         ∙ values-back recordWidths 0 (recordValues player number operation asset kind time) [] [] refl refl fit
 
-    -- so the record decodes to the event of the numbers, or to the code that they deserve
+    -- so the record decodes to the event with these numbers, or to the code that refuses them
     pub record-decodes : decoded bytes ≡ eventOf player number operation asset kind time
     unfolding decoded eventIn eventOf
     record-decodes =

@@ -4,7 +4,7 @@ ghost use Rattle.laws.specs.Fields.{laidOut};
 ghost use Rattle.model.specs.Events.{recordWidths};
 ghost use Rattle.encode.specs.Record.{recordValues};
 
-// Wrong and ruled out: two fields exchanged, the bytes of a number in another order.
+// Rules out: two fields swapped, the bytes of a number in another order.
 pub fn record_bytes(
     player: u8,
     number: u32,

@@ -1,4 +1,4 @@
--- Settling as a loop over the book meets it: the players 0 to i - 1 settled, the others as they were.
+-- Settling as the loop over the book sees it: players 0 to i - 1 are settled, the others are as they were.
 use Prim.Native.Nat.{ℕ, suc, _+_, _<_, _≤_}
 use mathlib.Core.Path.{_≡_, refl, sym, ap, ap₂, _∙_}
 use mathlib.Core.Bool.{Bool, true, false, cond}
@@ -88,7 +88,7 @@ pub settle-all : (t : ℕ) (b n : Book) (i : ℕ) → n ≡ settledTo t i b → 
 unfolding settledTo settledBook
 settle-all t b n i e h = e ∙ rw (take-all i (b .players) h, drop-of-length-le (b .players) h, append-nil)
 
--- a use on a position that no book has changes nothing
+-- a use of a position that no book has changes nothing
 pub released-out : (t : ℕ) (o : Open) (es : List Entry) → length es ≤ o .entry → released t o es ≡ es
 unfolding released amend
 released-out t o es h = go (expired t o)

@@ -1,4 +1,4 @@
--- What a taken event leaves, as the code finds it: an operation on one entry, and the book stored after it.
+-- What a taken event leaves, as the code computes it: an operation on one entry, and the book stored after it.
 use Prim.Native.Nat.{ℕ, _≤_, _<_}
 use native.Mathlib.Omega.{arith}
 use mathlib.Core.Path.{_≡_, refl, sym, ap, _∙_}
@@ -25,7 +25,7 @@ use Rattle.uses.specs.Due.{anyDue, none-due}
 use Rattle.events.specs.declared.Act.{Act}
 use Rattle.events.specs.Settle.{with, settledBook}
 
--- a refusal at no entry
+-- a refusal, which changes no entry
 abbrev pub refused : ℕ → Open → Act
 refused code o = record { at = 64; part = kept code noMeters o }
 
@@ -44,12 +44,12 @@ storedBook b e d = record {
   players = set (b .players) (e .player) (record { last = noted e (d .answer); current = d .current });
 }
 
--- settling where nothing is due
+-- settling when nothing is due
 pub settled-none : (t : ℕ) (b : Book) → length (b .players) ≡ 16 → anyDue t (b .players) ≡ false → b ≡ settledBook t b
 unfolding settledBook
 settled-none t b h e = sym (ap (λ (ps : List Player). with b (settled t (b .players) (b .entries)) ps) (none-due t (b .players) (b .entries) h e .0) ∙ ap (λ (es : List Entry). with b es (b .players)) (none-due t (b .players) (b .entries) h e .1))
 
--- ## A begin, by the code's tests in their order
+-- ## A begin, by the code's tests in order
 
 module _ (c : Catalog) (es : List Entry) (o : Open) (t asset kind : ℕ) where
   abbrev best : Best

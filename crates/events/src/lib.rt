@@ -1,5 +1,5 @@
-// One event on a book, by value: the checks, settling, what begin, continue and stop do, and the book that is left.
-// The rules are those of the crates below, on one entry and one player; this crate reads them out of the book and stores what they leave.
+// One event on a book passed by value: the checks, settling, what begin, continue and stop do, and the resulting book.
+// The rules are in the crates below and work on one entry and one player; this crate reads both from the book and stores the results.
 ghost use mathlib.Core.Path.{_≡_};
 ghost use Prim.Native.Nat.{_≤_};
 ghost use Rattle.model.specs.Book.{latestTime};
@@ -20,14 +20,14 @@ use book::Player;
 use book::Request;
 use uses::Part;
 
-// What an operation leaves, and at which entry; 64 where it leaves all entries as they are.
+// What an operation leaves, and at which entry; 64 if it leaves all entries unchanged.
 struct Act {
     at: usize,
     part: Part,
 }
 
 // The book after every use that is due at t has ended, players 0 to 15 in turn.
-// Wrong and ruled out: the asking player alone settled, an entry of a use that is not due changed.
+// Rules out: settling the asking player only, changing an entry whose use is not due.
 pub fn settle(b: Book, t: u32) -> Book
     ensures { λ r. ⌜ r ≡ settledBook t b ⌝ }
 {
@@ -150,7 +150,7 @@ fn operate(b: Book, o: Open, q: Request, t: u32) -> Act
     }
 }
 
-// The book with what an operation left, the event and its answer stored.
+// The book with what an operation left, and with the event and its answer stored.
 fn stored_book(b: Book, e: Event, a: Act) -> Book
     requires { ⌜ e .player ≤ 15 ⌝ }
     ensures { λ r. ⌜ r ≡ storedBook b e (placed (a .at) (a .part) (b .entries)) ⌝ }
@@ -211,7 +211,7 @@ fn turned_away(b: Book, code: u8) -> Outcome
     }
 }
 
-// Wrong and ruled out: a resend that is metered again, an event turned away that changes the book, a book returned untouched by a grant.
+// Rules out: a resend that is metered again, an event that is turned away but changes the book, a grant that leaves the book untouched.
 pub fn step(b: Book, e: Event) -> Outcome
     ensures { λ r. ⌜ r ≡ step b e ⌝ }
 {
@@ -234,7 +234,7 @@ pub fn step(b: Book, e: Event) -> Outcome
     }
 }
 
-// Wrong and ruled out: 1 before 2, an answer to a record of 12 or 14 bytes other than 6.
+// Rules out: 1 before 2, an answer other than 6 to a record of 12 or 14 bytes.
 pub fn step_record(b: Book, s: &[u8]) -> Outcome
     ensures { λ r. ⌜ r ≡ stepRecord b (now (s .entry)) ⌝ }
 {

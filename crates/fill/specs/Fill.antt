@@ -1,4 +1,4 @@
--- Values at the start of a buffer, and behind them what was there; a buffer that is too short stays as it was.
+-- Values at the start of a buffer, and after them what was there before; a buffer that is too short stays as it was.
 -- "30 | writer's buffer too short | buffer untouched", here for any lent buffer.
 use Prim.Native.Nat.{ℕ, _+_, _<_, _≤_}
 use mathlib.Core.Path.{_≡_, refl, sym, ap, _∙_}
@@ -17,7 +17,7 @@ fillCode values room = cond (leb (length values) room) 0 30
 unfoldable pub filled : List ℕ → List ℕ → List ℕ
 filled values old = cond (leb (length values) (length old)) (values ++ drop (length values) old) old
 
--- ## The loop: the first i values laid over the start
+-- ## The loop: the first i values written over the start
 
 pub fill-next : (old values : List ℕ) (i : ℕ) → i < length old → i < length values
     → set (lay old 0 (take i values)) i (getD values i 0) ≡ lay old 0 (take (i + 1) values)
@@ -25,7 +25,7 @@ fill-next old values i h k =
     let h′ : 0 + i < length old = omega arith in
     ap (λ (j : ℕ). set (lay old 0 (take i values)) j (getD values i 0)) (sym (zero-add i)) ∙ lay-byte old 0 values i h′ k
 
--- what each way out leaves
+-- what each exit leaves
 module _ (values old : List ℕ) where
   abbrev pub Filled : ℕ → List ℕ → Type 0
   Filled code out = (code ≡ fillCode values (length old)) × (out ≡ filled values old)

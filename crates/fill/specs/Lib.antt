@@ -1,2 +1,2 @@
--- What handing out values returns and leaves.
+-- What copying values to a buffer returns and leaves.
 pub mod Fill

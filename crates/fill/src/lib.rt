@@ -1,9 +1,9 @@
-// Values handed out at the start of a lent buffer: all of them, or none and 30 where it is too short.
+// Copies values to the start of a lent buffer: all of them, or none, returning 30, if it is too short.
 ghost use mathlib.Core.Path.{_≡_};
 ghost use lib.ListN.{length};
 ghost use Rattle.fill.specs.Fill.{fillCode, filled};
 
-// Wrong and ruled out: a buffer touched where it is too short, a byte touched behind the values.
+// Rules out: a buffer touched though it is too short, a byte touched after the values.
 pub fn fill8(out: &mut [u8], values: &[u8]) -> u8
     ensures { λ r. ⌜ (r ≡ fillCode (now (values .entry)) (length (now (out .entry))))
         × (now (out .exit) ≡ filled (now (values .entry)) (now (out .entry))) ⌝ }
@@ -19,8 +19,8 @@ pub fn fill8(out: &mut [u8], values: &[u8]) -> u8
     0
 }
 
-// The same for numbers of 32 bits.
-// Wrong and ruled out: a buffer touched where it is too short, a number touched behind the values.
+// The same for 32-bit numbers.
+// Rules out: a buffer touched though it is too short, a number touched after the values.
 pub fn fill32(out: &mut [u32], numbers: &[u32]) -> u8
     ensures { λ r. ⌜ (r ≡ fillCode (now (numbers .entry)) (length (now (out .entry))))
         × (now (out .exit) ≡ filled (now (numbers .entry)) (now (out .entry))) ⌝ }

@@ -1,9 +1,9 @@
-// Reading an image, stages 24 to 27 in their order: what a book that was read breaks first.
+// Reading an image, stages 24 to 27 in order: the first rule that the book read from it breaks.
 ghost use mathlib.Core.Path.{_≡_};
 ghost use Rattle.model.specs.Book.{ruleBroken};
 use book::Book;
 
-// Wrong and ruled out: 27 for a book whose assets break a rule too; 0 for a book that breaks any.
+// Rules out: 27 for a book whose assets break a rule too; 0 for a book that breaks any rule.
 pub fn rule_broken(b: Book) -> u8
     ensures { λ r. ⌜ r ≡ ruleBroken b ⌝ }
 {

@@ -1,4 +1,4 @@
--- The bytes of an entry under the name that callers use, and how many they are.
+-- The bytes of an entry, under the name that callers use, and their number.
 use mathlib.Core.Path.{_≡_, refl}
 use lib.ListN.{length}
 use Rattle.laws.specs.Fields.{laidOut}

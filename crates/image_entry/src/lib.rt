@@ -1,11 +1,11 @@
 // The bytes of an entry in an image. Big-endian, each field in its place: the limits, then the meters.
-// The contract gives the whole array as the layout's widths filled with the entry's values.
+// The contract gives the whole array: the entry's values in the layout's widths.
 ghost use mathlib.Core.Path.{_≡_};
 ghost use Rattle.laws.specs.Fields.{laidOut};
 ghost use Rattle.model.specs.Image.{entryWidths, entryValues};
 use book::Entry;
 
-// Wrong and ruled out: two fields exchanged, a field of another width.
+// Rules out: two fields swapped, a field of another width.
 pub fn entry_bytes(e: Entry) -> [u8; 51]
     ensures { λ r. ⌜ r ≡ laidOut entryWidths (entryValues e) ⌝ }
 {

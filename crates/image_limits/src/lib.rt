@@ -1,5 +1,5 @@
-// Reading an image, stages 24 and 25: the rules of assets, and of what entries allow.
-// Each function answers for every value of its types, whether an image can hold it or not.
+// Reading an image, stages 24 and 25: the rules for assets and for the limits of entries.
+// Each function is defined for every value of its types, whether or not an image can hold it.
 ghost use mathlib.Core.Path.{_≡_};
 ghost use Prim.Native.Nat.{_≤_};
 ghost use Rattle.model.specs.Book.{assetPosition, assetLegal, assetsLegal, limit, rangesLegal, limitsLegal, entriesLegal};
@@ -8,7 +8,7 @@ use book::Book;
 use book::Limits;
 use book::at_most_64;
 
-// Where among the first n assets the one with that number stands; n where there is none.
+// The position of the asset with that number among the first n; n if there is none.
 fn asset_position(assets: [Asset; 64], n: usize, number: u16) -> usize
     requires { ⌜ n ≤ 64 ⌝ }
     ensures { λ r. ⌜ r ≡ assetPosition assets n number ⌝ }
@@ -33,7 +33,7 @@ fn asset_legal(assets: [Asset; 64], n: usize, i: usize, a: Asset) -> bool
         & (a.key <= 1)
 }
 
-// Wrong and ruled out: true for two assets with one number; false for an illegal asset, key 0 with an inherit.
+// Rules out: true for two assets with the same number; false for an illegal asset, key 0 with an inherit.
 pub fn assets_legal(b: Book) -> bool
     ensures { λ r. ⌜ r ≡ assetsLegal b ⌝ }
 {
@@ -89,7 +89,7 @@ fn limits_legal(known: bool, l: Limits) -> bool
         & (!momentary | (!accumulated & (l.timer == 0)))
 }
 
-// Wrong and ruled out: true for an entry of an asset that the book lacks; true for a count that is not flagged and not 0.
+// Rules out: true for an entry of an asset that the book lacks; true for an unflagged count that is not 0.
 pub fn entries_legal(b: Book) -> bool
     ensures { λ r. ⌜ r ≡ entriesLegal b ⌝ }
 {

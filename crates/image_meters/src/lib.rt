@@ -1,5 +1,5 @@
-// Reading an image, stage 27: the rules of meters, which have to cover the uses that players have open.
-// Each function answers for every value of its types, whether an image can hold it or not.
+// Reading an image, stage 27: the rules for meters, which have to cover the players' open uses.
+// Each function is defined for every value of its types, whether or not an image can hold it.
 ghost use mathlib.Core.Path.{_≡_};
 ghost use mathlib.Core.Bool.{cond};
 ghost use Prim.Native.Nat.{_≤_};
@@ -56,7 +56,7 @@ fn open_uses(players: [Player; 16], i: usize) -> u64
     uses
 }
 
-// How long a use lasts. One that ends before it begins lasts no time.
+// How long a use lasts. One that ends before it begins lasts 0 seconds.
 fn length_of(o: Open) -> u32
     ensures { λ r. ⌜ r ≡ lasts o ⌝ }
 {
@@ -112,7 +112,7 @@ fn entry_meters_legal(time: u32, players: [Player; 16], i: usize, e: Entry) -> b
         & meters_cover(uses, seconds, l, m)
 }
 
-// Wrong and ruled out: true for a used count below the entry's open uses; true for a first use after the book's time.
+// Rules out: true for a used count below the entry's open uses; true for a first use after the book's time.
 pub fn meters_legal(b: Book) -> bool
     ensures { λ r. ⌜ r ≡ metersLegal b ⌝ }
 {

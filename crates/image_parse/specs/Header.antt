@@ -1,4 +1,4 @@
--- What a header that stands says of the bytes, in numbers: the tables that it counts are there, and nothing behind them.
+-- What a valid header says about the bytes, in numbers: the tables it counts are there, and nothing after them.
 use mathlib.Core.Path.{_≡_}
 use Prim.Native.Nat.{ℕ, _+_, _*_, _≤_}
 use mathlib.Core.List.{List}

@@ -1,3 +1,3 @@
--- What a header that stands says of the bytes, and the loops that read the tables behind it.
+-- What a valid header says about the bytes, and the loops that read the tables after it.
 pub mod Header
 pub mod Tables

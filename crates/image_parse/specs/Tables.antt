@@ -8,7 +8,7 @@ use lib.Seq.{take-all}
 use Rattle.laws.specs.Count.{listed}
 use Rattle.laws.specs.Loops.{listed-turn}
 
--- records of that width stand in s from `at` on
+-- s holds records of that width from offset `at`
 module _ {A : Type 0} (of : List ℕ → A) (blank : A) (slots width at : ℕ) (s : List ℕ) where
   -- the first i are read, the other slots are blank
   abbrev pub readTo : ℕ → List A

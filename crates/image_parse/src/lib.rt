@@ -1,5 +1,5 @@
-// The first half of reading an image: the header is judged, and the tables behind it are read into a book.
-// What the tables say is not judged here.
+// The first half of reading an image: the header is checked, and the tables after it are read into a book.
+// The contents of the tables are not checked here.
 ghost use mathlib.Core.Path.{_≡_};
 ghost use mathlib.Core.Bool.{cond};
 ghost use Prim.Native.Nat.{_+_, _*_, _<_, _≤_};
@@ -18,7 +18,7 @@ use book::Meters;
 use book::Open;
 use book::Player;
 
-// Code 0: the header stands, and the book is what the bytes hold. Any other code: the book is blank.
+// Code 0: the header is valid, and the book is what the bytes hold. Any other code: the book is blank.
 pub struct Parsed {
     pub code: u8,
     pub book: Book,
@@ -175,7 +175,7 @@ fn players_in(s: &[u8], at: usize) -> [Player; 16]
     table
 }
 
-// The first rule of the header that is broken, 0 where none is.
+// The first header rule that is broken, 0 if none is.
 fn header_broken(s: &[u8]) -> u8
     ensures { λ r. ⌜ r ≡ headerBroken (now (s .entry)) ⌝ }
 {
@@ -217,8 +217,8 @@ fn book_in(s: &[u8]) -> Book
     }
 }
 
-// Wrong and ruled out: 21 for ten bytes without the mark (the length is judged first, 20); entries read from a place that
-// does not move with the number of assets.
+// Rules out: 21 for ten bytes without the mark (the length is checked first: 20); entries read from an offset that
+// does not depend on the number of assets.
 pub fn parse(s: &[u8]) -> Parsed
     ensures { λ r. ⌜ (r .code ≡ headerBroken (now (s .entry))) × (r .book ≡ cond (eqb (headerBroken (now (s .entry))) 0) (bookIn (now (s .entry))) noBook) ⌝ }
 {

@@ -1,5 +1,5 @@
-// Reading an image, stage 26: the rules of players, with the use that each may have open.
-// Each function answers for every value of its types, whether an image can hold it or not.
+// Reading an image, stage 26: the rules for players and the use that each may have open.
+// Each function is defined for every value of its types, whether or not an image can hold it.
 ghost use mathlib.Core.Path.{_≡_};
 ghost use mathlib.Core.Bool.{cond};
 ghost use Rattle.model.specs.Book.{playerBlank, answerLegal, insideDates, insideInterval, useLegal, openLegal, playerLegal, playersLegal};
@@ -101,7 +101,7 @@ fn player_legal(time: u32, n: usize, e: Entry, p: Player) -> bool
     pick(l.number == 0, player_blank(p), judged)
 }
 
-// Wrong and ruled out: true for a use that is open past the book's time + 60; true for an answer 13 with an until.
+// Rules out: true for a use that is open past the book's time + 60; true for an answer 13 with an until.
 pub fn players_legal(b: Book) -> bool
     ensures { λ r. ⌜ r ≡ playersLegal b ⌝ }
 {

@@ -1,4 +1,4 @@
-// Reads an image: the book in the bytes where no rule is broken, and the book held before where one is.
+// Reads an image: gives the book in the bytes if no rule is broken, otherwise the book held before.
 ghost use mathlib.Core.Path.{_≡_};
 ghost use mathlib.Core.Bool.{cond};
 ghost use lib.Dec.{eqb};
@@ -13,7 +13,7 @@ pub struct Loaded {
     pub book: Book,
 }
 
-// The header is judged first; a book is judged only where the header stands.
+// The header is checked first; the book is checked only if the header is valid.
 fn code_of(parsed: Parsed) -> u8
     ensures { λ r. ⌜ r ≡ cond (eqb (parsed .code) 0) (ruleBroken (parsed .book)) (parsed .code) ⌝ }
 {
@@ -23,7 +23,7 @@ fn code_of(parsed: Parsed) -> u8
     image_check::rule_broken(parsed.book)
 }
 
-// Wrong and ruled out: code 0 for bytes that break a rule; a refusal that leaves a part of the new book, or a blank one.
+// Rules out: code 0 for bytes that break a rule; a refusal that leaves part of the new book, or a blank one.
 pub fn read(held: Book, s: &[u8]) -> Loaded
     ensures { λ r. ⌜ (r .code ≡ readCode (now (s .entry))) × (r .book ≡ readBook held (now (s .entry))) ⌝ }
 {

@@ -1,4 +1,4 @@
--- The bytes of each record under the name that callers use, and how many they are.
+-- The bytes of each record, under the name that callers use, and their number.
 use mathlib.Core.Path.{_≡_, refl}
 use Prim.Native.Nat.{ℕ}
 use lib.ListN.{length}

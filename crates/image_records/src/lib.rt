@@ -1,13 +1,13 @@
 // The bytes of the header, an asset and a player in an image. Big-endian, each field in its place.
-// Each contract gives the whole array as the layout's widths filled with the record's values.
+// Each contract gives the whole array: the record's values in the layout's widths.
 ghost use mathlib.Core.Path.{_≡_};
 ghost use Rattle.laws.specs.Fields.{laidOut};
 ghost use Rattle.model.specs.Image.{headerWidths, headerValues, assetWidths, assetValues, playerWidths, playerValues};
 use book::Asset;
 use book::Player;
 
-// The mark RBK, version 1, the two numbers and the book's time.
-// Wrong and ruled out: another mark or version, the counts exchanged.
+// The mark RBK, version 1, the two counts and the book's time.
+// Rules out: another mark or version, the counts swapped.
 pub fn header_bytes(assets: u8, entries: u8, time: u32) -> [u8; 11]
     ensures { λ r. ⌜ r ≡ laidOut headerWidths (headerValues assets entries time) ⌝ }
 {
@@ -26,7 +26,7 @@ pub fn header_bytes(assets: u8, entries: u8, time: u32) -> [u8; 11]
     ]
 }
 
-// Wrong and ruled out: number and inherit exchanged, the bytes of a number in another order.
+// Rules out: number and inherit swapped, the bytes of a number in another order.
 pub fn asset_bytes(a: Asset) -> [u8; 5]
     ensures { λ r. ⌜ r ≡ laidOut assetWidths (assetValues a) ⌝ }
 {
@@ -39,7 +39,7 @@ pub fn asset_bytes(a: Asset) -> [u8; 5]
     ]
 }
 
-// Wrong and ruled out: the open mark and its entry exchanged, begin for until.
+// Rules out: the open mark and its entry swapped, begin for until.
 pub fn player_bytes(p: Player) -> [u8; 24]
     ensures { λ r. ⌜ r ≡ laidOut playerWidths (playerValues p) ⌝ }
 {

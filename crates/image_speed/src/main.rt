@@ -1,4 +1,4 @@
-// Reads an image of the greatest size and writes it back, many times over in memory, for the time of it to be taken.
+// Reads an image of the greatest size and writes it back, many times over in memory, for timing.
 // It prints the last answer and the last length.
 use book::Book;
 
@@ -8,7 +8,7 @@ struct Turn {
     book: Book,
 }
 
-// Reads the image over the book held, and writes what came of it.
+// Reads the image, given the book held, and writes the resulting book.
 fn one_turn(held: Book, image: &[u8]) -> Turn {
     let mut out = io::buffer();
     let got = image_read::read(held, image);

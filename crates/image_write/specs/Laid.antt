@@ -1,4 +1,4 @@
--- The four parts of an image, laid into a buffer one behind the other, are the image with the buffer's rest behind it.
+-- The four parts of an image, written into a buffer one after another, give the image followed by the rest of the buffer.
 use mathlib.Core.Path.{_≡_, refl, _∙_}
 use Prim.Native.Nat.{ℕ, _+_, _*_, _≤_}
 use mathlib.Core.List.{List, _++_}

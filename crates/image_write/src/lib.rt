@@ -1,5 +1,5 @@
 // Writes the image of a book into a lent buffer: the header, then the assets, the entries and the players, record by record.
-// A buffer that is too short is left as it was.
+// A buffer that is too short is left untouched.
 ghost use mathlib.Core.Path.{_≡_};
 ghost use Prim.Native.Nat.{_+_, _*_, _≤_};
 ghost use lib.ListN.{length, getD};
@@ -14,7 +14,7 @@ use book::Entry;
 use book::Player;
 use book::at_most_64;
 
-// Lays src into buf from at on, and returns the place behind it.
+// Copies src into buf at offset `at`, and returns the end offset.
 fn put(buf: &mut [u8], at: usize, src: &[u8]) -> usize
     requires { ⌜ at + length (now src) ≤ length (now buf) ⌝ }
     ensures { λ r. ⌜ (r ≡ at + length (now (src .entry))) × (now (buf .exit) ≡ lay (now (buf .entry)) at (now (src .entry))) ⌝ }
@@ -27,7 +27,7 @@ fn put(buf: &mut [u8], at: usize, src: &[u8]) -> usize
     at + j
 }
 
-// The three tables: the first n records from at on, and the place behind them.
+// The three tables: writes the first n records at offset `at`, and returns the end offset.
 fn put_assets(buf: &mut [u8], at: usize, table: [Asset; 64], n: usize) -> usize
     requires { ⌜ (n ≤ 64) × (at + 5 * n ≤ length (now buf)) ⌝ }
     ensures { λ r. ⌜ (r ≡ at + 5 * n) × (now (buf .exit) ≡ lay (now (buf .entry)) at (joined (λ i. assetBytes (assetAt table i)) n)) ⌝ }
@@ -73,8 +73,8 @@ fn put_players(buf: &mut [u8], at: usize, table: [Player; 16]) -> usize
     o
 }
 
-// The length of the image, or 30 where the buffer has no room for it. The contract rules out a writer that returns 30 but
-// has begun to write, and one that writes the image and a byte more behind it.
+// The length of the image, or 30 if the buffer has no room for it. The contract rules out a writer that returns 30 but
+// has begun to write, and one that writes a byte past the image.
 pub fn write(b: Book, buf: &mut [u8]) -> usize
     ensures { λ r. ⌜ (r ≡ writeAnswer b (length (now (buf .entry)))) × (now (buf .exit) ≡ writeBuffer b (now (buf .entry))) ⌝ }
 {

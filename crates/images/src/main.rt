@@ -1,6 +1,6 @@
-// Reads the stored images of cases.bin one after the other and prints one line for each: the number of a refusal,
-// or 0 and the bytes that the book read is written back as, in hexadecimal.
-// Each image is read over the book of the last accepted one; a refusal that does not give that book back is marked.
+// Reads the stored images of cases.bin in turn and prints one line for each: the number of a refusal,
+// or 0 and the bytes, in hexadecimal, that the book read from it is written back as.
+// Each image is read with the last accepted book held; a refusal that does not return that book is marked.
 use book::Book;
 
 struct Turn {
@@ -12,7 +12,7 @@ fn print_byte(b: u8) {
     io::print_hex(1, b as u64, 2);
 }
 
-// The first n bytes of s.
+// Prints the first n bytes of s.
 fn print_bytes(s: &[u8], n: usize) {
     let mut i: usize = 0;
     while i < n {
@@ -38,7 +38,7 @@ fn same_bytes(a: &[u8], b: &[u8]) -> bool {
     true
 }
 
-// Whether both are written as the same bytes.
+// Whether both books are written as the same bytes.
 fn same_book(a: Book, b: Book) -> bool {
     let mut left = io::buffer();
     let mut right = io::buffer();
@@ -66,7 +66,7 @@ fn print_refused(code: u8, kept: bool) {
     io::write_all(1, b"\n");
 }
 
-// Prints the line of one image and answers the book that is held from then on.
+// Prints the line for one image and returns the book held from then on.
 fn answer(held: Book, image: &[u8]) -> Book {
     let got = image_read::read(held, image);
     let code = got.code;
@@ -79,14 +79,14 @@ fn answer(held: Book, image: &[u8]) -> Book {
     after
 }
 
-// The next n bytes of the file, to the start of buf.
+// Reads the next n bytes of the file to the start of buf.
 fn fill(fd: i32, n: usize, buf: &mut [u8]) {
     if n <= buf.len() {
         io::read_full(fd, &mut buf[..n]);
     }
 }
 
-// The line of the image that is the first n bytes of buf.
+// Prints the line for the image in the first n bytes of buf.
 fn judge(held: Book, n: usize, buf: &[u8]) -> Book {
     if n <= buf.len() {
         return answer(held, &buf[..n]);
@@ -113,7 +113,7 @@ fn one_case(fd: i32, held: Book) -> Turn {
     }
 }
 
-// A proved loop has to end, and nothing says that a file does: more cases than these are not read.
+// A proved loop has to end, and nothing guarantees that a file does: no more cases than this are read.
 fn cases(fd: i32) {
     let mut left: u32 = 1000000;
     let mut t = Turn {

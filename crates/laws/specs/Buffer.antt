@@ -1,4 +1,4 @@
--- Laying bytes into a buffer, and pieces of one length laid one behind the other.
+-- Writing bytes into a buffer, and pieces of equal length written one after another.
 use Prim.Native.Nat.{ℕ, suc, _+_, _*_, _<_, _≤_}
 use mathlib.Core.Path.{_≡_, sym, ap, _∙_}
 use mathlib.Core.List.{List, [], _++_, append-assoc}
@@ -10,7 +10,7 @@ use lib.Seq.{take-at, drop-at, drop-drop, paste, paste-zero, paste-suc, length-t
 use Rattle.laws.specs.Count.{joined}
 use Rattle.laws.specs.TableLaws.{length-joined}
 
--- l with s laid over it from an index on
+-- l overwritten with s from an index
 unfoldable pub lay : List ℕ → ℕ → List ℕ → List ℕ
 lay l at s = take at l ++ s ++ drop (at + length s) l
 
@@ -22,7 +22,7 @@ pub lay-front : (l s : List ℕ) (n : ℕ) → length s ≡ n → lay l 0 s ≡ 
 unfolding lay
 lay-front l s n e = let k : 0 + length s ≡ n = omega arith in rw k
 
--- two pieces, one behind the other, are one piece
+-- two adjacent pieces are one piece
 pub lay-lay : (l : List ℕ) (at : ℕ) (s t : List ℕ) (n : ℕ) → at + length s ≡ n → n + length t ≤ length l → lay (lay l at s) n t ≡ lay l at (s ++ t)
 unfolding lay
 lay-lay l at s t n e h =
@@ -40,7 +40,7 @@ lay-take : (l : List ℕ) (at : ℕ) (s : List ℕ) (j : ℕ) → j ≤ length s
 unfolding lay
 lay-take l at s j h = rw (length-take-le j s)
 
--- one byte more: the turn of a loop that lays s byte by byte
+-- one byte more: the turn of a loop that writes s byte by byte
 pub lay-byte : (l : List ℕ) (at : ℕ) (s : List ℕ) (j : ℕ) → at + j < length l → j < length s → set (lay l at (take j s)) (at + j) (getD s j 0) ≡ lay l at (take (j + 1) s)
 lay-byte l at s j hl hs =
     let le : j ≤ length s = omega arith in
@@ -52,7 +52,7 @@ lay-all l at s j h = rw (take-all j s)
 
 -- pieces of m bytes each
 module _ (f : ℕ → List ℕ) (m : ℕ) (even : (i : ℕ) → length (f i) ≡ m) where
-  -- one piece more: the turn of a loop that lays the next piece behind those before it
+  -- one piece more: the turn of a loop that writes the next piece after those before it
   pub joined-turn : (old : List ℕ) (at i : ℕ) → at + m * (i + 1) ≤ length old → lay (lay old at (joined f i)) (at + m * i) (f i) ≡ lay old at (joined f (i + 1))
   unfolding joined
   joined-turn old at i room =

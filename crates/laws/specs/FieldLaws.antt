@@ -1,4 +1,4 @@
--- Laws of numbers in bytes and of layouts: what is laid out reads back, and what was read lays out the same bytes.
+-- Laws of numbers in bytes and of layouts: what is laid out reads back, and what was read is laid out as the same bytes.
 -- Each law is proved once, for any width and for any layout.
 use Prim.Native.Nat.{ℕ, zero, suc, _+_, _*_, _/_, _%_, _<_, _≤_}
 use mathlib.Core.Path.{_≡_, refl, sym, ap, _∙_}
@@ -11,7 +11,7 @@ use Rattle.laws.specs.Fields.{Width, bits8, bits16, bits32, bytes, bound
 
 -- ## One number
 
--- a number at an offset is the first number of what stands from there on
+-- a number at an offset is the first number of what follows the offset
 number-drop : (w : Width) (o k : ℕ) (s : List ℕ) → numberAt w k (drop o s) ≡ numberAt w (o + k) s
 number-drop bits8 o k s = getD-drop o s k 0
 number-drop bits16 o k s = rw (add-assoc o k 1, getD-drop o s k 0, getD-drop o s (k + 1) 0)
@@ -55,7 +55,7 @@ number-back w o v pre rest e h =
     ∙ ap (numberAt w 0) (drop-at pre (bigEndian w v ++ rest) o e)
     ∙ number-first w v rest h
 
--- a number that was read lays out the bytes that it was read from
+-- a number that was read is laid out as the bytes it was read from
 first-bytes : (w : Width) (s : List ℕ) → ((k : ℕ) → getD s k 0 < 256) → bytes w ≤ length s
     → bigEndian w (numberAt w 0 s) ≡ take (bytes w) s
 first-bytes bits8 [] b h = absurd (omega arith)
@@ -97,13 +97,13 @@ number-bytes bits32 v h (suc (suc zero)) = omega arith
 number-bytes bits32 v h (suc (suc (suc zero))) = omega arith
 number-bytes bits32 v h (suc (suc (suc (suc k)))) = omega arith
 
--- bytes behind bytes are bytes
+-- bytes followed by bytes are bytes
 pub append-bytes : (s t : List ℕ) → ((k : ℕ) → getD s k 0 < 256) → ((k : ℕ) → getD t k 0 < 256) → (k : ℕ) → getD (s ++ t) k 0 < 256
 append-bytes [] t hs ht k = ht k
 append-bytes (x ∷ s) t hs ht zero = hs 0
 append-bytes (x ∷ s) t hs ht (suc k) = append-bytes s t (λ j. hs (suc j)) ht k
 
--- what stands from an offset on is bytes too
+-- what follows an offset is bytes too
 pub drop-bytes : (o : ℕ) (s : List ℕ) → ((k : ℕ) → getD s k 0 < 256) → (k : ℕ) → getD (drop o s) k 0 < 256
 drop-bytes o s b k = rw (getD-drop) (b (o + k))
 
@@ -130,11 +130,11 @@ values-drop : (ws : List Width) (o k : ℕ) (s : List ℕ) → valuesAt ws k (dr
 values-drop [] o k s = refl
 values-drop (w ∷ ws) o k s = λ i. number-drop w o k s i ∷ (values-drop ws o (k + bytes w) s ∙ ap (λ (n : ℕ). valuesAt ws n s) (sym (add-assoc o k (bytes w)))) i
 
--- the values at an offset are the first values of what stands from there on
+-- the values at an offset are the first values of what follows the offset
 pub values-from : (ws : List Width) (o : ℕ) (s : List ℕ) → valuesAt ws 0 (drop o s) ≡ valuesAt ws o s
 values-from ws o s = values-drop ws o 0 s ∙ ap (λ (n : ℕ). valuesAt ws n s) (add-zero o)
 
--- the bytes of a layout do not depend on the values
+-- the number of bytes of a layout does not depend on the values
 pub length-laid : (ws : List Width) (vs : List ℕ) → length vs ≡ length ws → length (laidOut ws vs) ≡ size ws
 length-laid [] vs e = refl
 length-laid (w ∷ ws) [] e = absurd (omega arith)
@@ -167,7 +167,7 @@ values-back ws o vs pre rest e l f =
     ∙ ap (valuesAt ws 0) (drop-at pre (laidOut ws vs ++ rest) o e)
     ∙ values-first ws vs rest l f
 
--- values that were read lay out the bytes that they were read from
+-- values that were read are laid out as the bytes they were read from
 pub laid-back : (ws : List Width) (o : ℕ) (s : List ℕ) → ((k : ℕ) → getD s k 0 < 256) → o + size ws ≤ length s
     → laidOut ws (valuesAt ws o s) ≡ take (size ws) (drop o s)
 laid-back [] o s b h = refl

@@ -1,4 +1,4 @@
--- Records of numbers in bytes, big-endian: definitions alone. A layout is a list of widths.
+-- Records of numbers in bytes, big-endian: definitions only. A layout is a list of widths.
 use Prim.Native.Nat.{ℕ, _+_, _*_, _/_, _%_, _<_}
 use mathlib.Core.List.{List, [], _∷_, _++_}
 use lib.ListN.{getD}
@@ -18,19 +18,19 @@ bound bits8 = 256
 bound bits16 = 65536
 bound bits32 = 4294967296
 
--- a number in that many bytes, the most significant first
+-- a number in that many bytes, most significant first
 abbrev pub bigEndian : Width → ℕ → List ℕ
 bigEndian bits8 v = v ∷ []
 bigEndian bits16 v = v / 256 % 256 ∷ v % 256 ∷ []
 bigEndian bits32 v = v / 16777216 % 256 ∷ v / 65536 % 256 ∷ v / 256 % 256 ∷ v % 256 ∷ []
 
--- the number that stands at an offset
+-- the number at an offset
 abbrev pub numberAt : Width → ℕ → List ℕ → ℕ
 numberAt bits8 o s = getD s o 0
 numberAt bits16 o s = getD s o 0 * 256 + getD s (o + 1) 0
 numberAt bits32 o s = getD s o 0 * 16777216 + getD s (o + 1) 0 * 65536 + getD s (o + 2) 0 * 256 + getD s (o + 3) 0
 
--- the bytes of a whole layout
+-- the number of bytes of a whole layout
 abbrev pub size : List Width → ℕ
 size [] = 0
 size (w ∷ ws) = bytes w + size ws
@@ -41,7 +41,7 @@ laidOut [] vs = []
 laidOut (w ∷ ws) [] = []
 laidOut (w ∷ ws) (v ∷ vs) = bigEndian w v ++ laidOut ws vs
 
--- the values that stand there from an offset on
+-- the values at an offset
 abbrev pub valuesAt : List Width → ℕ → List ℕ → List ℕ
 valuesAt [] o s = []
 valuesAt (w ∷ ws) o s = numberAt w o s ∷ valuesAt ws (o + bytes w) s

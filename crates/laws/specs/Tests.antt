@@ -1,4 +1,4 @@
--- Laws of tests: one that passes or fails, a row of them, and stages of which the first that fails gives its number.
+-- Laws of tests: a single one, a row of them, and stages, of which the first that fails gives its number.
 use mathlib.Core.Path.{_≡_, refl, sym, _∙_}
 use Prim.Native.Nat.{ℕ, suc}
 use mathlib.Core.Bool.{Bool, true, false, cond, not, _&&_, _||_, true≢false, false≢true}
@@ -46,7 +46,7 @@ pub neither : (a b : Bool) → (a || b) ≡ false → (a ≡ false) × (b ≡ fa
 neither true b e = absurd (true≢false e)
 neither false b e = (refl, e)
 
--- a test that is asked for only where f is set
+-- a test that applies only if f is set
 pub implied : (f t : Bool) → (f ≡ true → t ≡ true) → (not f || t) ≡ true
 implied true t h = h refl
 implied false t h = refl
@@ -55,7 +55,7 @@ pub implied-at : (f t : Bool) → (not f || t) ≡ true → f ≡ true → t ≡
 implied-at true t e h = e
 implied-at false t e h = clash h refl
 
--- a test that is asked for only where f is not set
+-- a test that applies only if f is not set
 pub otherwise : (f t : Bool) → (f ≡ false → t ≡ true) → (f || t) ≡ true
 otherwise true t h = refl
 otherwise false t h = h refl
@@ -78,14 +78,14 @@ pub row-passed : (a : Bool) (bs : List Bool) → row a bs ≡ true → (a ≡ tr
 row-passed a [] e = (e, tt)
 row-passed a (b ∷ bs) e = let h = row-passed (a && b) bs e in (and-left a b (h .0), (and-right a b (h .0), h .1))
 
--- ## Stages: 0 where none fails
+-- ## Stages: 0 if none fails
 
--- the first stage does not fail, and neither does one behind it
+-- the first stage does not fail, and neither does a later one
 pub passed : (t : Bool) (c x : ℕ) → cond t (suc c) x ≡ 0 → (t ≡ false) × (x ≡ 0)
 passed true c x e = absurd (omega arith)
 passed false c x e = (refl, e)
 
--- a code h, and behind it one that is asked for only where h is 0
+-- a code h, and after it one that applies only if h is 0
 pub both-zero : (h x : ℕ) → cond (eqb h 0) x h ≡ 0 → (h ≡ 0) × (x ≡ 0)
 both-zero h x e = go (eqb h 0) refl e
   where

@@ -1,6 +1,6 @@
-// One player's record, lent and settled where it stands.
-// The rule is that of the settling by value: the lent record is copied out, settled and stored back. The event loops own their players and settle them
-// through `shut_player`, which lends a record to `settle_in_place`, so that the loops need no walk by hand.
+// One player's record, lent and settled in place.
+// The rule is the one for settling by value: the lent record is copied out, settled and stored back. The event loops own their players and settle them
+// through `shut_player`, which lends a record to `settle_in_place`, so that the proofs of the loops need not step through the code by hand.
 ghost use mathlib.Core.Path.{_≡_};
 ghost use Rattle.model.specs.Events.{shut};
 use book::Player;
@@ -11,7 +11,7 @@ fn settled_player(p: Player, t: u32) -> Player
     uses::shut_player(p, t)
 }
 
-// Wrong and ruled out: a use that ends before its until, a last event that settling changes.
+// Rules out: a use that ends before its until, a last event that settling changes.
 pub fn settle_in_place(p: &mut Player, t: u32)
     ensures { λ _. ⌜ now (p .exit) ≡ shut t (now (p .entry)) ⌝ }
 {
@@ -19,8 +19,8 @@ pub fn settle_in_place(p: &mut Player, t: u32)
     *p = settled_player(q, t);
 }
 
-// The settling that the event loops call: their record is lent, closed in place, and handed back.
-// Wrong and ruled out: the record as it came, a last event that settling changes.
+// What the event loops call to settle: their record is lent, closed in place, and handed back.
+// Rules out: an unchanged record, a last event that settling changes.
 pub fn shut_player(p: Player, t: u32) -> Player
     ensures { λ r. ⌜ r ≡ shut t p ⌝ }
 {

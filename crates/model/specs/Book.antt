@@ -1,4 +1,4 @@
--- The book: document 01, section "The book", and what of a book is legal, as section "Image" judges it in the stages 23 to 27.
+-- The book: document 01, section "The book", and when a book is legal, as judged in stages 23 to 27 of section "Image".
 -- Quotations are that document's. Every definition is total: a position past a table's end reads as blank.
 use mathlib.Core.Path.{_≡_}
 use Prim.Native.Nat.{ℕ, _+_, _-_, _/_, _%_, _≤_, min}
@@ -17,7 +17,7 @@ use Rattle.book.specs.declared.Player.{Player}
 use Rattle.book.specs.declared.Book.{Book}
 use Rattle.book.specs.Blank.{noAsset, noMeters, noEntry, noPlayer}
 
--- ## What stands at a position
+-- ## What is at a position
 
 abbrev pub assetAt : List Asset → ℕ → Asset
 assetAt ats i = getD ats i noAsset
@@ -44,7 +44,7 @@ entriesIn b = min (b .entrycount) 64
 abbrev pub latestTime : ℕ
 latestTime = 4000000000
 
--- how many seconds a grant of a kind gives at the most: the 60 of "the least of t + 60, .."
+-- how many seconds a grant of a kind gives at most: the 60 of "the least of t + 60, .."
 unfoldable pub grantLength : ℕ → ℕ
 grantLength kind = 60
 
@@ -54,12 +54,12 @@ grantLength kind = 60
 unfoldable pub isParent : Asset → Bool
 isParent a = eqb (a .key) 0 && eqb (a .inherit) 0
 
--- "Key 0 with an inherit is *illegal*: never used and never inherited from." A book may hold such an asset. No rule asks for it by this name:
--- only key 1 is used and only a parent inherited from, and no illegal asset is either (`Proof.Suitable.illegal-never`).
+-- "Key 0 with an inherit is *illegal*: never used and never inherited from." A book may hold such an asset. No rule uses this name:
+-- only an asset with key 1 is used and only a parent is inherited from, and an illegal asset is neither (`Proof.Suitable.illegal-never`).
 unfoldable pub isIllegal : Asset → Bool
 isIllegal a = eqb (a .key) 0 && not (eqb (a .inherit) 0)
 
--- among the first n assets, the position of the one with that number; n where there is none
+-- the position of the asset with that number among the first n; n if there is none
 unfoldable pub assetPosition : List Asset → ℕ → ℕ → ℕ
 assetPosition ats n number = first (λ i. eqb (assetAt ats i .number) number) n
 
@@ -80,18 +80,18 @@ flagged w l = eqb (l .flags / w % 2) 1
 unfoldable pub momentary : ℕ → Bool
 momentary kind = between 4 5 kind
 
--- the least that a flagged count, timed count, interval or accumulated may be
+-- the least value of a flagged count, timed count, interval or accumulated
 abbrev pub leastLimit : ℕ
 leastLimit = 1
 
--- a flagged limit is from a to z; "An unflagged limit is 0."
+-- a flagged limit is between a and z; "An unflagged limit is 0."
 unfoldable pub limit : Bool → ℕ → ℕ → ℕ → Bool
 limit flag a z v = cond flag (between a z v) (eqb v 0)
 
 -- ## 24, asset rules
 
 -- "number (1 to 65535, each once), key (0 or 1, whether it holds a KeyInfo), inherit (asset number, 0 for none)"
--- The asset a stands at position i, and is the first with its number.
+-- The asset a is at position i, and is the first with its number.
 unfoldable pub assetLegal : List Asset → ℕ → ℕ → Asset → Bool
 assetLegal ats n i a =
     between 1 65535 (a .number)
@@ -117,7 +117,7 @@ rangesLegal l =
     && limit (flagged 32 l) leastLimit 100000000 (l .accumulated)
 
 -- "rights object number (1 to 65535), asset (in the book), kind ..., flags, limits"; "start at most end where both are flagged";
--- momentary: "no accumulated, timer 0". Whether the asset is in the book is told.
+-- momentary: "no accumulated, timer 0". Whether the asset is in the book is passed in.
 unfoldable pub limitsLegal : Bool → Limits → Bool
 limitsLegal known l =
     between 1 65535 (l .object)
@@ -253,7 +253,7 @@ metersCover uses seconds l m =
     && (not (flagged 2 l) || leb uses (m .timed))
     && (not (flagged 32 l) || leb seconds (m .seconds))
 
--- the rules of meters, of entry i
+-- the meter rules for entry i
 unfoldable pub entryMetersLegal : ℕ → List Player → ℕ → Entry → Bool
 entryMetersLegal time ps i e =
     meterLegal (flagged 1 (e .limits)) (e .limits .count) (e .meters .count)
@@ -266,9 +266,9 @@ entryMetersLegal time ps i e =
 unfoldable pub metersLegal : Book → Bool
 metersLegal b = all (λ i. entryMetersLegal (b .time) (b .players) i (getD (b .entries) i noEntry)) (entriesIn b)
 
--- ## The stages in their order
+-- ## The stages in order
 
--- "24 asset rules, 25 entry rules, 26 players, 27 meters": the first that fails; 0 where none does
+-- "24 asset rules, 25 entry rules, 26 players, 27 meters": the first that fails; 0 if none does
 unfoldable pub ruleBroken : Book → ℕ
 ruleBroken b =
     cond (not (assetsLegal b)) 24
@@ -277,7 +277,7 @@ ruleBroken b =
     (cond (not (metersLegal b)) 27
     0)))
 
--- A legal book: what an accepted image gives. Numbers within their types are not asked here (`Typed` of `Image`).
+-- A legal book: what an accepted image gives. That numbers fit their types is not required here (see `Typed` of `Image`).
 pub record Legal (b : Book) : Type 0 where
   pub assetSlots : length (b .assets) ≡ 64
   pub entrySlots : length (b .entries) ≡ 64

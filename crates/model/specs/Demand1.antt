@@ -1,9 +1,9 @@
 -- Demand 1 as a statement: "Every event and every book image that meets the rules of document 01 is accepted, and gets the answer and
 -- the new book that those rules fix. Everything else is turned away with the number in its table, and the book and every byte lent to
--- the server are then what they were." Claimed of every book, legal or not, and every list of numbers as a record. It is proved in
--- `Proof.Demand1`. Uses no file of proofs. What a record says and the checks before an event is taken are stated here a second time, by
--- the places of the bytes and by numbers. Of the rules only the step itself is named, and what settling makes of the entries.
--- Which of 10 to 15 a taken event gets, which entry a begin gets, until when, and what that entry's meters become, is said by `Demand3`, by
+-- the server are then what they were." Claimed of every book, legal or not, and of every list of numbers as a record. It is proved in
+-- `Proof.Demand1`. This file imports no proofs. What a record says and the checks before an event is taken are stated here a second time, in terms of
+-- byte positions and numbers. Of the rules only the step itself and the settling of entries are used.
+-- Which of 10 to 15 a taken event gets, which entry a begin gets, until when, and what that entry's meters become, is stated by `Demand3`, in terms of
 -- the ledger.
 use mathlib.Core.Path.{_≡_}
 use mathlib.Core.Logic.{_↔_, _⊎_}
@@ -51,7 +51,7 @@ pub data LegalRequest (operation asset kind : ℕ) : Type 0 where
   continue : operation ≡ 2 → asset ≡ 0 → kind ≡ 0 → LegalRequest operation asset kind
   stop : operation ≡ 3 → asset ≡ 0 → kind ≡ 0 → LegalRequest operation asset kind
 
--- the record is an event: what 6, 2 and 1 let pass
+-- the record is an event: it passes the checks 6, 2 and 1
 pub record IsEvent (s : List ℕ) : Type 0 where
   pub whole : length s ≡ 13
   pub player : askedPlayer s ≤ 15
@@ -107,7 +107,7 @@ pub record IsTaken (b : Book) (s : List ℕ) : Type 0 where
   pub line : InLine b s
   pub time : InTime b s
 
--- there is nothing else
+-- there is no fourth case
 pub data Verdict (b : Book) (s : List ℕ) : Type 0 where
   turned-away : (code : ℕ) → Against b s code → Verdict b s
   resend : IsResend b s → Verdict b s
@@ -119,26 +119,26 @@ pub data Verdict (b : Book) (s : List ℕ) : Type 0 where
 abbrev pub refused : ℕ → Answer
 refused code = record { code = code; entry = 255; until = 0 }
 
--- 0, and the codes that the table calls taken
+-- 0, or a code that the table calls taken
 abbrev pub TakenCode : ℕ → Type 0
 TakenCode code = (code ≡ 0) ⊎ ((10 ≤ code) × (code ≤ 15))
 
--- "each open use of any player with until ≤ t ends": what becomes of a player's open use
+-- "each open use of any player with until ≤ t ends": a player's open use before and after
 pub record Settles (t : ℕ) (old new : Open) : Type 0 where
   pub ends : old .on ≡ 1 → old .until ≤ t → new ≡ closed
   pub stays : (old .on ≡ 1 → t < old .until) → new ≡ old
 
--- the entries, as settling at the event's time makes them
+-- the entries after settling at the event's time
 abbrev pub settledEntries : Book → List ℕ → List Entry
 settledEntries b s = settled (askedTime s) (b .players) (b .entries)
 
--- what is left where the answer is not 0: "*Taken* leaves entries' meters as settling made them."
+-- what is left if the answer is not 0: "*Taken* leaves entries' meters as settling made them."
 pub record LeavesSettled (b : Book) (s : List ℕ) (o : Outcome) : Type 0 where
   pub answer : o .answer ≡ refused (o .answer .code)
   pub entries : o .book .entries ≡ settledEntries b s
   pub current : length (b .players) ≡ 16 → Settles (askedTime s) (asker b s .current) (asker (o .book) s .current)
 
--- what its player has open where the answer is 0: "Momentary: ... nothing opens."; "The new until ..."; "The use ends at t"
+-- what its player has open if the answer is 0: "Momentary: ... nothing opens."; "The new until ..."; "The use ends at t"
 pub record Opens (b : Book) (s : List ℕ) (o : Outcome) : Type 0 where
   pub begun : askedOperation s ≡ 1 → askedKind s ≤ 3
       → asker (o .book) s .current ≡ record { on = 1; entry = o .answer .entry; begin = askedTime s; until = o .answer .until }
@@ -147,7 +147,7 @@ pub record Opens (b : Book) (s : List ℕ) (o : Outcome) : Type 0 where
       → asker (o .book) s .current ≡ record { on = 1; entry = o .answer .entry; begin = asker b s .current .begin; until = o .answer .until }
   pub stopped : askedOperation s ≡ 3 → asker (o .book) s .current ≡ closed
 
--- What a taken event leaves. In the program the type of a book says that there are 16 players; here a list may have any length.
+-- What a taken event leaves. In the program a book has 16 players by its type; here a list may have any length.
 pub record Stored (b : Book) (s : List ℕ) (o : Outcome) : Type 0 where
   -- "its number, request (operation, asset, kind) and answer are stored"
   pub last : length (b .players) ≡ 16 → asker (o .book) s .last ≡
@@ -184,14 +184,14 @@ pub record Answered (b : Book) (s : List ℕ) : Type 0 where
   pub verdict : Verdict b s
   -- "nothing changed"
   pub turned-away : (code : ℕ) → Against b s code → stepRecord b s ≡ record { answer = refused code; book = b }
-  -- and 1 to 6 are returned in no other case, but that a resend gets what is stored
+  -- and 1 to 6 are returned in no other case, except that a resend gets what is stored
   pub only : (code : ℕ) → 1 ≤ code → code ≤ 6 → stepRecord b s .answer .code ≡ code → (IsResend b s → ⊥) → Against b s code
   -- "It gets the stored answer, t is not read, and nothing changes"
   pub again : IsResend b s → stepRecord b s ≡ record { answer = asker b s .last .answer; book = b }
-  -- what a legal book has stored is none of 1 to 6, so there they are returned in no other case at all
+  -- a legal book stores none of 1 to 6, so on it there is no exception
   pub stored-code : Legal b → IsResend b s → TakenCode (asker b s .last .answer .code)
   pub taken : IsTaken b s → Stored b s (stepRecord b s)
-  -- every answer is 0 or one of the table's
+  -- every answer's code is 0 or one of the table's
   pub code : (IsResend b s → Legal b) → TableCode (stepRecord b s .answer .code)
 
 -- 0, or a row of the table
@@ -205,7 +205,7 @@ pub record IsImage (s : List ℕ) : Type 0 where
   pub typed : Typed book
   pub bytes : image book ≡ s
 
--- What an accepted image gives, and what a refused one and a short buffer leave, is said by `Demand2`.
+-- What an accepted image gives, and what a refused one and a short buffer leave, is stated by `Demand2`.
 pub record Demand1 : Type 0 where
   pub records : (b : Book) (s : List ℕ) → Answered b s
   pub images : (s : List ℕ) → ImageCode (readCode s)

@@ -1,5 +1,5 @@
--- Demand 2, of images: "a book written and read back is the same book, and an accepted image writes the same bytes."
--- Statements alone, in the terms of `Book` and `Image`; the proofs stand in `Proof.RoundTrip`.
+-- Demand 2, on images: "a book written and read back is the same book, and an accepted image writes the same bytes."
+-- Statements only, in terms of `Book` and `Image`; the proofs are in `Proof.RoundTrip`.
 use Prim.Native.Nat.{ℕ, _≤_, _<_}
 use mathlib.Core.Path.{_≡_}
 use mathlib.Core.List.{List}
@@ -11,11 +11,11 @@ use Rattle.model.specs.Image.{Typed, Bytes, image, lengthOf, writeAnswer
 pub record Demand2 : Type 0 where
   -- "a book written and read back is the same book", whatever book was held before
   pub readsBack : (held b : Book) → Legal b → Typed b → (readCode (image b) ≡ 0) × (readBook held (image b) ≡ b)
-  -- what is written is bytes, so that the statements below hold of it too
+  -- what is written consists of bytes, so the statements below apply to it too
   pub imageBytes : (b : Book) → Legal b → Typed b → Bytes (image b)
   -- "an accepted image writes the same bytes"
   pub writesBack : (held : Book) (s : List ℕ) → Bytes s → readCode s ≡ 0 → image (readBook held s) ≡ s
-  -- what is accepted is a legal book, so the two hold of it in turn
+  -- what is accepted is a legal book, so it can be written and read back in turn
   pub acceptedLegal : (held : Book) (s : List ℕ) → Bytes s → readCode s ≡ 0 → Legal (readBook held s) × Typed (readBook held s)
   -- "20 to 27 | image refused | the book held before, unchanged"
   pub refusedKeeps : (held : Book) (s : List ℕ) → (readCode s ≡ 0 → ⊥) → readBook held s ≡ held
@@ -23,7 +23,7 @@ pub record Demand2 : Type 0 where
   pub writtenLength : (b : Book) → length (image b) ≡ lengthOf b
   -- "Length 11 + 5A + 51P + 384, at most 3,979": never the 30 of a refusal
   pub lengthBounds : (b : Book) → (395 ≤ lengthOf b) × (lengthOf b ≤ 3979)
-  -- the bytes filled are the image, and those behind them stay
+  -- the bytes filled are the image, and those after them are unchanged
   pub written : (b : Book) (old : List ℕ) → lengthOf b ≤ length old → take (writeAnswer b (length old)) (writeBuffer b old) ≡ image b
   pub behindKept : (b : Book) (old : List ℕ) → lengthOf b ≤ length old
       → drop (writeAnswer b (length old)) (writeBuffer b old) ≡ drop (lengthOf b) old

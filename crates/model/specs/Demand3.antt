@@ -1,7 +1,7 @@
 -- Demand 3 as a statement: what is claimed of every list of events run from a fresh legal book. It is proved in `Proof.Demand3`.
--- Uses no file of proofs. The rules appear here only where document 01 says so ("with the ledger's figures for the meters");
+-- This file imports no proofs. The rules are used here only where document 01 says so ("with the ledger's figures for the meters");
 -- the checks before an event is taken, which of 10 to 13 a begin is answered, suitable, the order of the choice, until, and what a continue and
--- a stop are answered are stated a second time, in words of their own.
+-- a stop are answered are stated a second time, worded separately.
 use mathlib.Core.Path.{_≡_}
 use mathlib.Core.Logic.{_↔_, _⊎_}
 use Prim.Native.Nat.{ℕ, suc, _+_, _-_, _≤_, _<_}
@@ -43,7 +43,7 @@ advance s d = record {
   account = noteArrival (s .account) d (arrive (s .book) d .answer);
 }
 
--- all events of a list
+-- all events of a list in turn
 unfoldable pub after : State → List Decoded → State
 after s [] = s
 after s (d ∷ ds) = after (advance s d) ds
@@ -76,7 +76,7 @@ abbrev pub Every : (Use → Type 0) → List Use → Type 0
 Every P [] = Unit {0}
 Every P (u ∷ us) = P u × Every P us
 
--- where the interval of an entry starts; t where it has no use
+-- where the interval of an entry starts; t if the entry has no use
 abbrev pub startOr : ℕ → Option ℕ → ℕ
 startOr t none = t
 startOr t (some c) = c
@@ -100,7 +100,7 @@ pub record Limited (T : ℕ) (us : List Use) (es : List Entry) : Type 0 where
   pub seconds : (i : ℕ) → flagged 32 (limitsAt es i) ≡ true → spentSeconds us i ≤ limitsAt es i .accumulated
   pub inside : Every (λ u. UseInside (limitsAt es (u .entry)) us u) us
 
--- ## b. What becomes of an event before it is taken
+-- ## b. The checks before an event is taken
 
 -- the number of the player's latest taken event, 0 if there is none
 abbrev pub numberBy : Option Taken → ℕ
@@ -123,7 +123,7 @@ pub record Takes (s : State) (e : Event) : Type 0 where
   pub new : resent (s .account) e ≡ false
   pub taken : calledTaken (step (s .book) e .answer .code) ≡ true
 
--- the book stays, and the answer is a
+-- the book stays as it is, and the answer is a
 abbrev pub OnlyAnswers : State → Event → Answer → Type 0
 OnlyAnswers s e a = step (s .book) e ≡ record { answer = a; book = s .book }
 
@@ -186,7 +186,7 @@ pub record MayChoose (s : State) (e : Event) (asset kind : ℕ) : Type 0 where
 
 -- ## d. What a begin is answered
 
--- answered with that code exactly when P; "Each of 1 to 15 returns entry 255 and until 0."
+-- answered with that code exactly when P holds; "Each of 1 to 15 returns entry 255 and until 0."
 abbrev pub RefusedWhen : Type 0 → ℕ → Answer → Type 0
 RefusedWhen P code a = (a .code ≡ code → P) × (P → a ≡ refusal code)
 
@@ -203,11 +203,11 @@ abbrev pub isSome : Option ℕ → Bool
 isSome none = false
 isSome (some c) = true
 
--- of an entry with a flagged interval
+-- the same, for an entry with a flagged interval
 abbrev pub running : List Use → ℕ → Limits → Bool
 running us i l = flagged 16 l && isSome (earliest i us)
 
--- (i) and (ii) of two entries
+-- (i) and (ii) for two entries
 abbrev pub SameFlags : Limits → Limits → Type 0
 SameFlags x y = x .flags ≡ 0 ↔ y .flags ≡ 0
 
@@ -232,7 +232,7 @@ pub data Precedes (es : List Entry) (us : List Use) (asset i j : ℕ) : Type 0 w
       → (limitsAt es i .asset ≡ asset ↔ limitsAt es j .asset ≡ asset) → i < j → Precedes es us asset i j
 
 -- the times of which until is the least: "t + 60, end + 1, first + interval (first is t if not started), t + unused seconds",
--- of a continue "old until + unused seconds"
+-- for a continue "old until + unused seconds"
 pub data Bound (t from : ℕ) (l : Limits) (us : List Use) (i x : ℕ) : Type 0 where
   near : x ≡ t + 60 → Bound t from l us i x
   last : flagged 8 l ≡ true → x ≡ l .end + 1 → Bound t from l us i x
@@ -280,7 +280,7 @@ filledFrom T us i (x ∷ xs) = record { limits = x .limits; meters = figures (λ
 abbrev pub filled : ℕ → List Use → List Entry → List Entry
 filled T us es = filledFrom T us 0 es
 
--- the answer that goes with a choice
+-- the answer for a choice
 abbrev pub chosenAnswer : ℕ → List Entry → Choice → Answer
 chosenAnswer t es nobody = refusal noneGrantable
 chosenAnswer t es (chosen i) = record { code = 0; entry = i; until = grantUntil t (limitsAt es i) (metersAt es i) }
@@ -295,18 +295,18 @@ pub record Chosen (s : State) (e : Event) (kind : Kind) (asset : ℕ) : Type 0 w
       chosenAnswer (e .time) (filled (e .time) (s .account .uses) (s .book .entries))
       (choose (catalogOf (s .book)) (filled (e .time) (s .account .uses) (s .book .entries)) (e .time) asset (kindNumber kind))
 
--- "10 | asset not in book, or key 0": after 11, so that nothing is open
+-- "10 | asset not in book, or key 0": checked after 11, so nothing is open
 pub record Unknown (s : State) (e : Event) (asset : ℕ) : Type 0 where
   pub idle : NothingOpen (e .time) (e .player) (s .account .uses)
   pub not-in : InBookWithKey (s .book) asset → ⊥
 
--- "12 | no suitable entry": after 11 and 10
+-- "12 | no suitable entry": checked after 11 and 10
 pub record Unsuited (s : State) (e : Event) (asset kind : ℕ) : Type 0 where
   pub idle : NothingOpen (e .time) (e .player) (s .account .uses)
   pub asset-in : InBookWithKey (s .book) asset
   pub none-suits : (i : ℕ) → Suits (s .book) asset kind i → ⊥
 
--- What is claimed of a begin that is taken and no resend: "in order: 11, 10, 12, 13", each exactly when.
+-- What is claimed of a begin that is taken and is no resend: "in order: 11, 10, 12, 13", each exactly when its condition holds.
 pub record Begins (s : State) (e : Event) (kind : Kind) (asset : ℕ) : Type 0 where
   pub busy : RefusedWhen (SomeOpen (e .time) (e .player) (s .account .uses)) 11 (step (s .book) e .answer)
   pub unknown : RefusedWhen (Unknown s e asset) 10 (step (s .book) e .answer)
@@ -316,7 +316,7 @@ pub record Begins (s : State) (e : Event) (kind : Kind) (asset : ℕ) : Type 0 w
 
 -- ## e. What a continue and a stop are answered
 
--- the use that a continue or a stop is about: its player's latest, open at t
+-- the use that a continue or a stop applies to: its player's latest, open at t
 pub record IsCurrent (t p : ℕ) (us : List Use) (u : Use) : Type 0 where
   pub latest-use : latest p us ≡ some u
   pub still-open : isOpen t u ≡ true
@@ -332,7 +332,7 @@ pub record Lengthened (s : State) (e : Event) (a : Answer) : Type 0 where
   pub no-more : RefusedWhen (until ≡ current .until) 15 a
   pub more : (until ≡ current .until → ⊥) → a ≡ record { code = 0; entry = current .entry; until = until }
 
--- "**Continue**: 14 if nothing is open.", else as above
+-- "**Continue**: 14 if nothing is open.", otherwise as above
 pub record Continues (s : State) (e : Event) : Type 0 where
   pub nothing : RefusedWhen (NothingOpen (e .time) (e .player) (s .account .uses)) 14 (step (s .book) e .answer)
   pub lengthened : (NothingOpen (e .time) (e .player) (s .account .uses) → ⊥) → Lengthened s e (step (s .book) e .answer)
@@ -343,7 +343,7 @@ pub record Halted (s : State) (e : Event) (a : Answer) : Type 0 where
   pub is-current : IsCurrent (e .time) (e .player) (s .account .uses) current
   pub answer : a ≡ record { code = 0; entry = current .entry; until = e .time }
 
--- "**Stop**: 14 if nothing is open.", else as above
+-- "**Stop**: 14 if nothing is open.", otherwise as above
 pub record Stops (s : State) (e : Event) : Type 0 where
   pub nothing : RefusedWhen (NothingOpen (e .time) (e .player) (s .account .uses)) 14 (step (s .book) e .answer)
   pub halted : (NothingOpen (e .time) (e .player) (s .account .uses) → ⊥) → Halted s e (step (s .book) e .answer)
@@ -363,7 +363,7 @@ unfoldable pub kept : State → List Decoded → List Answer
 kept s [] = []
 kept s (d ∷ ds) = cond (isResend (s .account) d) (kept (advance s d) ds) (arrive (s .book) d .answer ∷ kept (advance s d) ds)
 
--- ## g. Every answer by the ledger alone
+-- ## g. Every answer from the ledger alone
 
 -- what the player has open at T, and its latest taken event, as the book would store them
 abbrev pub heldBy : ℕ → Option Use → Open
@@ -380,14 +380,14 @@ lastBy (some x) = noted (x .event) (x .answer)
 abbrev pub lastOf : ℕ → List Taken → Last
 lastOf p taken = lastBy (latestTaken p taken)
 
--- what is answered by the account, once the checks have told whether the event is taken
+-- the answer from the account, given the result of the checks
 unfoldable pub predictBy : Gate → Book → Account → Event → Answer
 predictBy (Refuse code) b a e = refusal code
 predictBy Resend b a e = lastOf (e .player) (a .taken) .answer
 predictBy Take b a e =
     done (e .request) (catalogOf b) (filled (e .time) (a .uses) (b .entries)) (heldIn (e .time) (e .player) (a .uses)) (e .time) .answer
 
--- the answer by the account; of b only what no event changes is read: assets, limits, counts
+-- the answer from the account; b is read only for what no event changes: assets, limits, counts
 unfoldable pub predict : Book → Account → Decoded → Answer
 predict b a (Invalid code) = refusal code
 predict b a (Valid e) = predictBy (gate (timeOf (a .taken)) (lastOf (e .player) (a .taken)) e) b a e
@@ -397,7 +397,7 @@ unfoldable pub predicted : Book → Account → List Decoded → List Answer
 predicted b a [] = []
 predicted b a (d ∷ ds) = predict b a d ∷ predicted b (noteArrival a d (predict b a d)) ds
 
--- ## The demand, of a fresh book
+-- ## The demand, for a fresh book
 
 pub record Demand3 (b : Book) : Type 0 where
   pub time : (ds : List Decoded) → after (starting b) ds .book .time ≡ timeOf (after (starting b) ds .account .taken)

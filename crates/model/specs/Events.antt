@@ -1,5 +1,5 @@
 -- What an event does to the book: document 01, section "Events", in its order. Quotations are that document's.
--- Every definition is total, on every book value: what no legal book holds is read as blank, and a subtraction stops at 0.
+-- Every definition is total, on every book value: what a book does not hold reads as blank, and a subtraction stops at 0.
 use Prim.Native.Nat.{ℕ, zero, suc, _+_, _-_, min}
 use mathlib.Core.Bool.{Bool, true, false, not, _&&_, _||_, cond}
 use mathlib.Core.List.{List, [], _∷_, map}
@@ -63,7 +63,7 @@ recordWidths = bits8 ∷ bits32 ∷ bits8 ∷ bits16 ∷ bits8 ∷ bits32 ∷ []
 abbrev pub recordField : ℕ → List ℕ → ℕ
 recordField k s = getD (valuesAt recordWidths 0 s) k 0
 
--- a number as a kind; one that is no kind has been refused before
+-- a number as a kind; a number that is no kind has already been refused
 unfoldable pub kindOf : ℕ → Kind
 kindOf k = cond (eqb k 1) Play (cond (eqb k 2) Display (cond (eqb k 3) Execute (cond (eqb k 4) Print Export)))
 
@@ -71,7 +71,7 @@ kindOf k = cond (eqb k 1) Play (cond (eqb k 2) Display (cond (eqb k 3) Execute (
 unfoldable pub requestOf : ℕ → ℕ → ℕ → Request
 requestOf operation asset kind = cond (eqb operation 1) (Begin (kindOf kind) asset) (cond (eqb operation 2) Continue Stop)
 
--- the event that stands in 13 bytes
+-- the event in 13 bytes
 unfoldable pub eventIn : List ℕ → Event
 eventIn s = record {
   player = recordField 0 s;
@@ -111,7 +111,7 @@ inLine l number = ltb (l .number) lastNumber && eqb number (l .number + 1)
 unfoldable pub timely : ℕ → ℕ → Bool
 timely now t = leb now t && leb t latestTime
 
--- the checks in their order
+-- the checks in order
 unfoldable pub gate : ℕ → Last → Event → Gate
 gate now l e =
     cond (ltb 15 (e .player)) (Refuse 2)
@@ -126,7 +126,7 @@ gate now l e =
 unfoldable pub amend : ℕ → (Limits → Meters → Meters) → List Entry → List Entry
 amend i g es = set es i (record { limits = limitsAt es i; meters = g (limitsAt es i) (metersAt es i) })
 
--- v where the flag is set, else 0: "A meter whose flag is missing stays 0."
+-- v if the flag is set, otherwise 0: "A meter whose flag is missing stays 0."
 abbrev pub where-flagged : Bool → ℕ → ℕ
 where-flagged true v = v
 where-flagged false v = 0
@@ -187,20 +187,20 @@ shut t p = record { last = p .last; current = cond (expired t (p .current)) clos
 unfoldable pub released : ℕ → Open → List Entry → List Entry
 released t o es = cond (expired t o) (amend (o .entry) (ended (o .begin) (o .until) (o .until)) es) es
 
--- the entries after the players' uses are settled, one after the other
+-- the entries after the players' uses are settled in turn
 unfoldable pub settled : ℕ → List Player → List Entry → List Entry
 settled t [] es = es
 settled t (p ∷ ps) es = settled t ps (released t (p .current) es)
 
 -- ## Suitable
 
--- what no event changes, besides the limits
+-- what no event changes, apart from the limits
 pub record Catalog : Type 0 where
   pub assets : List Asset
   pub assetCount : ℕ
   pub entryCount : ℕ
 
--- that of a book
+-- the catalogue of a book
 unfoldable pub catalogOf : Book → Catalog
 catalogOf b = record { assets = b .assets; assetCount = assetsIn b; entryCount = entriesIn b }
 
@@ -208,7 +208,7 @@ catalogOf b = record { assets = b .assets; assetCount = assetsIn b; entryCount =
 unfoldable pub holds : Catalog → ℕ → Bool
 holds c number = ltb (assetPosition (c .assets) (c .assetCount) number) (c .assetCount)
 
--- the asset with that number; blank where the book has none
+-- the asset with that number; blank if the book has none
 unfoldable pub assetNamed : Catalog → ℕ → Asset
 assetNamed c number = cond (holds c number) (assetAt (c .assets) (assetPosition (c .assets) (c .assetCount) number)) noAsset
 
@@ -233,7 +233,7 @@ suitable asset parent kind l = eqb (l .kind) kind && (own asset l || (not (eqb p
 
 -- ## Grantable
 
--- the test is asked for only where the flag is set
+-- the test applies only if the flag is set
 abbrev pub asked : Bool → Bool → Bool
 asked true b = b
 asked false b = true
@@ -265,7 +265,7 @@ grantable t l m = countLeft l m && timedLeft l m && inDates t l && intervalLeft 
 -- ## The choice
 
 -- "first by: (i) no flags; (ii) earlier end, none last; (iii) interval already started; (iv) own before inherited":
--- numbers in that order, the lesser goes first
+-- numbers in that order, the smaller goes first
 pub record Rank : Type 0 where
   pub flags : ℕ
   pub end : ℕ
@@ -301,18 +301,18 @@ pub data Choice : Type 0 where
   nobody : Choice
   chosen : ℕ → Choice
 
--- position k, allowed or not, against the choice among those below it: it wins where it goes first
+-- position k, allowed or not, against the choice among the positions below it: it wins if it is allowed and goes first
 abbrev pub prefer : Bool → ℕ → (ℕ → Bool) → Choice → Choice
 prefer false k first c = c
 prefer true k first nobody = chosen k
 prefer true k first (chosen j) = cond (first j) (chosen k) (chosen j)
 
--- of the first k positions, the allowed one that goes first; "(v) lower position" where none goes before the other
+-- among the first k positions, the allowed one that goes first; "(v) lower position" if neither of two goes before the other
 unfoldable pub chooseOf : (ℕ → Bool) → (ℕ → ℕ → Bool) → ℕ → Choice
 chooseOf ok first zero = nobody
 chooseOf ok first (suc k) = prefer (ok k) k (first k) (chooseOf ok first k)
 
--- whether the test passes below k
+-- whether the test passes somewhere below k
 unfoldable pub anyOf : (ℕ → Bool) → ℕ → Bool
 anyOf ok zero = false
 anyOf ok (suc k) = anyOf ok k || ok k
@@ -335,12 +335,12 @@ choose c es t asset kind = chooseOf (allowed c es t asset kind) (goesBefore es a
 
 -- ## Until
 
--- the lesser of v and x where the flag is set, else x
+-- the smaller of v and x if the flag is set, otherwise x
 abbrev pub cap : Bool → ℕ → ℕ → ℕ
 cap true v x = min v x
 cap false v x = x
 
--- "the least of t + 60, end + 1, first + interval (first is t if not started), t + unused seconds"; of a continue "old until + unused seconds":
+-- "the least of t + 60, end + 1, first + interval (first is t if not started), t + unused seconds"; for a continue "old until + unused seconds":
 -- `from` is t or the old until
 unfoldable pub leastUntil : ℕ → ℕ → Limits → Meters → ℕ
 leastUntil t from l m =
@@ -366,7 +366,7 @@ refusal code = record { code = code; entry = 255; until = 0 }
 abbrev pub noneGrantable : ℕ
 noneGrantable = 13
 
--- what a taken event does once all is settled: the answer, the entries, the asking player's use
+-- what a taken event does once all players are settled: the answer, the entries, the asking player's use
 pub record Done : Type 0 where
   pub answer : Answer
   pub entries : List Entry
@@ -407,7 +407,7 @@ lengthened v es o = record {
   current = record { on = 1; entry = o .entry; begin = o .begin; until = v };
 }
 
--- "**Continue**: 14 if nothing is open. ... Equal to the old: 15." (No legal book has a new until below the old one.)
+-- "**Continue**: 14 if nothing is open. ... Equal to the old: 15." (On a legal book no new until is below the old one.)
 unfoldable pub doContinue : List Entry → Open → ℕ → Done
 doContinue es o t =
     cond (not (isOn o)) (unchanged 14 es o)
@@ -481,11 +481,11 @@ stepBy Take b e = takenStep b e
 unfoldable pub step : Book → Event → Outcome
 step b e = stepBy (gate (b .time) (lastAt (b .players) (e .player)) e) b e
 
--- what is decoded, event or refusal
+-- whatever was decoded, an event or a refusal
 unfoldable pub arrive : Book → Decoded → Outcome
 arrive b (Invalid code) = record { answer = refusal code; book = b }
 arrive b (Valid e) = step b e
 
--- a record of any bytes
+-- a record of arbitrary bytes
 unfoldable pub stepRecord : Book → List ℕ → Outcome
 stepRecord b s = arrive b (decoded s)

@@ -1,6 +1,6 @@
 -- The definitions of events are total: a subtraction stops at 0, and a continue is answered 15 unless its new until is above the old one.
 -- On a legal book neither bends a rule: no subtraction is cut off at 0, and no new until is below the old one.
--- Every subtraction of `Events`, what computes it, and the field that says that nothing is cut off:
+-- Every subtraction of `Events`, when it is computed, and the field that says that it is not cut off:
 --
 --   begun        u - t                        a begin             ExactBegin.until
 --   leastUntil   accumulated - used seconds   a begin             ExactBegin.unused
@@ -11,8 +11,8 @@
 --   ended        u - e                        settling, a stop    ExactEnd.counted
 --   ended        used seconds - (u - e)       settling, a stop    ExactEnd.seconds
 --
--- `Book` has one, until - begin of an open use (`lasts`), which the rules of meters sum: Exact.lasts.
--- Statements alone; proved in `Proof.KeptExact`.
+-- `Book` has one, until - begin of an open use (`lasts`), which the meter rules sum: Exact.lasts.
+-- Statements only; proved in `Proof.KeptExact`.
 use Prim.Native.Nat.{ℕ, suc, _-_, _≤_, _<_}
 use mathlib.Core.Path.{_≡_}
 use mathlib.Core.Bool.{true}
@@ -29,7 +29,7 @@ use Rattle.model.specs.Events.{lastAt, openAt}
 
 -- ## What is claimed of a use's end, of a begin, of a continue
 
--- the use o ends at e, while the entries are es: what goes back has been counted
+-- the use o ends at e, with entries es: whatever goes back has been counted before
 pub record ExactEnd (e : ℕ) (es : List Entry) (o : Open) : Type 0 where
   pub begun : o .begin ≤ e
   pub counted : e ≤ o .until
@@ -41,7 +41,7 @@ pub record ExactBegin (t : ℕ) (es : List Entry) (i : ℕ) : Type 0 where
   pub unused : flagged 32 (limitsAt es i) ≡ true → metersAt es i .seconds ≤ limitsAt es i .accumulated
   pub until : t ≤ grantUntil t (limitsAt es i) (metersAt es i)
 
--- the open use o is to go on at t: "Equal to the old: 15. Else used seconds rise by the difference."
+-- the open use o is continued at t: "Equal to the old: 15. Else used seconds rise by the difference."
 pub record ExactContinue (t : ℕ) (es : List Entry) (o : Open) : Type 0 where
   pub unused : flagged 32 (limitsAt es (o .entry)) ≡ true → metersAt es (o .entry) .seconds ≤ limitsAt es (o .entry) .accumulated
   pub notBelow : o .until ≤ more es o t
@@ -66,10 +66,10 @@ asking b e = openAt (map (shut (e .time)) (b .players)) (e .player)
 -- ## The claims
 
 pub record Exact : Type 0 where
-  -- a use that is over ends at its until, whatever the players before it gave back to the same entry
+  -- a use that is over ends at its until, whatever earlier players gave back to the same entry
   pub settling : (b : Book) (e : Event) (p : ℕ) → Legal b → Taken b e → expired (e .time) (openAt (b .players) p) ≡ true
       → ExactEnd (openAt (b .players) p .until) (atTurn p b e) (openAt (b .players) p)
-  -- these are the entries that settling meets: one turn leads to the next, and the last to the request
+  -- these are the entries that settling works on: each turn leads to the next, and the last to the request
   pub turn : (b : Book) (e : Event) (p : ℕ) → Legal b → p < 16
       → atTurn (suc p) b e ≡ released (e .time) (openAt (b .players) p) (atTurn p b e)
   pub turns : (b : Book) (e : Event) → Legal b → atTurn 16 b e ≡ atRequest b e
@@ -80,6 +80,6 @@ pub record Exact : Type 0 where
       → ExactContinue (e .time) (atRequest b e) (asking b e)
   pub stop : (b : Book) (e : Event) → Legal b → Taken b e → isOn (asking b e) ≡ true
       → ExactEnd (e .time) (atRequest b e) (asking b e)
-  -- where the rules of players are met, those of meters sum seconds that have run
+  -- in a book that meets the player rules, no open use ends before it begins
   pub lasts : (b : Book) (p : ℕ) → playersLegal b ≡ true → p < 16 → isOn (openAt (b .players) p) ≡ true
       → openAt (b .players) p .begin ≤ openAt (b .players) p .until

@@ -127,7 +127,7 @@ image b =
     ++ joined (λ i. entryBytes (getD (b .entries) i noEntry)) (entriesIn b)
     ++ joined (λ p. playerBytes (playerAt (b .players) p)) 16
 
--- how many they are
+-- their number
 unfoldable pub lengthOf : Book → ℕ
 lengthOf b = imageLength (assetsIn b) (entriesIn b)
 
@@ -168,7 +168,7 @@ entryIn s = entryOf (valuesAt entryWidths 0 s)
 unfoldable pub playerIn : List ℕ → Player
 playerIn s = playerOf (valuesAt playerWidths 0 s)
 
--- the n records that stand from an offset on, and blank slots behind them
+-- the n records at an offset, followed by blank slots
 unfoldable pub assetTable : List ℕ → ℕ → ℕ → List Asset
 assetTable s o n = listed (λ i. assetIn (drop (o + size assetWidths * i) s)) n ++ replicate (64 - n) noAsset
 
@@ -185,7 +185,7 @@ entriesFrom s = size headerWidths + size assetWidths * assetCountIn s
 unfoldable pub playersFrom : List ℕ → ℕ
 playersFrom s = entriesFrom s + size entryWidths * entryCountIn s
 
--- the book in the bytes, right or wrong
+-- the book in the bytes, unvalidated
 unfoldable pub bookIn : List ℕ → Book
 bookIn s = record {
   time = timeIn s;
@@ -197,7 +197,7 @@ bookIn s = record {
 }
 
 -- "Order: 20 below 11 bytes, 21 mark, 22 version, 23 a number above 64 or a late time, 20 wrong length, 24 asset rules,
--- 25 entry rules, 26 players, 27 meters." 0: none is broken.
+-- 25 entry rules, 26 players, 27 meters." 0 if none is broken.
 unfoldable pub headerBroken : List ℕ → ℕ
 headerBroken s =
     cond (ltb (length s) (size headerWidths)) 20

@@ -1,5 +1,5 @@
 -- The ledger: document 01, section "The ledger". It is built from events and answers alone; nothing here looks at a book's meters or players.
--- Written from that section, apart from the rules of events. Quotations are that document's.
+-- Written from that section, separately from the rules of events. Quotations are that document's.
 use Prim.Native.Nat.{ℕ, _+_, _-_, min}
 use mathlib.Core.Bool.{Bool, true, false, not, _&&_, _||_, cond}
 use mathlib.Core.List.{List, [], _∷_}
@@ -73,7 +73,7 @@ unfoldable pub latest : ℕ → List Use → Option Use
 latest p [] = none
 latest p (u ∷ us) = cond (eqb (u .player) p) (some u) (latest p us)
 
--- the uses with f of the player's latest use in its place
+-- the uses, with the player's latest use u replaced by f u
 unfoldable pub revise : ℕ → (Use → Use) → List Use → List Use
 revise p f [] = []
 revise p f (u ∷ us) = cond (eqb (u .player) p) (f u ∷ us) (u ∷ revise p f us)
@@ -126,7 +126,7 @@ sumOf w (u ∷ us) = w u + sumOf w us
 abbrev pub counts : ℕ → Use → ℕ
 counts i u = one (eqb (u .entry) i)
 
--- `at` is the time at which each player's uses are judged: T of every player in the statements
+-- `at` gives the time at which each player's uses are judged: T for every player in the statements
 abbrev pub countsTimed : (ℕ → ℕ) → ℕ → ℕ → Use → ℕ
 countsTimed at timer i u = one (eqb (u .entry) i && (isOpen (at (u .player)) u || leb timer (ran u)))
 
@@ -146,7 +146,7 @@ spentTimed T us i l = sumOf (countsTimed (λ p. T) (l .timer) i) us
 abbrev pub spentSeconds : List Use → ℕ → ℕ
 spentSeconds us i = sumOf (countsSeconds i) us
 
--- the lesser, of those that there are
+-- the smaller of those present
 abbrev pub sooner : ℕ → Option ℕ → ℕ
 sooner b none = b
 sooner b (some c) = min b c

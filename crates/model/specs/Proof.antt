@@ -1,4 +1,4 @@
--- Lemmas and proofs about the definitions above: nothing here has to be believed.
+-- Lemmas and proofs about the definitions above: nothing here has to be taken on trust.
 -- Afternoon, Cases, BetweenRules, BeginCodes, AnswerCodes, Printed, Account and Bounds are computed examples: runs on constants that the checker evaluates.
 pub mod Afternoon
 pub mod Cases

@@ -1,6 +1,6 @@
--- `Fresh` is asked of the first book by demand 3. A `Fresh` that few books meet would leave that theorem nearly empty, so:
--- every legal book, its time, meters and players blanked, is fresh and legal, and every fresh and legal book is such a one.
--- Statements alone; proved in `Proof.Renewed`.
+-- Demand 3 requires the first book to be `Fresh`. If few books were, that theorem would be nearly empty, so:
+-- every legal book with its time, meters and players blanked is fresh and legal, and every fresh and legal book arises this way.
+-- Statements only; proved in `Proof.Renewed`.
 use Prim.Native.Nat.{ℕ}
 use mathlib.Core.Path.{_≡_}
 use mathlib.Core.List.{map}
@@ -12,11 +12,11 @@ use Rattle.model.specs.Book.{Legal, Fresh}
 use Rattle.model.specs.Image.{Typed}
 use Rattle.model.specs.Demand3.{Demand3}
 
--- the entry as nobody has used it
+-- the entry as if never used
 abbrev pub unused : Entry → Entry
 unused e = record { limits = e .limits; meters = noMeters }
 
--- the book as it was before its first event: "the time, all meters, all player records ... are 0", all else is kept
+-- the book as it was before its first event: "the time, all meters, all player records ... are 0", everything else is kept
 unfoldable pub renewed : Book → Book
 renewed b = record {
   time = 0;

@@ -9,7 +9,7 @@ use Rattle.book.specs.declared.Answer.{Answer}
 use Rattle.book.specs.declared.Book.{Book}
 use Rattle.model.specs.Demand3.{recordAnswers, recordFinal}
 
--- a number below 10 to the k in decimal digits, with no zero in front
+-- a number below 10 to the k in decimal digits, with no leading zeros
 unfoldable pub decimalIn : ℕ → ℕ → List ℕ
 decimalIn zero n = []
 decimalIn (suc k) n = cond (ltb n 10) ((48 + n) ∷ []) (decimalIn k (n / 10) ++ ((48 + n % 10) ∷ []))
@@ -22,7 +22,7 @@ decimal n = decimalIn 10 n
 unfoldable pub line : Answer → List ℕ
 line a = decimal (a .code) ++ (32 ∷ []) ++ decimal (a .entry) ++ (32 ∷ []) ++ decimal (a .until) ++ (10 ∷ [])
 
--- one behind the other
+-- one line after another
 unfoldable pub lines : List Answer → List ℕ
 lines [] = []
 lines (a ∷ as′) = line a ++ lines as′
@@ -31,14 +31,14 @@ lines (a ∷ as′) = line a ++ lines as′
 unfoldable pub recordCount : List ℕ → ℕ
 recordCount s = (length s + 12) / 13
 
--- one after the other; "a last record cut short" is shorter than 13
+-- record i; "a last record cut short" is shorter than 13
 unfoldable pub recordAt : List ℕ → ℕ → List ℕ
 recordAt s i = take 13 (drop (13 * i) s)
 
 unfoldable pub recordsIn : List ℕ → List (List ℕ)
 recordsIn s = listed (recordAt s) (recordCount s)
 
--- what is printed for some bytes of events, and the book after them
+-- what is printed for the bytes of events, and the book after them
 unfoldable pub runText : Book → List ℕ → List ℕ
 runText b s = lines (recordAnswers b (recordsIn s))
 

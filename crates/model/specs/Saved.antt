@@ -1,5 +1,5 @@
 -- "Saving and reading back between any two events is allowed": every event leaves a legal book, so it can be written at any time,
--- and whoever goes on from what is read back gets the same answers and the same book. Statements alone; proved in `Proof.Kept`.
+-- and going on from what is read back gives the same answers and the same book. Statements only; proved in `Proof.Kept`.
 use Prim.Native.Nat.{ℕ, _<_}
 use mathlib.Core.Path.{_≡_}
 use mathlib.Core.List.{List, [], _∷_, map}
@@ -16,12 +16,12 @@ use Rattle.model.specs.Demand3.{answers, final}
 
 -- ## What is claimed of a book
 
--- it is written and read back as itself, whatever book was held before
+-- written and read back it is the same book, whatever book was held before
 pub record Survives (b : Book) : Type 0 where
   pub accepted : readCode (image b) ≡ 0
   pub same : (held : Book) → readBook held (image b) ≡ b
 
--- ## What is asked of an event
+-- ## What is required of an event
 
 -- its asset fits 16 bits; the other numbers are bounded by the rules
 abbrev pub Fits : Event → Type 0
@@ -33,12 +33,12 @@ FitsRead (Valid e) = Fits e
 
 -- ## Runs with saving in between
 
--- an event, and what becomes of the book behind it: kept, or written and read back by someone who held another book
+-- an event, and what happens to the book after it: kept, or written and read back by someone who held another book
 pub record Turn : Type 0 where
   pub event : Decoded
   pub rereader : Option Book
 
--- the book that the next event meets
+-- the book that the next event gets
 unfoldable pub handedOn : Option Book → Book → Book
 handedOn none b = b
 handedOn (some held) b = readBook held (image b)
@@ -73,6 +73,6 @@ pub record Saved : Type 0 where
   -- so the book survives saving, after every event and after every record of bytes
   pub stepSurvives : (b : Book) (e : Event) → Legal b → Typed b → Fits e → Survives (step b e .book)
   pub recordSurvives : (b : Book) (s : List ℕ) → Legal b → Typed b → Bytes s → Survives (stepRecord b s .book)
-  -- saving between any two events changes no answer, and not the last book
+  -- saving between any two events changes neither an answer nor the last book
   pub sameAnswers : (b : Book) (ts : List Turn) → Legal b → Typed b → AllFit ts → savedAnswers b ts ≡ answers b (map eventOf ts)
   pub sameFinal : (b : Book) (ts : List Turn) → Legal b → Typed b → AllFit ts → savedFinal b ts ≡ final b (map eventOf ts)

@@ -1,4 +1,4 @@
--- The tables of places and parents, and that a look into them finds what `reachIn` says of the assets.
+-- The tables of positions and parents, and that a lookup finds what `reachIn` says of the assets.
 use Prim.Native.Nat.{ℕ, zero, suc, _-_, _<_, _≤_, min}
 use mathlib.Core.Path.{_≡_, refl, sym, ap, _∙_}
 use mathlib.Core.Bool.{Bool, true, cond}
@@ -35,15 +35,15 @@ putPlace ats count i l = set l (assetAt ats i .number) (cond (reachIn (tableOf a
 unfoldable pub putParent : List Asset → ℕ → ℕ → List ℕ → List ℕ
 putParent ats count i l = set l i (reachIn (tableOf ats count) (assetAt ats i .number) .parent)
 
--- by number: the position of the first asset with that number, 64 where there is none or it cannot be used
+-- by number: the position of the first asset with that number, 64 if there is none or it cannot be used
 unfoldable pub placesOf : List Asset → ℕ → List ℕ
 placesOf ats count = down (putPlace ats count) (min count 64) (slots 64 65536)
 
--- by position: the parent of the asset there, 0 where there is none
+-- by position: the parent of the asset there, 0 if there is none
 unfoldable pub parentsOf : List Asset → ℕ → List ℕ
 parentsOf ats count = down (putParent ats count) (min count 64) (slots 0 64)
 
--- what a look into such tables finds
+-- what a lookup in such tables finds
 unfoldable pub reachAt : List ℕ → List ℕ → ℕ → Reach
 reachAt places parents asset =
     record {
@@ -67,7 +67,7 @@ unfolding down
 down-none f zero l h = refl
 down-none f (suc i) l h = absurd (omega arith)
 
--- ## What stands in the tables
+-- ## What is in the tables
 
 slots-length : (v n : ℕ) → length (slots v n) ≡ n
 unfolding slots
@@ -95,7 +95,7 @@ module _ (ats : List Asset) (count : ℕ) where
   entered : (x number n : ℕ) (l : List ℕ) → x < length l → number ≡ x → getD (set l number (cond (able number) n 64)) x 0 ≡ cond (able x) n 64
   entered x number n l h e = ap (λ (k : ℕ). getD (set l k (cond (able k) n 64)) x 0) e ∙ getD-set-same l x (cond (able x) n 64) 0 h
 
-  -- of the first n assets, the first with number x
+  -- among the first n assets, the first with number x
   place-in : (x n : ℕ) (l : List ℕ) → x < length l
       → getD (down (putPlace ats count) n l) x 0
       ≡ cond (ltb (first (numbered ats x) n) n) (cond (able x) (first (numbered ats x) n) 64) (getD l x 0)
@@ -113,7 +113,7 @@ module _ (ats : List Asset) (count : ℕ) where
       (λ r. rw (q, r, lt-ltb n (suc n) (omega arith)) (entered x number n l h (eqb-true number x r)))
       (λ r. rw (q, r, le-ltb (suc n) (suc n) (omega arith)) (getD-set-other l number x v 0 (λ e. eqb-false number x r (sym e)))))
 
-  -- of the first n assets, the parent of the one at p
+  -- among the first n assets, the parent of the one at p
   parent-in : (p n : ℕ) (l : List ℕ) → p < length l → getD (down (putParent ats count) n l) p 0 ≡ cond (ltb p n) (upward p) (getD l p 0)
   unfolding down putParent
   parent-in p zero l h = rw (le-ltb p 0 (omega arith))
@@ -147,9 +147,9 @@ module _ (ats : List Asset) (count : ℕ) where
       parent-in p (min count 64) (slots 0 64) (rw slots-length (omega (arith, min-le-right count 64)))
       ∙ rw (lt-ltb p (min count 64) h)
 
--- ## A look into the tables
+-- ## A lookup in the tables
 
--- ats is any list of assets: of any numbers, some of them twice
+-- ats is any list of assets, with any numbers, possibly repeated
 pub reach-usable :
     (ats : List Asset) (count asset : ℕ) →
     asset ≤ 65535 →

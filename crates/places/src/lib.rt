@@ -1,5 +1,5 @@
-// What a begin for each asset number reaches, as two tables that are filled once for many begins: the place of a usable asset by its number, and the parent by place.
-// No event changes an asset, so the tables hold as long as the book is served.
+// What a begin reaches for each asset number, as two tables filled once for many begins: the position of a usable asset by its number, and the parent by position.
+// No event changes an asset, so the tables stay valid as long as the book is served.
 ghost use Prim.Native.Nat.{_<_};
 ghost use mathlib.Core.Path.{_≡_};
 ghost use mathlib.Core.Bool.{cond};
@@ -9,7 +9,7 @@ use assets::reach_of;
 use book::Asset;
 use book::at_most_64;
 
-// The place that the table holds for an asset at a position: 64 if it cannot be used.
+// What the table holds for an asset at a position: that position, or 64 if the asset cannot be used.
 fn place_of(usable: bool, i: usize) -> u8
     requires { ⌜ i < 64 ⌝ }
     ensures { λ r. ⌜ r ≡ cond usable i 64 ⌝ }
@@ -18,9 +18,9 @@ fn place_of(usable: bool, i: usize) -> u8
     if usable { place } else { 64 }
 }
 
-// The position of each usable asset by its number, 64 where there is none, and each asset's parent by its position, 0 where there is none.
-// The last asset is entered first, so that of two assets with one number the first counts.
-// Wrong and ruled out: the last of two assets with one number, a parent that is none, a place for an asset without a key.
+// The position of each usable asset by its number, 64 if there is none, and each asset's parent by its position, 0 if there is none.
+// The last asset is entered first, so that of two assets with the same number the first one counts.
+// Rules out: the last of two assets with the same number, an asset that is no parent given as one, a position for an asset without a key.
 pub fn fill_places(
     places: &mut [u8; 65536],
     parents: &mut [u16; 64],
@@ -41,8 +41,8 @@ pub fn fill_places(
     }
 }
 
-// What a begin for an asset reaches: one look into each table.
-// Wrong and ruled out: usable at place 64, the parent of another place.
+// What a begin for an asset reaches: one lookup in each table.
+// Rules out: usable at position 64, the parent at another position.
 pub fn reach_at<'a>(places: &'a [u8; 65536], parents: &'a [u16; 64], asset: u16) -> Reach
     ensures { λ r. ⌜ r ≡ reachAt (now (places .entry)) (now (parents .entry)) asset ⌝ }
 {

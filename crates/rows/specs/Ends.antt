@@ -1,4 +1,4 @@
--- When the use of each player ends, kept beside the book: whether a use is due is then one comparison.
+-- When the use of each player ends, kept beside the book: one comparison then tells whether a use is due.
 use Prim.Native.Nat.{ℕ, _≤_}
 use mathlib.Core.Path.{_≡_, refl}
 use mathlib.Core.Bool.{Bool, true, false, _&&_, cond}

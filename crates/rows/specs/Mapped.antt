@@ -1,4 +1,4 @@
--- A table that is a map over another one: what stands at a place, what a store does to both, and the loop that fills it.
+-- A table that is a map over another one: what is at a position, what a store does to both, and the loop that fills it.
 use Prim.Native.Nat.{ℕ, zero, suc, _+_, _-_, _<_}
 use mathlib.Core.Path.{_≡_, refl, sym, ap, ap₂, _∙_}
 use mathlib.Core.List.{List, [], _∷_, _++_, map}
@@ -19,7 +19,7 @@ module _ {A B : Type 0} (f : A → B) where
   mapped-set (x ∷ l) zero y = refl
   mapped-set (x ∷ l) (suc k) y = ap (λ (t : List B). f x ∷ t) (mapped-set l k y)
 
-  -- the first i places filled of a table of m blank ones
+  -- a table of m slots with the first i filled
   unfoldable pub filledTo : List A → B → ℕ → ℕ → List B
   filledTo l e m i = listed (λ k. getD (map f l) k e) i ++ replicate (m - i) e
 

@@ -1,4 +1,4 @@
--- The rows of a book's entries are a map over them: what stands at a place, and what a store does to both.
+-- The rows of a book's entries are a map over them: what is at a position, and what a store does to both.
 use Prim.Native.Nat.{ℕ, _<_}
 use mathlib.Core.Path.{_≡_}
 use mathlib.Core.List.{List, map}
@@ -13,7 +13,7 @@ use Rattle.rows.specs.Mapped.{mapped-at, mapped-set}
 abbrev pub rowOfEntry : Entry → Row
 rowOfEntry e = rowOf (e .limits) (e .meters)
 
--- what a position reads as that holds no row
+-- what a position without a row reads as
 abbrev pub noRow : Row
 noRow = record { asset = 0; kind = 0; flags = 0; fresh = 0; start = 0; window = 0; end = 0 }
 

@@ -1,5 +1,5 @@
-// What stands beside the book for speed: a row for each entry with what the choice asks of it, and the end of each player's use.
-// Rank and dates are then computed once for a change, and not once for each begin that looks at the entry.
+// What is kept beside the book for speed: for each entry a row with what the choice needs to know of it, and for each player the end of its use.
+// Rank and dates are then computed once per change, not once for each begin that looks at the entry.
 ghost use mathlib.Core.Path.{_≡_};
 ghost use mathlib.Core.List.{map};
 ghost use Rattle.rows.specs.Ends.{endOf, endOfPlayer};
@@ -11,7 +11,7 @@ use choose::Row;
 use choose::row_of;
 use rules::pick32;
 
-// Wrong and ruled out: the row of another entry, a row left blank.
+// Rules out: the row of another entry, a row left blank.
 pub fn rows_of(es: [Entry; 64]) -> [Row; 64]
     ensures { λ r. ⌜ r ≡ map rowOfEntry es ⌝ }
 {
@@ -36,15 +36,15 @@ pub fn rows_of(es: [Entry; 64]) -> [Row; 64]
     rows
 }
 
-// When a use ends, if there is one; else later than any time.
-// Wrong and ruled out: the until of a use that is closed, begin for until.
+// When a use ends, if there is one; otherwise a time later than any.
+// Rules out: the until of a closed use, begin for until.
 pub fn end_of(o: Open) -> u32
     ensures { λ r. ⌜ r ≡ endOf o ⌝ }
 {
     pick32(o.on == 1, o.until, 4294967295)
 }
 
-// Wrong and ruled out: the end of a neighbour, a player left out.
+// Rules out: the end of a neighbouring player, a player left out.
 pub fn ends_of(players: [Player; 16]) -> [u32; 16]
     ensures { λ r. ⌜ r ≡ map endOfPlayer players ⌝ }
 {

@@ -1,4 +1,4 @@
--- Which number follows a player's last one, and what becomes of a number that does not.
+-- Which number follows a player's last one, and the verdict on a number that does not.
 use Prim.Native.Nat.{ℕ, _+_, _≤_}
 use mathlib.Core.Path.{_≡_}
 use mathlib.Core.Bool.{Bool, true, false, not, _&&_, cond, and-false}

@@ -1,4 +1,4 @@
--- The structs of this crate in the terms of the model, and the laws by which its code meets the model's definitions.
+-- The structs of this crate in terms of the model, and the laws by which its code meets the model's definitions.
 use Prim.Native.Nat.{ℕ, _+_}
 use mathlib.Core.Path.{_≡_, refl}
 use mathlib.Core.Bool.{Bool, true, false, not, _&&_, _||_}
@@ -36,7 +36,7 @@ asked-or : (w b : Bool) → (not w || b) ≡ asked w b
 asked-or true b = refl
 asked-or false b = refl
 
--- the tests of the code, each only where its flag is set
+-- the tests of the code, each applied only if its flag is set
 pub grantable-is :
     (t : ℕ) (l : Limits) (m : Meters) →
     ((not (flagged 1 l) || ltb (m .count) (l .count))

@@ -1,5 +1,5 @@
-// The rules of document 01 on one entry and one player: the checks on an event's number and time, which entry suits and is grantable,
-// which of two goes first, and the least until. All is read from the limits and meters of one entry, so no function here takes a book.
+// The rules of document 01 for one entry and one player: the checks on an event's number and time, which entry is suitable and grantable,
+// which of two comes first, and the least until. Everything is read from the limits and meters of one entry, so no function here takes a book.
 // Every function is total, and its contract gives its whole result.
 ghost use mathlib.Core.Path.{_≡_};
 ghost use mathlib.Core.Bool.{cond};
@@ -35,7 +35,7 @@ pub struct Flags {
     pub accumulated: bool,
 }
 
-// What an entry is chosen by, in the order of the fields: the lesser number goes first.
+// What entries are ordered by, field by field: the smaller number comes first.
 pub struct Rank {
     pub flags: u8,
     pub end: u64,
@@ -43,38 +43,38 @@ pub struct Rank {
     pub inherited: u8,
 }
 
-// Wrong and ruled out: the two exchanged, the first whatever the test.
+// Rules out: the two swapped, the first whatever the test.
 pub fn pick32(w: bool, a: u32, b: u32) -> u32
     ensures { λ r. ⌜ r ≡ cond w a b ⌝ }
 {
     if w { a } else { b }
 }
 
-// The number where the test passes, else 0.
-// Wrong and ruled out: the number where the test fails, 1 for the number.
+// The number if the test passes, otherwise 0.
+// Rules out: the number if the test fails, 1 for the number.
 pub fn when(w: bool, v: u32) -> u32
     ensures { λ r. ⌜ r ≡ where-flagged w v ⌝ }
 {
     if w { v } else { 0 }
 }
 
-// Wrong and ruled out: the two exchanged, the first whatever the test.
+// Rules out: the two swapped, the first whatever the test.
 pub fn pick64(w: bool, a: u64, b: u64) -> u64
     ensures { λ r. ⌜ r ≡ cond w a b ⌝ }
 {
     if w { a } else { b }
 }
 
-// 1 for a test that passes, 0 for one that fails.
-// Wrong and ruled out: 0 and 1 exchanged, always 1.
+// 1 if the test passes, 0 if it fails.
+// Rules out: 0 and 1 swapped, always 1.
 pub fn one(w: bool) -> u8
     ensures { λ r. ⌜ r ≡ one w ⌝ }
 {
     if w { 1 } else { 0 }
 }
 
-// The difference, 0 where there is none.
-// Wrong and ruled out: a difference that wraps, the operands exchanged.
+// The difference, or 0 if it would be negative.
+// Rules out: a difference that wraps, the operands swapped.
 pub fn less(a: u32, b: u32) -> u32
     ensures { λ r. ⌜ r ≡ a - b ⌝ }
 {
@@ -84,14 +84,14 @@ pub fn less(a: u32, b: u32) -> u32
     a - b
 }
 
-// Wrong and ruled out: the greater, the first whatever the second.
+// Rules out: the larger of the two, the first whatever the second.
 pub fn least(a: u64, b: u64) -> u64
     ensures { λ r. ⌜ r ≡ min a b ⌝ }
 {
     if a < b { a } else { b }
 }
 
-// Wrong and ruled out: two kinds with one number, numbers from 0.
+// Rules out: two kinds with the same number, numbers from 0.
 pub fn kind_number(k: Kind) -> u8
     ensures { λ r. ⌜ r ≡ kindNumber k ⌝ }
 {
@@ -104,7 +104,7 @@ pub fn kind_number(k: Kind) -> u8
     }
 }
 
-// Wrong and ruled out: a kind or an asset for a continue or a stop, two operations with one number.
+// Rules out: a kind or an asset for a continue or a stop, two operations with the same number.
 pub fn wire_of(q: Request) -> Wire
     ensures { λ r. ⌜ r ≡ wireOf q ⌝ }
 {
@@ -127,7 +127,7 @@ pub fn wire_of(q: Request) -> Wire
     }
 }
 
-// Wrong and ruled out: taking a begin of another asset or kind for the same request.
+// Rules out: taking a begin of another asset or kind for the same request.
 pub fn same_request(last: Last, q: Request) -> bool
     ensures { λ r. ⌜ r ≡ sameRequest last q ⌝ }
 {
@@ -135,7 +135,7 @@ pub fn same_request(last: Last, q: Request) -> bool
     (w.operation == last.operation) & (w.asset == last.asset) & (w.kind == last.kind)
 }
 
-// A number that does not follow the last one: a resend or 4 where it is the last one, else 3.
+// A number that does not follow the last one: a resend or 4 if it is the last one, otherwise 3.
 fn out_of_line(last: Last, e: Event) -> Gate
     ensures { λ r. ⌜ r ≡ outOfLine last e ⌝ }
 {
@@ -152,7 +152,7 @@ fn out_of_line(last: Last, e: Event) -> Gate
     Gate::Refuse(4)
 }
 
-// Wrong and ruled out: reading the time of a resend, a resend of number 0, a number after 4294967295, the time judged before the number.
+// Rules out: reading the time of a resend, a resend of number 0, a number after 4294967295, the time checked before the number.
 pub fn gate_of(now: u32, last: Last, e: Event) -> Gate
     ensures { λ r. ⌜ r ≡ gate now last e ⌝ }
 {
@@ -173,7 +173,7 @@ pub fn gate_of(now: u32, last: Last, e: Event) -> Gate
     Gate::Take
 }
 
-// Wrong and ruled out: storing another number, request or answer than those of the event.
+// Rules out: storing a number, request or answer other than the event's.
 pub fn noted_last(e: Event, a: Answer) -> Last
     ensures { λ r. ⌜ r ≡ noted e a ⌝ }
 {
@@ -188,7 +188,7 @@ pub fn noted_last(e: Event, a: Answer) -> Last
     }
 }
 
-// Wrong and ruled out: two flags exchanged, a flag above 32 read.
+// Rules out: two flags swapped, a flag above 32 read.
 pub fn flags_of(l: Limits) -> Flags
     ensures { λ r. ⌜ r ≡ flagsOf l ⌝ }
 {
@@ -202,22 +202,22 @@ pub fn flags_of(l: Limits) -> Flags
     }
 }
 
-// How many seconds a grant of a kind gives at the most.
-// Wrong and ruled out: 59 or 61 seconds.
+// How many seconds a grant of a kind gives at most.
+// Rules out: 59 or 61 seconds.
 pub fn grant_length(kind: u8) -> u32
     ensures { λ r. ⌜ r ≡ grantLength kind ⌝ }
 {
     60
 }
 
-// Wrong and ruled out: execute as momentary, export as not.
+// Rules out: treating execute as momentary, or export as not.
 pub fn momentary(kind: u8) -> bool
     ensures { λ r. ⌜ r ≡ momentary kind ⌝ }
 {
     (4 <= kind) & (kind <= 5)
 }
 
-// Wrong and ruled out: end taken as excluded, a limit tested without its flag, a sum that wraps.
+// Rules out: end taken as excluded, a limit tested without its flag, a sum that wraps.
 pub fn grantable(l: Limits, m: Meters, t: u32) -> bool
     ensures { λ r. ⌜ r ≡ grantable t l m ⌝ }
 {
@@ -233,7 +233,7 @@ pub fn grantable(l: Limits, m: Meters, t: u32) -> bool
         & (!f.accumulated | (m.seconds < l.accumulated))
 }
 
-// Wrong and ruled out: an end that is not flagged, fresh and inherited exchanged.
+// Rules out: an end that is not flagged, fresh and inherited swapped.
 pub fn rank_of(l: Limits, m: Meters, asset: u16) -> Rank
     ensures { λ r. ⌜ asRank r ≡ rankOf asset l m ⌝ }
 {
@@ -247,7 +247,7 @@ pub fn rank_of(l: Limits, m: Meters, asset: u16) -> Rank
     }
 }
 
-// Wrong and ruled out: own after inherited, a later end first, fields compared in another order.
+// Rules out: own after inherited, a later end first, fields compared in another order.
 pub fn ranks_before(a: Rank, b: Rank) -> bool
     ensures { λ r. ⌜ r ≡ ranksBefore (asRank a) (asRank b) ⌝ }
 {
@@ -258,7 +258,7 @@ pub fn ranks_before(a: Rank, b: Rank) -> bool
                     & ((a.fresh < b.fresh) | (a.fresh == b.fresh) & (a.inherited < b.inherited)))
 }
 
-// Wrong and ruled out: a cap without its flag, the greater of the two.
+// Rules out: a cap applied without its flag, the larger of the two.
 pub fn capped(w: bool, v: u64, x: u64) -> u64
     ensures { λ r. ⌜ r ≡ cap w v x ⌝ }
 {
@@ -268,7 +268,7 @@ pub fn capped(w: bool, v: u64, x: u64) -> u64
     x
 }
 
-// Wrong and ruled out: a limit left out, a limit that is not flagged, first instead of t where no interval has started.
+// Rules out: a limit left out, a limit that is not flagged, first instead of t where no interval has started.
 pub fn least_until(t: u32, from: u32, l: Limits, m: Meters) -> u64
     ensures { λ r. ⌜ r ≡ leastUntil t from l m ⌝ }
 {

@@ -1,4 +1,4 @@
-// The run program. Its stored case is the worked afternoon of document 01.
+// The run program. Its stored case is the afternoon of document 01.
 fn main() {
     serve::serve();
 }

@@ -1,4 +1,4 @@
-// The run program where there is no rights.rbk.
+// The run program without a rights.rbk.
 fn main() {
     serve::serve();
 }

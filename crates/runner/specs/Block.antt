@@ -1,4 +1,4 @@
--- What answering a block of records leaves: all of it where the buffer has room for 19 bytes a record, nothing otherwise.
+-- What answering a block of records leaves: everything if the buffer has room for 19 bytes per record, otherwise nothing.
 use Prim.Native.Nat.{ℕ, _*_}
 use mathlib.Core.Bool.{Bool, cond}
 use mathlib.Core.List.{List, _++_}

@@ -1,4 +1,4 @@
--- What answering a block leaves, how far it is answered, what stands beside the book, and the ways that a record can go.
+-- What answering a block leaves, how far it is answered, what is kept beside the book, and the cases of a record.
 pub mod Block
 pub mod Upto
 pub mod Quiet

@@ -32,7 +32,7 @@ Late n p = isOn (p .current) ≡ true → n ≤ p .current .until
 abbrev pub Quiet : ℕ → List Player → Type 0
 Quiet n ps = (i : ℕ) → Late n (playerAt ps i)
 
--- when a use ends that settling at t leaves open
+-- the end of a use that settling at t leaves open
 unfoldable pub runsUntil : ℕ → Open → ℕ
 runsUntil t o = cond (isOn o && ltb t (o .until)) (o .until) never
 
@@ -99,7 +99,7 @@ either : (w : Bool) (u n : ℕ) → w ≡ true → min n (cond w u never) ≤ u
 either true u n e = min-le-right n u
 either false u n e = absurd (false≢true e)
 
--- the bound after a player's use became another one
+-- the bound after a player's use has changed
 pub quiet-store : (n : ℕ) (ps : List Player) (j : ℕ) (p : Player) → Quiet n ps → j < length ps → Quiet (min n (endOf (p .current))) (set ps j p)
 quiet-store n ps j p q h i =
     let m = min n (endOf (p .current)) in
@@ -112,7 +112,7 @@ quiet-store n ps j p q h i =
     (below j i))
     (below i j)
 
--- and where the use stays as it was
+-- and if the use stays as it was
 pub quiet-keep : (n : ℕ) (ps : List Player) (j : ℕ) (p : Player) → Quiet n ps → j < length ps → p .current ≡ openAt ps j → Quiet n (set ps j p)
 quiet-keep n ps j p q h same i =
     let other : (i ≡ j → ⊥) → Late n (playerAt (set ps j p) i) =
@@ -182,7 +182,7 @@ unfolding leastEnd
 least-never t ps zero = omega arith
 least-never t ps (suc n) = let h = min-le-left (leastEnd t ps n) (runsUntil t (openAt ps n)) in omega (arith, least-never t ps n)
 
--- a use that is due does not run on, another one runs until its end
+-- a use that is due does not go on, any other runs until its end
 runs-due : (t : ℕ) (o : Open) → expired t o ≡ true → runsUntil t o ≡ never
 unfolding runsUntil expired
 runs-due t o h = rw (and-left (isOn o) (leb (o .until) t) h, le-ltb t (o .until) (leb-true (o .until) t (and-right (isOn o) (leb (o .until) t) h)))
@@ -195,7 +195,7 @@ runs-on t o h =
     (λ off. rw off)
 
 module _ (t p : ℕ) (b n : Book) (next : ℕ) (is-book : n ≡ settledTo t p b) (few : p < length (b .players)) (is-next : next ≡ leastEnd t (b .players) p) where
-  -- the bound, one player further: a use that is due adds nothing, another one its end
+  -- the bound, one player further: a use that is due adds nothing, any other its end
   pub end-due : expired t (openAt (n .players) p) ≡ true → next ≡ leastEnd t (b .players) (p + 1)
   end-due d =
       let h : next ≤ never = omega (arith, is-next, least-never t (b .players) p) in
@@ -213,7 +213,7 @@ module _ (ps : List Player) (ends : List ℕ) (is-ends : ends ≡ map endOfPlaye
   pub kept-end : (p : ℕ) → p < length ps → getD ends p 0 ≡ endOf (openAt ps p)
   kept-end p l = ap (λ (x : List ℕ). getD x p 0) is-ends ∙ mapped-at endOfPlayer ps p noPlayer 0 l
 
-  -- a player and its end stored at the same place
+  -- a player and its end stored at the same position
   pub ends-next : (p : ℕ) (q : Player) (end : ℕ) → end ≡ endOf (q .current) → set ends p end ≡ map endOfPlayer (set ps p q)
   ends-next p q end e = ap (λ (x : List ℕ). set x p end) is-ends ∙ ap (set (map endOfPlayer ps) p) e ∙ sym (mapped-set endOfPlayer ps p q)
 
@@ -221,7 +221,7 @@ module _ (ps : List Player) (ends : List ℕ) (is-ends : ends ≡ map endOfPlaye
   pub ends-same : (p : ℕ) (q : Player) → q .current ≡ openAt ps p → ends ≡ map endOfPlayer (set ps p q)
   ends-same p q e = is-ends ∙ sym (map-set-same endOfPlayer ps p q noPlayer (ap endOf e))
 
--- a use that is closed has no end
+-- a closed use has no end
 pub shut-end : (t : ℕ) (p : Player) → expired t (p .current) ≡ true → never ≡ endOf (shut t p .current)
 unfolding shut
 shut-end t p d = rw d

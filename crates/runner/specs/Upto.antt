@@ -1,4 +1,4 @@
--- How far a block of records is answered: the book and the text after the first so many records, and the law of one record more.
+-- How far a block of records is answered: the book and the text after the first i records, and the law of one more record.
 use Prim.Native.Nat.{ℕ, _+_, _*_, _-_, _≤_, min}
 use mathlib.Core.Path.{_≡_, refl, sym, ap, _∙_}
 use mathlib.Core.Bool.{true}
@@ -68,7 +68,7 @@ upto-none b s old = record { is-book = refl; text = sym (lay-nil old 0); end = r
 pub upto-length : (b : Book) (s old : List ℕ) (i : ℕ) (book : Book) (out : List ℕ) (at : ℕ) → Upto b s old i book out at → 19 * i ≤ length old → length out ≡ length old
 upto-length b s old i book out at u h = ap length (u .text) ∙ length-lay old 0 (textTo b s i) (omega arith)
 
--- one record more: an answer and a book that are the step's, and its line put behind the text
+-- one more record: its answer and book are those of the step, and its line is put after the text
 pub upto-next :
     (b : Book) (s old : List ℕ) (i : ℕ) (book : Book) (out : List ℕ) (at : ℕ) →
     Upto b s old i book out at →
@@ -113,7 +113,7 @@ upto-all b s old i book out at u e =
           ∙ lay-front old (lines (recordAnswers b (listed (recordAt s) (recordCount s)))) (length (lines (recordAnswers b (listed (recordAt s) (recordCount s))))) refl,
     )
 
--- the part of the bytes from 13 i on, as far as a record goes
+-- the bytes from 13 i, as far as the record goes
 pub record-part : (s : List ℕ) (i n : ℕ) → n ≡ min (13 * i + 13) (length s) - 13 * i → take n (drop (13 * i) s) ≡ recordAt s i
 unfolding recordAt
 record-part s i n e =

@@ -1,4 +1,4 @@
--- The ways that a record can go, each as one law: what the loop over the records has stored is what the step leaves.
+-- The cases of a record, each as one law: what the loop over the records has stored is what the step leaves.
 use Prim.Native.Nat.{ℕ, suc, _%_, _≤_, min}
 use mathlib.Core.Path.{_≡_, refl, sym, ap, subst, _∙_}
 use mathlib.Core.Bool.{Bool, true, false, not, cond}
@@ -71,14 +71,14 @@ decoded-few s e h =
     no-event : (code : ℕ) → Invalid code ≡ Valid e → ⊥
     no-event code x = let z : _≡_ {A = ℕ} 0 1 = cc in omega arith
 
--- the event e that stands in the record s is taken by the book b
+-- the event e in the record s is taken by the book b
 pub record Admitted (b : Book) (s : List ℕ) (e : Event) : Type 0 where
   pub valid : decoded s ≡ Valid e
   pub takes : gate (b .time) (lastAt (b .players) (e .player)) e ≡ Take
   pub few-players : e .player ≤ 15
   pub early : e .time ≤ latestTime
 
--- the loop reads the player's record at the remainder, which is the player
+-- the loop reads the player's record at a remainder, which equals the player
 module _ (b : Book) (s : List ℕ) (e : Event) (v : decoded s ≡ Valid e) where
   abbrev asked : Last
   asked = lastAt (b .players) (e .player % 16)
@@ -202,7 +202,7 @@ code-clash x h = omega (arith, h)
 
 -- ## A begin
 
--- the code that refuses a begin, 0 where it is granted
+-- the code that refuses a begin, 0 if it is granted
 abbrev pub beginCode : Bool → Bool → Bool → Bool → ℕ
 beginCode on usable suits some = cond on 11 (cond usable (cond suits (cond some 0 13) 12) 10)
 
@@ -303,7 +303,7 @@ shut-not t i ps h = rw h (sym (set-getD ps i noPlayer))
 
 -- ## The tables beside the book
 
--- an entry and its row stored at the same place
+-- an entry and its row stored at the same position
 pub rows-next :
     (es : List Entry) (rows : List Row) (k : ℕ) (y : Entry) (row : Row) →
     rows ≡ map rowOfEntry es →

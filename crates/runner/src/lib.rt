@@ -1,7 +1,7 @@
-// A block of event records answered one after the other, each by one line of text.
-// The loop over the records owns the book: no function on the way of one event takes or returns it, and what an event changes is stored in place.
-// Beside the book stands what an event would otherwise recompute: a lower bound of the next until, so that settling costs one comparison where nothing
-// is due, the end of each player's use, a row for each entry with what the choice asks of it, and the assets by number.
+// Answers a block of event records in turn, each with one line of text.
+// The loop over the records owns the book: no function called for an event takes or returns it, and what an event changes is stored in place.
+// Kept beside the book is what each event would otherwise recompute: a lower bound of the next until, so that settling costs one comparison when nothing
+// is due, the end of each player's use, a row for each entry with what the choice needs to know of it, and the assets by number.
 ghost use mathlib.Core.Path.{_≡_};
 ghost use mathlib.Core.Bool.{cond};
 ghost use Prim.Native.Nat.{_+_, _*_, _≤_, min};
@@ -83,7 +83,7 @@ fn looked_at(on: bool, usable: bool, entries: usize) -> usize
     }
 }
 
-// The code that refuses a begin, 0 where it is granted at that position.
+// The code that refuses a begin, or 0 if it is granted at that position.
 fn begin_code(on: bool, usable: bool, suits: bool, at: usize) -> u8
     ensures { λ r. ⌜ r ≡ beginCode on usable suits (ltb at 64) ⌝ }
 {
@@ -102,14 +102,14 @@ fn begin_code(on: bool, usable: bool, suits: bool, at: usize) -> u8
     13
 }
 
-// The code that refuses a continue or a stop before its entry is looked at, else 0.
+// The code that refuses a continue or a stop before its entry is looked at, otherwise 0.
 fn further_code(on: bool) -> u8
     ensures { λ r. ⌜ r ≡ cond on 0 14 ⌝ }
 {
     if on { 0 } else { 14 }
 }
 
-// The operation of that number on the limits and meters of the entry at a position.
+// The request's operation on the limits and meters of the entry at a position.
 fn act(q: Request, l: Limits, m: Meters, o: Open, at: u8, t: u32) -> Part
     ensures { λ r. ⌜ r ≡ actOn q at t l m o ⌝ }
 {
@@ -120,8 +120,8 @@ fn act(q: Request, l: Limits, m: Meters, o: Open, at: u8, t: u32) -> Part
     }
 }
 
-// Where out has no room for 19 bytes a record, nothing is done.
-// Wrong and ruled out: a record left out or answered twice, a last record cut short that gets no line, a byte touched behind the text.
+// If out has no room for 19 bytes per record, nothing is done.
+// Rules out: a record left out or answered twice, a last record cut short that gets no line, a byte touched after the text.
 pub fn answer_block(b: Book, records: &[u8], out: &mut [u8]) -> Block
     ensures { λ r. ⌜ (r .book ≡ blockBook b (now (records .entry)) (length (now (out .entry)))) × (r .written ≡ blockWritten b (now (records .entry)) (length (now (out .entry)))) × (now (out .exit) ≡ blockBuffer b (now (records .entry)) (now (out .entry))) ⌝ }
 {

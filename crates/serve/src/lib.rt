@@ -1,6 +1,6 @@
 // The run program: the book from rights.rbk, event records from standard input, a line for each answer on standard output.
-// This crate only reads and writes: what is done between two reads is the crate `turn`, what an image and a record mean is below that.
-// What one read brings is answered by one write before the next read, so that a player at a pipe need not wait for others.
+// This crate only reads and writes: crate `turn` does the work between two reads, and the crates below it define what images and records mean.
+// The bytes of one read are answered in one write before the next read, so that a player at a pipe need not wait for others.
 ghost use Prim.Native.Nat.{_≤_};
 ghost use lib.ListN.{length};
 use book::Book;
@@ -8,7 +8,7 @@ use turn::IMAGE;
 use turn::INPUT;
 use turn::OUT;
 
-// After a read or a write that failed: whether to try it again. A descriptor that does not block had nothing to move yet, or a
+// Whether to retry a read or a write that failed: a non-blocking descriptor was not ready yet, or a
 // signal came first.
 fn waited() -> bool {
     let e = os::errno();
@@ -19,15 +19,15 @@ fn waited() -> bool {
     e == libc::EINTR
 }
 
-// One read, behind the first bytes of s: how many bytes came, 0 at the end, less where the read failed.
+// One read into s from an offset: how many bytes came, 0 at the end of the input, negative if the read failed.
 fn read_once(fd: i32, s: &mut [u8], from: usize) -> isize
     requires { ⌜ from ≤ length (now s) ⌝ }
 {
     libc::read(fd, &mut s[from..])
 }
 
-// The same, tried until bytes come, the end, or a failure that waiting does not mend.
-// A proved loop has to end, and nothing says that the waiting does: it counts down from a number that no run uses up.
+// The same, retried until there are bytes, the end of the input, or a failure that waiting does not cure.
+// A proved loop has to end, and nothing guarantees that the waiting does: it counts down from a number that no run uses up.
 fn read_more(fd: i32, s: &mut [u8], from: usize) -> isize
     requires { ⌜ from ≤ length (now s) ⌝ }
 {
@@ -45,7 +45,7 @@ fn read_more(fd: i32, s: &mut [u8], from: usize) -> isize
     -1
 }
 
-// How many bytes of s are there once got have come behind the first ones.
+// How many bytes s holds after appending `got` bytes to the first ones.
 fn filled(s: &[u8], from: usize, got: isize) -> usize
     requires { ⌜ from ≤ length (now s) ⌝ }
     ensures { λ r. ⌜ r ≤ length (now (s .entry)) ⌝ }
@@ -53,7 +53,7 @@ fn filled(s: &[u8], from: usize, got: isize) -> usize
     from + io::count(got, &s[from..])
 }
 
-// The file's bytes to the start of image, until it ends or image is full, and how many. One that cannot be read counts as empty.
+// Reads the file to the start of image until the file ends or image is full, and returns how many bytes. An unreadable file counts as empty.
 fn read_file(fd: i32, image: &mut [u8]) -> usize
     ensures { λ r. ⌜ r ≤ length (now (image .exit)) ⌝ }
 {
@@ -73,7 +73,7 @@ fn read_file(fd: i32, image: &mut [u8]) -> usize
     n
 }
 
-// The bytes of rights.rbk to the start of image, and how many. A missing file counts as empty.
+// Reads rights.rbk to the start of image, and returns how many bytes. A missing file counts as empty.
 fn read_image(image: &mut [u8; IMAGE]) -> usize {
     let fd = os::open_read(b"rights.rbk");
     if fd < 0 {
@@ -87,14 +87,14 @@ fn read_image(image: &mut [u8; IMAGE]) -> usize {
     n
 }
 
-// One write of text from a place on: how many bytes were taken, less than 0 where it failed.
+// One write of text from an offset: how many bytes were written, negative if it failed.
 fn write_once(text: &[u8], from: usize) -> isize
     requires { ⌜ from ≤ length (now text) ⌝ }
 {
     libc::write(1, &text[from..])
 }
 
-// Writes all of text, what one write leaves by the next.
+// Writes all of text, in as many writes as it takes.
 fn write_text(text: &[u8]) -> bool {
     let mut done: usize = 0;
     let mut left = u64::MAX;
@@ -117,7 +117,7 @@ fn write_text(text: &[u8]) -> bool {
     false
 }
 
-// Writes text, or says why that failed.
+// Writes text, or reports why that failed.
 fn send(text: &[u8]) -> bool {
     if write_text(text) {
         return true;
@@ -140,8 +140,8 @@ fn print_refusal(code: u8) {
     }
 }
 
-// Answers what each read brings, until the input ends. What is kept of a record goes with the next read.
-// Nothing says that the input ends either: this loop counts down too.
+// Answers each read until the input ends. An incomplete record is kept and completed by the next read.
+// Nothing guarantees that the input ends either: this loop counts down too.
 fn answer_reads(b: Book, input: &mut [u8; INPUT], out: &mut [u8; OUT]) {
     let mut book = b;
     let mut kept: usize = 0;

@@ -1,4 +1,4 @@
--- Laws of decimal digits: how many a number has, one or two digits less, and digits laid into a buffer, one by one from the last to the first, or two at a time.
+-- Laws of decimal digits: how many a number has, one or two digits fewer, and digits written into a buffer, one by one from last to first, or two at a time.
 use Prim.Native.Nat.{ℕ, zero, suc, _+_, _-_, _*_, _/_, _%_, _<_, _≤_, _^_, zero-le, suc-le-suc}
 use mathlib.Core.Path.{_≡_, refl, sym, ap, ap₂, _∙_}
 use mathlib.Core.Bool.{true, _&&_}
@@ -35,7 +35,7 @@ digit-more k n h = rw (le-ltb n 10 h)
 tenth : (p n : ℕ) → n < 10 ^ suc (suc p) → n / 10 < 10 ^ suc p
 tenth p n h = omega (arith, pow-succ' 10 (suc p))
 
--- a number below 10 to the p + 1 has at most p + 1 digits, whatever room there is in front
+-- a number below 10 to the p + 1 has at most p + 1 digits, however much room there is in front
 pub digits-fit : (p k n : ℕ) → n < 10 ^ suc p → p ≤ k → decimalIn (suc p) n ≡ decimalIn (suc k) n
 digits-fit zero k n h le = digit-one zero n h ∙ sym (digit-one k n h)
 digits-fit (suc p) zero n h le = absurd (omega arith)
@@ -69,7 +69,7 @@ snoc-same (x ∷ xs) (y ∷ ys) a b e =
     let l : xs ≡ ys = r .0 in
     (cc, r .1)
 
--- where the last digit is all that is left
+-- when only the last digit is left
 last-digit : (j x : ℕ) (d : List ℕ) → j < length d → x < 10 → ([] ≡ take j d) × (48 + x ≡ getD d j 0) → (decimalIn j (x / 10) ≡ take j d) × (48 + x % 10 ≡ getD d j 0)
 unfolding decimalIn
 last-digit zero x d h one p = (p .0, ap (λ (v : ℕ). 48 + v) (omega arith) ∙ p .1)
@@ -77,14 +77,14 @@ last-digit (suc k) x d h one p =
     let le : suc k ≤ length d = omega arith in
     let z : 0 ≡ suc k = ap length (p .0) ∙ length-take-le (suc k) d le in absurd (omega arith)
 
--- one digit less: the turn of a loop that takes the last of j + 1 digits that are left of the list d
+-- one digit fewer: the turn of a loop that takes the last of the j + 1 digits left of the list d
 pub digits-turn : (j x : ℕ) (d : List ℕ) → j < length d → decimalIn (suc j) x ≡ take (suc j) d → (decimalIn j (x / 10) ≡ take j d) × (48 + x % 10 ≡ getD d j 0)
 digits-turn j x d h e =
     let s : take (suc j) d ≡ take j d ++ (getD d j 0 ∷ []) = take-suc d j 0 h in
     ⊎-elim (λ one. last-digit j x d h one (snoc-same [] (take j d) (48 + x) (getD d j 0) (sym (digit-one j x one) ∙ e ∙ s)))
     (λ more. snoc-same (decimalIn j (x / 10)) (take j d) (48 + x % 10) (getD d j 0) (sym (digit-more j x more) ∙ e ∙ s)) (below x 10)
 
--- a byte in front of bytes that are laid already
+-- a byte in front of bytes already written
 pub lay-before : (l : List ℕ) (at : ℕ) (s : List ℕ) (v : ℕ) → at + 1 + length s ≤ length l → set (lay l (at + 1) s) at v ≡ lay l at (v ∷ s)
 unfolding lay
 lay-before l at s v h =
@@ -94,7 +94,7 @@ lay-before l at s v h =
     rw (e, add-one, take-suc l at 0 r)
     (simp append-assoc (set-at (take at l) (getD l at 0) (s ++ drop (at + length (v ∷ s)) l) v at (length-take-le at l le)))
 
--- room for the digits that a number has is room enough
+-- room for exactly a number's digits is enough
 in-length : (k n : ℕ) → n < 10 ^ suc k → decimalIn (length (decimalIn (suc k) n)) n ≡ decimalIn (suc k) n
 in-length zero n h = ap (λ (s : List ℕ). decimalIn (length s) n) (digit-one zero n h)
 in-length (suc k) n h =
@@ -109,7 +109,7 @@ in-length (suc k) n h =
     ∙ sym (digit-more (suc k) n more))
     (below n 10)
 
--- the first turn: all digits are left, and none is laid
+-- the first turn: all digits are left, and none is written
 pub digits-start : (n : ℕ) (l : List ℕ) (at count : ℕ) → n < 4294967296 → count ≡ length (decimal n) → (decimalIn count n ≡ take count (decimal n)) × (l ≡ lay l (at + count) (drop count (decimal n)))
 unfolding decimal
 digits-start n l at count h e =
@@ -144,7 +144,7 @@ length-most zero n = zero-le
 length-most (suc k) n =
     ⊎-elim (λ one. rw (digit-one k n one) (omega arith)) (λ more. rw (digit-more k n more, length-append) (omega (arith, length-most k (n / 10)))) (below n 10)
 
--- a byte has at most 3 digits, and no number here more than 10
+-- a byte has at most 3 digits, and no number here has more than 10
 pub byte-places : (n : ℕ) → n < 256 → length (decimal n) ≤ 3
 unfolding decimal
 byte-places n h = rw (← digits-fit 2 9 n (omega arith) (omega arith)) (length-most 3 n)
@@ -168,20 +168,20 @@ lay-one : (l : List ℕ) (n v : ℕ) → n < length l → set l n v ≡ lay l n 
 unfolding lay
 lay-one l n v h = rw (add-one) (set-split l n v h ∙ sym (append-snoc (take n l) v (drop (suc n) l)))
 
--- a byte behind bytes that are laid already
+-- a byte after bytes already written
 lay-end : (l : List ℕ) (at : ℕ) (s : List ℕ) (n v : ℕ) → at + length s ≡ n → n < length l → set (lay l at s) n v ≡ lay l at (s ++ (v ∷ []))
 lay-end l at s n v e h =
     let k : length (lay l at s) ≡ length l = length-lay l at s (omega arith) in
     let h′ : n < length (lay l at s) = omega arith in
     lay-one (lay l at s) n v h′ ∙ lay-lay l at s (v ∷ []) n e (omega arith)
 
--- digits and a byte behind them, put behind what is laid already
+-- digits and a byte after them, put after what is already written
 pub lay-word : (l : List ℕ) (at : ℕ) (s w : List ℕ) (n m v : ℕ) → n ≡ at + length s → m ≡ n + length w → m < length l → set (lay (lay l at s) n w) m v ≡ lay l at (s ++ w ++ (v ∷ []))
 lay-word l at s w n m v e e′ h =
     ap (λ (x : List ℕ). set x m v) (lay-lay l at s w n (sym e) (omega arith))
     ∙ lay-end l at (s ++ w) m v (rw (length-append) (omega arith)) h
 
--- three numbers, each with the byte behind it, are the line of an answer
+-- three numbers, each with the byte after it, are the line of an answer
 pub line-laid : (a : Answer) (l o₁ o₂ o₃ : List ℕ) (at f s t : ℕ) → at + 19 ≤ length l → a .code < 256 → a .entry < 256 → f ≡ at + length (decimal (a .code)) → o₁ ≡ lay l at (decimal (a .code)) → s ≡ f + 1 + length (decimal (a .entry)) → o₂ ≡ lay (set o₁ f 32) (f + 1) (decimal (a .entry)) → t ≡ s + 1 + length (decimal (a .until)) → o₃ ≡ lay (set o₂ s 32) (s + 1) (decimal (a .until)) → (t + 1 ≡ at + length (line a)) × (set o₃ t 10 ≡ lay l at (line a))
 unfolding line
 line-laid a l o₁ o₂ o₃ at f s t room c e ef e₁ es e₂ et e₃ =
@@ -202,7 +202,7 @@ line-laid a l o₁ o₂ o₃ at f s t room c e ef e₁ es e₂ et e₃ =
     ∙ lay-word l at w′ (decimal (a .until)) (s + 1) t 10 (omega arith) et (omega arith) in
     (rw (length-append, length-append, n′) (omega arith), r)
 
--- two digits of a number below 100, zeros in front too
+-- two digits of a number below 100, with leading zeros
 unfoldable pub two : ℕ → List ℕ
 two n = (48 + n / 10) ∷ (48 + n % 10) ∷ []
 
@@ -228,7 +228,7 @@ four-more k n lo =
     let c : n % 100 ≡ n % 10000 % 100 = omega arith in
     rw (two-more (suc (suc k)) n (omega arith), two-more k (n / 100) (omega arith), a, b, c) refl
 
--- bytes set one behind the other, from the place at + k on
+-- bytes set one after another, from offset at + k
 written : List ℕ → ℕ → ℕ → List ℕ → List ℕ
 written l at k [] = l
 written l at k (v ∷ s) = written (set l (at + k) v) at (suc k) s
@@ -241,7 +241,7 @@ written-laid l at k w (v ∷ s) e h =
     ∙ written-laid l at (suc k) (w ++ (v ∷ [])) s (rw (length-append) (omega arith)) (omega arith)
     ∙ ap (lay l at) (append-assoc w (v ∷ []) s)
 
--- the first byte, and those behind it
+-- the first byte, and those after it
 bytes-laid : (l : List ℕ) (at v : ℕ) (s : List ℕ) → at + 1 + length s ≤ length l → written (set l at v) at 1 s ≡ lay l at (v ∷ s)
 bytes-laid l at v s h =
     ap (λ (x : List ℕ). written x at 1 s) (lay-one l at v (omega arith))
@@ -288,7 +288,7 @@ refused-length = refl
 refused-parts : (d s e u t : List ℕ) → d ++ s ++ e ++ s ++ u ++ t ≡ d ++ (s ++ e ++ s ++ u ++ t)
 refused-parts d s e u t = simp append-assoc
 
--- a code and what stands behind it in a refusal are the line of that answer
+-- a code and what follows it in a refusal are the line of that answer
 pub refused-line : (a : Answer) (l o : List ℕ) (at f : ℕ) → at + 19 ≤ length l → a .code < 256 → (eqb (a .entry) 255 && eqb (a .until) 0) ≡ true → f ≡ at + length (decimal (a .code)) → o ≡ lay l at (decimal (a .code)) → (f + 7 ≡ at + length (line a)) × (lay o f refusedEnd ≡ lay l at (line a))
 unfolding line refusedEnd
 refused-line a l o at f room c t ef e =

@@ -1,3 +1,3 @@
--- The text of a line: its bytes, and how many digits they have.
+-- The text of a line: its bytes, and how many digits its numbers have.
 pub mod Lines
 pub mod Digits

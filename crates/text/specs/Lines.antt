@@ -1,4 +1,4 @@
--- What putting the line of an answer into a buffer leaves: nothing happens where fewer than 19 bytes are left, the longest line's length.
+-- What putting the line of an answer into a buffer leaves: nothing happens if fewer than 19 bytes are left, the length of the longest line.
 use Prim.Native.Nat.{ℕ, _+_}
 use mathlib.Core.Bool.{cond}
 use mathlib.Core.List.{List, [], _∷_, _++_}
@@ -8,7 +8,7 @@ use Rattle.laws.specs.Buffer.{lay}
 use Rattle.book.specs.declared.Answer.{Answer}
 use Rattle.model.specs.Run.{decimal, line}
 
--- the place behind the line
+-- the end offset of the line
 unfoldable pub lineEnd : Answer → ℕ → ℕ → ℕ
 lineEnd a at room = cond (leb (at + 19) room) (at + length (line a)) at
 
@@ -16,6 +16,6 @@ lineEnd a at room = cond (leb (at + 19) room) (at + length (line a)) at
 unfoldable pub lineBuffer : Answer → ℕ → List ℕ → List ℕ
 lineBuffer a at old = cond (leb (at + 19) (length old)) (lay old at (line a)) old
 
--- what stands behind the code in the line of a refusal, whose entry is 255 and until 0
+-- what follows the code in the line of a refusal: entry 255 and until 0
 unfoldable pub refusedEnd : List ℕ
 refusedEnd = (32 ∷ []) ++ decimal 255 ++ (32 ∷ []) ++ decimal 0 ++ (10 ∷ [])

@@ -1,5 +1,5 @@
-// The line of one answer, as the run program prints it, put into a lent buffer.
-// What most lines hold (a code, an entry, a time of ten digits, a refusal's end) is written with no loop.
+// Puts the line of one answer, as the run program prints it, into a lent buffer.
+// What most lines hold (a code, an entry, a time of ten digits, a refusal's end) is written without a loop.
 ghost use mathlib.Core.Path.{_≡_};
 ghost use Prim.Native.Nat.{_+_, _<_, _≤_};
 ghost use lib.ListN.{length};
@@ -52,7 +52,7 @@ fn put_two(out: &mut [u8], at: usize, n: u32)
     out[at + 1] = (48 + n % 10) as u8;
 }
 
-// Puts the digits of a number that has ten of them, as most times have, two at a time.
+// Puts the digits of a ten-digit number, as most times are, two at a time.
 fn put_ten(out: &mut [u8], at: usize, n: u32)
     requires { ⌜ (at + 10 ≤ length (now out)) × (1000000000 ≤ n) ⌝ }
     ensures { λ r. ⌜ now (out .exit) ≡ lay (now (out .entry)) at (decimal n) ⌝ }
@@ -68,8 +68,8 @@ fn put_ten(out: &mut [u8], at: usize, n: u32)
     put_two(out, at + 8, low % 100);
 }
 
-// Puts the digits of n into out from at, and answers the place behind them.
-// Where there are not ten, from the last to the first, once their number is known.
+// Puts the digits of n into out at offset `at`, and returns the end offset.
+// If there are not ten of them, they are counted, then put from last to first.
 fn put_number(out: &mut [u8], at: usize, n: u32) -> usize
     requires { ⌜ at + length (decimal n) ≤ length (now out) ⌝ }
     ensures { λ r. ⌜ (r ≡ at + length (decimal n)) × (now (out .exit) ≡ lay (now (out .entry)) at (decimal n)) ⌝ }
@@ -89,7 +89,7 @@ fn put_number(out: &mut [u8], at: usize, n: u32) -> usize
     at + count
 }
 
-// The same for a byte, as a code and an entry are, with no loop.
+// The same for a byte, such as a code or an entry, without a loop.
 fn put_byte(out: &mut [u8], at: usize, n: u8) -> usize
     requires { ⌜ at + length (decimal n) ≤ length (now out) ⌝ }
     ensures { λ r. ⌜ (r ≡ at + length (decimal n)) × (now (out .exit) ≡ lay (now (out .entry)) at (decimal n)) ⌝ }
@@ -107,7 +107,7 @@ fn put_byte(out: &mut [u8], at: usize, n: u8) -> usize
     at + 3
 }
 
-// Puts what stands behind the code of a refusal, whose entry is 255 and until 0.
+// Puts the rest of a refusal's line, after the code: entry 255 and until 0.
 fn put_refused(out: &mut [u8], at: usize)
     requires { ⌜ at + 7 ≤ length (now out) ⌝ }
     ensures { λ r. ⌜ now (out .exit) ≡ lay (now (out .entry)) at refusedEnd ⌝ }
@@ -121,7 +121,7 @@ fn put_refused(out: &mut [u8], at: usize)
     out[at + 6] = 10;
 }
 
-// Wrong and ruled out: a digit, a space or the line's end left out, zeros in front, a byte touched past the line, and a line begun where it may not fit.
+// Rules out: a digit, a space or the line's end left out, leading zeros, a byte touched past the line, and a line begun where it may not fit.
 pub fn put_line(out: &mut [u8], at: usize, a: Answer) -> usize
     ensures { λ r. ⌜ (r ≡ lineEnd a at (length (now (out .entry)))) × (now (out .exit) ≡ lineBuffer a at (now (out .entry))) × (r ≤ at + 19) ⌝ }
 {

@@ -1,4 +1,4 @@
--- How many bytes a turn keeps, and that its text stands in the output buffer.
+-- How many bytes a turn keeps, and that its text is in the output buffer.
 use Prim.Native.Nat.{ℕ, _-_, _%_, _≤_}
 use mathlib.Core.Path.{_≡_, _∙_}
 use mathlib.Core.Bool.{Bool, true, false, cond}

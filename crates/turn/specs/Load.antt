@@ -1,4 +1,4 @@
--- A file that is longer than the longest image is refused by its first 3,980 bytes as by all of them, so no more need be read.
+-- A file longer than the longest image is refused with the same number from its first 3,980 bytes as from all of them, so no more need be read.
 use Prim.Native.Nat.{ℕ, _+_, _*_, _≤_}
 use mathlib.Core.Path.{_≡_, refl, sym, ap, ap₂, _∙_}
 use mathlib.Core.Bool.{Bool, true, false, cond, _&&_, _||_, not}
@@ -16,7 +16,7 @@ use Rattle.model.specs.Book.{latestTime, ruleBroken}
 use Rattle.model.specs.Image.{headerWidths, newest, imageLength, markIn, versionIn, assetCountIn, entryCountIn, timeIn, bookIn, headerBroken, readCode, readBook}
 use Rattle.model.specs.Proof.Header.{refused-book}
 
--- ## The numbers of a header stand in the first bytes
+-- ## The numbers of a header are in the first bytes
 
 module _ (m : ℕ) (s : List ℕ) where
   number-cut : (w : Width) (o : ℕ) → o + bytes w ≤ m → numberAt w o (take m s) ≡ numberAt w o s
@@ -30,7 +30,7 @@ module _ (m : ℕ) (s : List ℕ) where
   values-cut [] o h = refl
   values-cut (w ∷ ws) o h = ap₂ (λ (v : ℕ) (vs : List ℕ). v ∷ vs) (number-cut w o (omega arith)) (values-cut ws (o + bytes w) (omega arith))
 
--- ## The stages of a header, by its numbers, where more bytes are there than the longest image has
+-- ## The stages of a header, by its numbers, if there are more bytes than the longest image has
 
 longStages : List ℕ → ℕ
 longStages vs =
@@ -80,7 +80,7 @@ module _ (s : List ℕ) (long : 3980 ≤ length s) where
   long-book : (held : Book) → readBook held s ≡ held
   long-book held = refused-book held s (λ e. never-passed _ (sym long-code ∙ e))
 
--- ## The answer to a file is the answer to its first bytes, as many as the longest image has and one more
+-- ## The answer to a file is the answer to its first bytes, one more than the longest image has
 
 module _ (m : ℕ) (enough : 3980 ≤ m) (s : List ℕ) where
   pub cut-code : readCode (take m s) ≡ readCode s

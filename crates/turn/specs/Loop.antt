@@ -1,5 +1,5 @@
 -- The loop of the run program: turns over any reads print what the whole input would, and leave its book.
--- A turn stands here for what the contract of `turn` says; that a program makes these turns and writes their text is not stated here.
+-- A turn here is what the contract of `turn` says; that a program makes these turns and writes their text is not stated here.
 use Prim.Native.Nat.{ℕ, _+_, _*_, _-_, _/_, _≤_}
 use mathlib.Core.Path.{_≡_, refl, sym, ap, ap₂, _∙_}
 use mathlib.Core.Bool.{Bool, true, false, cond}
@@ -17,7 +17,7 @@ use Rattle.turn.specs.Kept.{kept-less, length-kept}
 
 -- ## Definitions
 
--- A read: what stands in the input buffer after it, and how many bytes came.
+-- A read: what is in the input buffer after it, and how many bytes came.
 pub record Read : Type 0 where
   pub buffer : List ℕ
   pub got : ℕ
@@ -30,15 +30,15 @@ pub record Between : Type 0 where
   pub out : List ℕ
   pub text : List ℕ
 
--- the bytes that came, behind those that were kept
+-- the bytes that came, after those that were kept
 abbrev pub came : Between → Read → List ℕ
 came l r = take (r .got) (drop (l .kept) (r .buffer))
 
--- what is believed of a read: it leaves the kept bytes as they were and brings no more than the buffer has room for
+-- what is assumed of a read: it leaves the kept bytes as they were and brings no more than the buffer has room for
 abbrev pub Delivered : Between → Read → Type 0
 Delivered l r = (take (l .kept) (r .buffer) ≡ take (l .kept) (l .input)) × (l .kept + r .got ≤ length (r .buffer))
 
--- one turn on what is there after a read, and its text written
+-- one turn on the buffer after a read, with its text written
 unfoldable pub turnOn : Bool → Between → Read → Between
 turnOn ended l r =
     let n : ℕ = l .kept + r .got in
@@ -50,7 +50,7 @@ turnOn ended l r =
       text = l .text ++ take (writtenAfter (l .book) (r .buffer) n ended) (outAfter (l .book) (r .buffer) n ended (l .out));
     }
 
--- a turn for each read, and for the last one, at which the input ends
+-- a turn for each read, and one for the last, at which the input ends
 unfoldable pub turnsOn : Between → List Read → Read → Between
 turnsOn l [] last = turnOn true l last
 turnsOn l (r ∷ rs) last = turnsOn (turnOn false l r) rs last
@@ -98,7 +98,7 @@ module _ (ended : Bool) (l : Between) (r : Read) (h : Delivered l r) where
       length-kept ended (take (l .kept + r .got) (r .buffer)) ∙ ap (keptCount ended) n in
       rw inside-is (take-at _ _ _ k ∙ ap (keptOf ended) there-is)
 
--- ## What is answered now, and then what is kept with what follows
+-- ## What is answered now, and then what is kept together with what follows
 
 module _ (s t : List ℕ) where
   whole : length (answeredOf false s) ≡ 13 * (length s / 13)
@@ -148,7 +148,7 @@ from-text l (r ∷ rs) last (h, hs) =
     ∙ append-assoc (l .text) now _
     ∙ ap (λ (x : List ℕ). l .text ++ x) (sym (split-text s t (l .book)) ∙ ap (runText (l .book)) (append-assoc (held l) (came l r) t))
 
--- However the input comes in pieces, what is written is the text of all of it, and the book is the one after all of it.
+-- However the input is split, what is written is the text of all of it, and the book is the one after all of it.
 module _ (b : Book) (i o : List ℕ) (rs : List Read) (last : Read) (h : AllDelivered (start b i o) rs last) where
   pub reads-text : turnsOn (start b i o) rs last .text ≡ runText b (input (start b i o) rs last)
   reads-text = from-text (start b i o) rs last h

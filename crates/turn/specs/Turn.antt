@@ -1,5 +1,5 @@
 -- A turn of the run program, from one read of its input to the next: what is answered, what is kept, what is left in the buffers.
--- input is the buffer of the input, n how many bytes of it are there, ended whether no more will come.
+-- input is the input buffer, n how many bytes it holds, ended whether no more will come.
 use Prim.Native.Nat.{ℕ, _-_, _%_}
 use mathlib.Core.Bool.{Bool, cond}
 use mathlib.Core.List.{List, _++_}
@@ -8,19 +8,19 @@ use lib.Dec.{leb}
 use Rattle.book.specs.declared.Book.{Book}
 use Rattle.model.specs.Run.{runText, runBook}
 
--- How many of n bytes are kept for the next turn: those of a record that is not whole yet. At the end none: "a last record cut
+-- How many of n bytes are kept for the next turn: those of a record that is not complete yet. At the end none: "a last record cut
 -- short" is answered too.
 unfoldable pub keptCount : Bool → ℕ → ℕ
 keptCount ended n = cond ended 0 (n % 13)
 
--- of the bytes that are there, those that are answered now, and those that are kept
+-- of the bytes in the buffer, those that are answered now, and those that are kept
 unfoldable pub answeredOf : Bool → List ℕ → List ℕ
 answeredOf ended s = take (length s - keptCount ended (length s)) s
 
 unfoldable pub keptOf : Bool → List ℕ → List ℕ
 keptOf ended s = drop (length s - keptCount ended (length s)) s
 
--- more bytes cannot be there than the buffer has
+-- the buffer cannot hold more bytes than its length
 abbrev pub inside : List ℕ → ℕ → Bool
 inside input n = leb n (length input)
 
@@ -33,7 +33,7 @@ textAfter b input n ended = runText b (answeredOf ended (take n input))
 unfoldable pub writtenAfter : Book → List ℕ → ℕ → Bool → ℕ
 writtenAfter b input n ended = cond (inside input n) (length (textAfter b input n ended)) 0
 
--- the text, and behind it what was there
+-- the text, and after it what was there before
 unfoldable pub outAfter : Book → List ℕ → ℕ → Bool → List ℕ → List ℕ
 outAfter b input n ended out =
     cond (inside input n) (textAfter b input n ended ++ drop (length (textAfter b input n ended)) out) out
@@ -41,6 +41,6 @@ outAfter b input n ended out =
 unfoldable pub keptAfter : List ℕ → ℕ → Bool → ℕ
 keptAfter input n ended = cond (inside input n) (keptCount ended n) 0
 
--- the kept bytes, and behind them what was there
+-- the kept bytes, and after them what was there before
 unfoldable pub inputAfter : List ℕ → ℕ → Bool → List ℕ
 inputAfter input n ended = cond (inside input n) (keptOf ended (take n input) ++ drop (keptCount ended n) input) input

@@ -1,5 +1,5 @@
-// What the run program does between its reads and writes: a turn, from one read of the input to the next, and the book out of the
-// bytes of rights.rbk. No byte is read or written here, so contracts can say it all.
+// What the run program does between its reads and writes: a turn, from one read of the input to the next, and loading the book from the
+// bytes of rights.rbk. This crate does no input or output, so the contracts can state everything it does.
 ghost use mathlib.Core.Path.{_≡_};
 ghost use mathlib.Core.Bool.{cond};
 ghost use mathlib.Core.List.{List, _++_};
@@ -13,17 +13,17 @@ use book::Book;
 use image_read::Loaded;
 use runner::Block;
 
-// The input buffer: 5,041 records, and what is kept of one more.
+// The input buffer's size: 5,041 records, and what is kept of one more.
 pub const INPUT: usize = 65545;
 
-// The lines of all records that the input buffer can hold, a last one cut short among them, at most 19 bytes each.
+// Room for the lines of all records that the input buffer can hold, with a last one cut short, at most 19 bytes each.
 pub const OUT: usize = 95798;
 
-// One byte more than the longest image: a longer file is refused by these.
+// One byte more than the longest image: these bytes are enough to refuse a longer file.
 pub const IMAGE: usize = 3980;
 
-// The next book, how many bytes of text stand at the start of the output buffer, and how many of the next record at the start of
-// the input buffer. Not done: more bytes than the input buffer has were said to be there.
+// The next book, how many bytes of text are at the start of the output buffer, and how many of the next record are at the start of
+// the input buffer. Done is false if n was more than the input buffer holds.
 pub struct Turned {
     pub done: bool,
     pub book: Book,
@@ -43,14 +43,14 @@ fn pick(w: bool, a: usize, b: usize) -> usize
     if w { a } else { b }
 }
 
-// Whether n bytes can be there.
+// Whether s can hold n bytes.
 fn within(s: &[u8], n: usize) -> bool
     ensures { λ r. ⌜ r ≡ inside (now (s .entry)) n ⌝ }
 {
     n <= s.len()
 }
 
-// The block of the first n bytes.
+// Answers the block in the first n bytes.
 fn answer_first(b: Book, input: &[u8], n: usize, out: &mut [u8]) -> Block
     requires { ⌜ n ≤ length (now input) ⌝ }
     ensures { λ r. ⌜ r .book ≡ blockBook b (take n (now (input .entry))) (length (now (out .entry))) ⌝ }
@@ -60,7 +60,7 @@ fn answer_first(b: Book, input: &[u8], n: usize, out: &mut [u8]) -> Block
     runner::answer_block(b, &input[..n], out)
 }
 
-// The book in the first n bytes.
+// Reads the book in the first n bytes.
 fn read_first(image: &[u8], n: usize) -> Loaded
     requires { ⌜ n ≤ length (now image) ⌝ }
     ensures { λ r. ⌜ (r .code ≡ readCode (take n (now (image .entry)))) × (r .book ≡ readBook noBook (take n (now (image .entry)))) ⌝ }
@@ -68,7 +68,7 @@ fn read_first(image: &[u8], n: usize) -> Loaded
     image_read::read(book::blank_book(), &image[..n])
 }
 
-// Moves the n bytes from a place on to the start.
+// Moves the n bytes at offset `from` to the start.
 fn move_front(s: &mut [u8], from: usize, n: usize)
     requires { ⌜ from + n ≤ length (now s) ⌝ }
     ensures { λ _. ⌜ now (s .exit) ≡ take n (drop from (now (s .entry))) ++ drop n (now (s .entry)) ⌝ }
@@ -80,9 +80,9 @@ fn move_front(s: &mut [u8], from: usize, n: usize)
     }
 }
 
-// Answers the records that are there, n bytes at the start of input: the whole ones, and at the end of the input one cut short too.
-// Wrong and ruled out: the book before the records for the one after them, kept bytes lost or left where they stood, a record that
-// is answered though bytes of it are still to come, a buffer too small for the text, a byte touched behind text or kept bytes.
+// Answers the records in the first n bytes of input: the whole ones, and at the end of the input one cut short too.
+// Rules out: the book before the records for the one after them, kept bytes lost or left where they were, a record
+// answered before all its bytes have come, a buffer too small for the text, a byte touched after the text or the kept bytes.
 pub fn turn(b: Book, input: &mut [u8; INPUT], n: usize, ended: bool, out: &mut [u8; OUT]) -> Turned
     ensures { λ r. ⌜ r .done ≡ inside (now (input .entry)) n ⌝ }
     ensures { λ r. ⌜ r .book ≡ bookAfter b (now (input .entry)) n ended ⌝ }
@@ -113,9 +113,9 @@ pub fn turn(b: Book, input: &mut [u8; INPUT], n: usize, ended: bool, out: &mut [
     }
 }
 
-// The book in rights.rbk, of which the first bytes, n of them, stand at the start of image: all of the file, or as many as image has.
-// Of every file f that begins so, the answer is that of f.
-// Wrong and ruled out: a file that is longer than an image can be, accepted for its first bytes.
+// The book in rights.rbk, given the first n bytes of the file at the start of image: all of them, or as many as image holds.
+// The answer is the one for every file f that begins with these bytes.
+// Rules out: a file longer than any image, accepted for its first bytes.
 pub fn load(image: &[u8; IMAGE], n: usize) -> Loaded
     ensures { λ r. ⌜ ((f : List ℕ) → take (length (now (image .entry))) f ≡ take n (now (image .entry)) → (r .code ≡ readCode f) × (r .book ≡ readBook noBook f)) ⌝ }
 {

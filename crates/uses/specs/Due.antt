@@ -1,4 +1,4 @@
--- Whether any player's use is due, and that settling changes nothing where none is.
+-- Whether any player's use is due, and that settling changes nothing if none is.
 use Prim.Native.Nat.{ℕ, zero, suc, _+_, _≤_}
 use mathlib.Core.Path.{_≡_, refl, sym, ap₂, ap, _∙_}
 use mathlib.Core.Bool.{Bool, false, _||_, or-false, or-assoc}
@@ -25,7 +25,7 @@ pub any-of-next : (f : ℕ → Bool) (n : ℕ) → anyOf f (n + 1) ≡ (anyOf f 
 unfolding anyOf
 any-of-next f n = rw add-one
 
--- the first apart from the others
+-- the first separated from the others
 any-of-first : (f : ℕ → Bool) (n : ℕ) → anyOf f (suc n) ≡ (f 0 || anyOf (λ i. f (suc i)) n)
 unfolding anyOf
 any-of-first f zero = sym (or-false (f 0))

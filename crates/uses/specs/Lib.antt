@@ -1,4 +1,4 @@
--- A use on its entry, why its sums fit 32 bits, and when none is due.
+-- A use of one entry, why its sums fit 32 bits, and when none is due.
 pub mod Uses
 pub mod Room
 pub mod Due

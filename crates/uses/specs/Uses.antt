@@ -1,4 +1,4 @@
--- Begin, continue and stop on one entry and the asking player's use, and the laws that make a step of the model of them.
+-- Begin, continue and stop on one entry and the asking player's use, and the laws that make them a step of the model.
 -- They are total: what a 32-bit number cannot hold does not arise, since a time that no event has is refused here too.
 use Prim.Native.Nat.{ℕ, _≤_}
 use mathlib.Core.Path.{_≡_, refl, ap}

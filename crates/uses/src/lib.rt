@@ -1,4 +1,4 @@
-// A use on its entry: begin, continue and stop on the limits and meters of one entry and the asking player's open use, and the settling of a use.
+// A use of one entry: begin, continue and stop on the entry's limits and meters and the asking player's open use, and the settling of a use.
 // Every function is total. A time that no event has (above 4000000000) grants nothing, so no sum passes 32 bits.
 ghost use mathlib.Core.Path.{_≡_};
 ghost use mathlib.Core.Bool.{cond};
@@ -30,14 +30,14 @@ pub struct Part {
     pub current: Open,
 }
 
-// Wrong and ruled out: the two exchanged, the first whatever the test.
+// Rules out: the two swapped, the first whatever the test.
 pub fn pick_open(w: bool, a: Open, b: Open) -> Open
     ensures { λ r. ⌜ r ≡ cond w a b ⌝ }
 {
     if w { a } else { b }
 }
 
-// Wrong and ruled out: the two exchanged, the first whatever the test.
+// Rules out: the two swapped, the first whatever the test.
 pub fn pick_meters(w: bool, a: Meters, b: Meters) -> Meters
     ensures { λ r. ⌜ r ≡ cond w a b ⌝ }
 {
@@ -45,7 +45,7 @@ pub fn pick_meters(w: bool, a: Meters, b: Meters) -> Meters
 }
 
 // A refusal that leaves meters and use as they are.
-// Wrong and ruled out: another entry than 255, meters or a use changed.
+// Rules out: an entry other than 255, meters or a use changed.
 pub fn kept(code: u8, m: Meters, o: Open) -> Part
     ensures { λ r. ⌜ r ≡ kept code m o ⌝ }
 {
@@ -75,7 +75,7 @@ fn more_until(l: Limits, m: Meters, old: u32, t: u32) -> u32
     least_until(t, old, l, m) as u32
 }
 
-// Wrong and ruled out: a first that a later begin overwrites, a meter that rises without its flag.
+// Rules out: a first that a later begin overwrites, a meter that rises without its flag.
 fn begun_meters(l: Limits, m: Meters, t: u32, until: u32) -> Meters
     requires { ⌜ Room t until l m ⌝ }
     ensures { λ r. ⌜ r ≡ begun t until l m ⌝ }
@@ -101,7 +101,7 @@ fn continued_meters(l: Limits, m: Meters, old: u32, until: u32) -> Meters
     n
 }
 
-// Wrong and ruled out: a count that goes back, a timed count that stays after a short use, seconds that stay after a stop.
+// Rules out: a count that goes back, a timed count that stays after a short use, seconds that stay after a stop.
 pub fn ended_meters(l: Limits, m: Meters, begin: u32, until: u32, end: u32) -> Meters
     ensures { λ r. ⌜ r ≡ ended begin until end l m ⌝ }
 {
@@ -116,7 +116,7 @@ pub fn ended_meters(l: Limits, m: Meters, begin: u32, until: u32, end: u32) -> M
     }
 }
 
-// Wrong and ruled out: an until past end + 1, a momentary use that opens, a grant that no meter shows.
+// Rules out: an until past end + 1, a momentary use that opens, a grant that is not metered.
 pub fn begin_on(l: Limits, m: Meters, o: Open, i: u8, t: u32) -> Part
     ensures { λ r. ⌜ r ≡ beginOn i t l m o ⌝ }
 {
@@ -145,7 +145,7 @@ pub fn begin_on(l: Limits, m: Meters, o: Open, i: u8, t: u32) -> Part
     }
 }
 
-// Wrong and ruled out: 15 with time unspent, a begin that moves, seconds counted twice.
+// Rules out: 15 with time unspent, a begin time that moves, seconds counted twice.
 pub fn continue_on(l: Limits, m: Meters, o: Open, t: u32) -> Part
     ensures { λ r. ⌜ r ≡ continueOn t l m o ⌝ }
 {
@@ -176,7 +176,7 @@ pub fn continue_on(l: Limits, m: Meters, o: Open, t: u32) -> Part
     }
 }
 
-// Wrong and ruled out: a use that stays open, the old until in the answer.
+// Rules out: a use that stays open, the old until in the answer.
 pub fn stop_on(l: Limits, m: Meters, o: Open, t: u32) -> Part
     ensures { λ r. ⌜ r ≡ stopOn t l m o ⌝ }
 {
@@ -200,14 +200,14 @@ pub fn stop_on(l: Limits, m: Meters, o: Open, t: u32) -> Part
     }
 }
 
-// Wrong and ruled out: until taken as included, a use that is not open.
+// Rules out: until taken as included, a use that is not open.
 pub fn due(o: Open, t: u32) -> bool
     ensures { λ r. ⌜ r ≡ expired t o ⌝ }
 {
     (o.on == 1) & (o.until <= t)
 }
 
-// Wrong and ruled out: a last event that settling changes.
+// Rules out: a last event that settling changes.
 pub fn shut_player(p: Player, t: u32) -> Player
     ensures { λ r. ⌜ r ≡ shut t p ⌝ }
 {
@@ -225,7 +225,7 @@ pub fn shut_player(p: Player, t: u32) -> Player
     }
 }
 
-// Wrong and ruled out: an end at t instead of its until.
+// Rules out: an end at t instead of its until.
 pub fn released_meters(l: Limits, m: Meters, o: Open, t: u32) -> Meters
     ensures { λ r. ⌜ r ≡ releasedOn t l m o ⌝ }
 {
@@ -233,7 +233,7 @@ pub fn released_meters(l: Limits, m: Meters, o: Open, t: u32) -> Meters
     pick_meters(due(o, t), ended, m)
 }
 
-// Wrong and ruled out: only the asking player looked at.
+// Rules out: looking at the asking player only.
 pub fn any_due(ps: [Player; 16], t: u32) -> bool
     ensures { λ r. ⌜ r ≡ anyDue t ps ⌝ }
 {

@@ -1,5 +1,5 @@
--- What a caller without the book's structs gets to see of it, as lists of numbers. The fields of an asset, an entry and a
--- player stand in the image's order (`assetValues`, `entryValues`, `playerValues` of `Image`); here is what stands in no image.
+-- What a caller without the book's structs sees of a book, as lists of numbers. The fields of an asset, an entry and a
+-- player are in image order (`assetValues`, `entryValues`, `playerValues` of `Image`); here is what is in no image.
 use Prim.Native.Nat.{ℕ, _-_}
 use mathlib.Core.Bool.{Bool, cond}
 use mathlib.Core.List.{List, [], _∷_}
@@ -14,18 +14,18 @@ use Rattle.model.specs.Events.{grantable}
 unfoldable pub bookValues : Book → List ℕ
 bookValues b = assetsIn b ∷ entriesIn b ∷ b .time ∷ []
 
--- no event comes before the book's time, so nothing is looked at before it
+-- no event comes before the book's time, so nothing is viewed before it
 abbrev pub viewTime : ℕ → ℕ → ℕ
 viewTime now time = cond (ltb time now) now time
 
--- what stands for "not limited": more than any limit
+-- what means "not limited": a number above any limit
 abbrev pub unlimited : ℕ
 unlimited = 4294967295
 
 abbrev pub left : Bool → ℕ → ℕ → ℕ
 left flag most used = cond flag (most - used) unlimited
 
--- of an entry at t: whether it is "**Grantable** at t" by its own limits (1 or 0), and what is left of its count, its timed
+-- for an entry at t: whether it is "**Grantable** at t" by its own limits (1 or 0), and what is left of its count, its timed
 -- count and its seconds
 unfoldable pub leftValues : ℕ → Entry → List ℕ
 leftValues t e =

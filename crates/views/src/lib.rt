@@ -1,4 +1,4 @@
-// What is in a book as plain numbers, for a caller that has no such structs: the fields in the order of the image, and
+// The contents of a book as plain numbers, for callers that do not have its structs: the fields in image order, and
 // what is left of an entry.
 ghost use mathlib.Core.Path.{_≡_};
 ghost use Rattle.model.specs.Image.{assetValues, entryValues, playerValues};
@@ -15,7 +15,7 @@ use rules::one;
 use rules::pick32;
 
 // How many assets and entries, and the time.
-// Wrong and ruled out: the two counts exchanged.
+// Rules out: the two counts swapped.
 pub fn book_values(b: Book) -> [u32; 3]
     ensures { λ r. ⌜ r ≡ bookValues b ⌝ }
 {
@@ -24,14 +24,14 @@ pub fn book_values(b: Book) -> [u32; 3]
     [assets as u32, entries as u32, b.time]
 }
 
-// Wrong and ruled out: number and inherit exchanged.
+// Rules out: number and inherit swapped.
 pub fn asset_values(a: Asset) -> [u32; 3]
     ensures { λ r. ⌜ r ≡ assetValues a ⌝ }
 {
     [a.number as u32, a.inherit as u32, a.key as u32]
 }
 
-// Wrong and ruled out: a limit and its meter exchanged, a field left out.
+// Rules out: a limit and its meter swapped, a field left out.
 pub fn entry_values(e: Entry) -> [u32; 16]
     ensures { λ r. ⌜ r ≡ entryValues e ⌝ }
 {
@@ -57,7 +57,7 @@ pub fn entry_values(e: Entry) -> [u32; 16]
     ]
 }
 
-// Wrong and ruled out: the answer's until for the open use's.
+// Rules out: the answer's until for the open use's.
 pub fn player_values(p: Player) -> [u32; 11]
     ensures { λ r. ⌜ r ≡ playerValues p ⌝ }
 {
@@ -79,23 +79,23 @@ pub fn player_values(p: Player) -> [u32; 11]
     ]
 }
 
-// The time at which a book is looked at: none before its own.
-// Wrong and ruled out: the earlier of the two.
+// The time at which a book is viewed: never before its own.
+// Rules out: the earlier of the two.
 pub fn view_time(now: u32, time: u32) -> u32
     ensures { λ r. ⌜ r ≡ viewTime now time ⌝ }
 {
     pick32(time < now, now, time)
 }
 
-// Wrong and ruled out: a difference where nothing is limited, one that wraps.
+// Rules out: a difference where there is no limit, one that wraps.
 fn left_of(flag: bool, most: u32, used: u32) -> u32
     ensures { λ r. ⌜ r ≡ left flag most used ⌝ }
 {
     pick32(flag, less(most, used), 4294967295)
 }
 
-// What is left of an entry at a time at which nothing is due any more.
-// Wrong and ruled out: what is used for what is left, an entry out of its dates as grantable.
+// What is left of an entry at a time when no use is due any more.
+// Rules out: what is used for what is left, an entry out of its dates reported as grantable.
 pub fn left_values(e: Entry, time: u32) -> [u32; 4]
     ensures { λ r. ⌜ r ≡ leftValues time e ⌝ }
 {

@@ -1,4 +1,4 @@
--- `assets::reach_of` meets its contract: without an inherit there is no parent, else the second search tells whether it is one.
+-- `assets::reach_of` meets its contract: without an inherit there is no parent; otherwise the second search decides whether the inherit is one.
 use Rattle.assets.specs.Reach.{tableOf, foundIn, reachIn, parent-none}
 use Rattle.assets.specs.declared.Found.{Found}
 use Rattle.model.specs.Book.{isParent}

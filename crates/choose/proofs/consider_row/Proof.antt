@@ -14,7 +14,7 @@ use borrow.Author.Needs.{needs}
 use Rattle.choose.proofs.consider_row.Statement.{statement}
 use Rattle.choose.proofs.consider_row.Tie as tie
 
--- the code's test of the ranks, with what it was told of inherited
+-- the code's test of the ranks, with the value it was passed for inherited
 ranks-so :
     (asset : ℕ) (row : Row) (held : Rank) (inherited : ℕ) (w : Bool) →
     inherited ≡ one (not (eqb (row .asset) asset)) →

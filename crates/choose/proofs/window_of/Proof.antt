@@ -11,7 +11,7 @@ use borrow.Author.Needs.{needs}
 use Rattle.choose.proofs.window_of.Statement.{statement}
 use Rattle.choose.proofs.window_of.Tie as tie
 
--- the code's test, over the flags that it was told
+-- the code's test, on the flags that it was passed
 abbrev test : Flags → Limits → Meters → Bool
 test f l m =
     (f .count && leb (l .count) (m .count))

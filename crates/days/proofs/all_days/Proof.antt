@@ -1,4 +1,4 @@
--- `all_days` ends: the number of the day rises to a bound. Nothing else has to hold from turn to turn.
+-- `all_days` ends: the number of the day rises to a bound. No invariant is needed.
 use Prim.Native.Nat.{_-_}
 use native.Mathlib.Omega.{arith}
 use Rattle.days.proofs.all_days.Statement.{statement}

@@ -1,4 +1,4 @@
--- `answer_singly` takes a record at a time. The measure is what is left of the bytes; a line leaves the length of the buffer.
+-- `answer_singly` takes a record at a time. The measure is the number of bytes left; a line does not change the length of the buffer.
 use Prim.Native.Nat.{_≤_, _-_}
 use mathlib.Core.Path.{_≡_, refl, ap, _∙_}
 use native.Mathlib.Omega.{arith}

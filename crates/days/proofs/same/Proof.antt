@@ -1,4 +1,4 @@
--- `same` reads each byte of both. The measure is what is left of the first.
+-- `same` reads each byte of both. The measure is how much of the first is left.
 use Prim.Native.Nat.{_≤_, _-_}
 use native.Mathlib.Omega.{arith}
 use lib.ListN.{length}

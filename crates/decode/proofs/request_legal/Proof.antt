@@ -1,4 +1,4 @@
--- `decode::request_legal` meets its contract: a begin by its kind, a continue or a stop by two zeros.
+-- `decode::request_legal` meets its contract: a begin is judged by its kind, a continue or a stop by two zeros.
 use mathlib.Core.Path.{refl, sym}
 use mathlib.Core.Bool.{or-false}
 use borrow.Author.Tests.{ne-eqb}

@@ -1,4 +1,4 @@
--- `embed::rights_answer` meets its contract: each of its three ways out leaves what `Left` says.
+-- `embed::rights_answer` meets its contract: each of its three exits leaves what `Left` says.
 use Prim.Native.Nat.{_*_, _≤_, _<_}
 use mathlib.Core.Path.{_≡_, sym, _∙_}
 use native.Mathlib.Omega.{arith}

@@ -1,4 +1,4 @@
--- `embed::rights_answer_one` meets its contract: both ways out leave what `One` says.
+-- `embed::rights_answer_one` meets its contract: both exits leave what `One` says.
 use mathlib.Core.Path.{_≡_, sym, ap₂, _∙_}
 use denote.Ref.{now}
 use Rattle.model.specs.Image.{readCode}

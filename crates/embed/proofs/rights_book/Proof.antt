@@ -1,4 +1,4 @@
--- `embed::rights_book` meets its contract: each of its ways out leaves what `Seen` says.
+-- `embed::rights_book` meets its contract: each of its exits leaves what `Seen` says.
 use mathlib.Core.Path.{refl, sym, ap, _∙_}
 use mathlib.Core.Bool.{true}
 use denote.Ref.{now}

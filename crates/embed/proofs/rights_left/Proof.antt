@@ -1,4 +1,4 @@
--- `embed::rights_left` meets its contract: each of its ways out leaves what `Seen` says.
+-- `embed::rights_left` meets its contract: each of its exits leaves what `Seen` says.
 use Prim.Native.Nat.{ℕ}
 use mathlib.Core.Path.{_≡_, sym, ap, _∙_}
 use mathlib.Core.List.{List}
@@ -17,7 +17,7 @@ use borrow.Author.Needs.{needs}
 use Rattle.embed.proofs.rights_left.Statement.{statement}
 use Rattle.embed.proofs.rights_left.Tie as tie
 
--- the entry of the settled book, at the time that was looked at
+-- the entry of the settled book, at the time of the view
 found :
     (s : List ℕ) (time i : ℕ) {b n : Book} {t : ℕ} {e : Entry} →
     b ≡ heldBook s →

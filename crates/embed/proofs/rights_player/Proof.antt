@@ -1,4 +1,4 @@
--- `embed::rights_player` meets its contract: each of its ways out leaves what `Seen` says.
+-- `embed::rights_player` meets its contract: each of its exits leaves what `Seen` says.
 use mathlib.Core.Path.{sym, ap, _∙_}
 use denote.Ref.{now}
 use borrow.Author.Tests.{lt-ltb, le-ltb}

@@ -27,7 +27,7 @@ count-64 : (b : Book) → catalogOf b .entryCount ≤ 64
 unfolding catalogOf entriesIn
 count-64 b = omega arith
 
--- what the two searches found, in the terms of the book's catalogue
+-- what the two searches found, in terms of the book's catalogue
 usable-is : (b : Book) (asset : ℕ) (r : Reach) → r ≡ reachIn (tableOf (b .assets) (b .assetcount)) asset → r .usable ≡ usable (catalogOf b) asset
 unfolding reachIn
 usable-is b asset r e = ap (λ (x : Reach). x .usable) (e ∙ reach-in-book b asset)

@@ -1,4 +1,4 @@
--- `events::settle` meets its contract: where no use is due, settling leaves the book as it is.
+-- `events::settle` meets its contract: if no use is due, settling leaves the book as it is.
 use mathlib.Core.Path.{_≡_, sym, _∙_}
 use lib.ListN.{length}
 use borrow.Author.Tests.{not-true}

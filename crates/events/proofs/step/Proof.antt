@@ -1,4 +1,4 @@
--- `events::step` meets its contract: a return for each way that the gate tells.
+-- `events::step` meets its contract: a return for each verdict of the gate.
 use mathlib.Core.Path.{sym, ap, _∙_}
 use native.Mathlib.Omega.{arith}
 use borrow.Author.Tests.{lt-ltb}

@@ -1,4 +1,4 @@
--- `events::stop` meets its contract: what `stop_on` leaves of the entry stands where the entry stood.
+-- `events::stop` meets its contract: what `stop_on` leaves of the entry is stored at the entry's position.
 use mathlib.Core.Path.{ap, _∙_}
 use Rattle.book.specs.declared.Entry.{Entry}
 use Rattle.uses.specs.declared.Part.{Part}

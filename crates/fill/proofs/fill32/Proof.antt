@@ -1,4 +1,4 @@
--- `fill::fill32` meets its contract. After i turns the first i values stand at the start.
+-- `fill::fill32` meets its contract. After i turns the first i values are at the start.
 use mathlib.Core.Path.{_≡_, refl, sym}
 use Prim.Native.Nat.{_-_, _<_, _≤_}
 use native.Mathlib.Omega.{arith}

@@ -6,7 +6,7 @@ use borrow.Author.Needs.{needs}
 use Rattle.image_check.proofs.rule_broken.Statement.{statement}
 use Rattle.image_check.proofs.rule_broken.Tie as tie
 
--- a test of an answer, as a test of what the answer says
+-- a test of a result, as a test of what the result means
 told : {r l w : Bool} → r ≡ l → not r ≡ w → not l ≡ w
 told e t = ap not (sym e) ∙ t
 

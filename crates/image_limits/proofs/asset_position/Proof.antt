@@ -13,7 +13,7 @@ use Rattle.model.specs.Book.{assetAt, assetPosition}
 use Rattle.image_limits.proofs.asset_position.Statement.{statement}
 use Rattle.image_limits.proofs.asset_position.Tie as tie
 
--- what the search asks of a position
+-- what the search tests at a position
 abbrev numbered : List Asset → ℕ → ℕ → Bool
 numbered ats number k = eqb (assetAt ats k .number) number
 

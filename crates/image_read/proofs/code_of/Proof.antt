@@ -1,4 +1,4 @@
--- `image_read::code_of` meets its contract: the rules are judged only where the header stands.
+-- `image_read::code_of` meets its contract: the rules are checked only if the header is valid.
 use borrow.Author.Tests.{eq-eqb, ne-eqb}
 use borrow.Author.Needs.{needs}
 use Rattle.image_read.proofs.code_of.Statement.{statement}

@@ -14,7 +14,7 @@ use borrow.Author.Needs.{needs}
 use Rattle.image_read.proofs.read.Statement.{statement}
 use Rattle.image_read.proofs.read.Tie as tie
 
--- the code of what was parsed is the code of the bytes: a header that is refused hides the book behind it
+-- the code of what was parsed is the code of the bytes: if the header is refused, the book is not judged
 once : (w : Bool) (x y : Book) (k : ℕ) → cond w (ruleBroken (cond w x y)) k ≡ cond w (ruleBroken x) k
 once true x y k = refl
 once false x y k = refl

@@ -1,4 +1,4 @@
--- `turns` ends: the count of turns falls. Nothing has to hold from turn to turn.
+-- `turns` ends: the count of turns falls. No invariant is needed.
 use native.Mathlib.Omega.{arith}
 use Rattle.image_speed.proofs.turns.Statement.{statement}
 use Rattle.image_speed.proofs.turns.Tie as tie

@@ -1,4 +1,4 @@
--- `put_entries` lays the records one behind the other. After i turns the first i are laid.
+-- `put_entries` writes the records one after another. After i turns the first i are written.
 use mathlib.Core.Path.{_≡_, refl, sym, ap, _∙_}
 use mathlib.Core.List.{List}
 use Prim.Native.Nat.{ℕ, _+_, _-_, _*_, _≤_}

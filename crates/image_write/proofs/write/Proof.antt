@@ -1,4 +1,4 @@
--- `write` meets its contract: with no room the answer is 30 and nothing is laid; with room the four parts are, each behind the one before.
+-- `write` meets its contract: without room the answer is 30 and nothing is written; with room the four parts are written, one after another.
 use mathlib.Core.Path.{_≡_, refl, sym, ap, _∙_}
 use Prim.Native.Nat.{ℕ, _+_, _<_, _≤_}
 use native.Mathlib.Omega.{arith}

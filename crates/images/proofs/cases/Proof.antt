@@ -1,4 +1,4 @@
--- `cases` ends: the count of turns falls. Nothing has to hold from turn to turn.
+-- `cases` ends: the count of turns falls. No invariant is needed.
 use native.Mathlib.Omega.{arith}
 use Rattle.images.proofs.cases.Statement.{statement}
 use Rattle.images.proofs.cases.Tie as tie

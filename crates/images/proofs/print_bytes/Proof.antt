@@ -1,4 +1,4 @@
--- `print_bytes` ends, and reads within the slice by its test.
+-- `print_bytes` ends, and its test keeps the reads within the slice.
 use native.Mathlib.Omega.{arith}
 use Prim.Native.Nat.{_-_}
 use borrow.Author.Needs.{needs}

@@ -1,5 +1,5 @@
--- `lent::settle_in_place` meets its contract: a walk of its code by hand, since it has a reference to a struct. The player is read out, handed to the settling
--- by value, and what comes back is stored; the walk follows memory and borrow through these three steps and does not look at the rule.
+-- `lent::settle_in_place` meets its contract: a walk through its code by hand, since it has a reference to a struct. The player is read out, handed to the settling
+-- by value, and what comes back is stored; the walk follows memory and borrow through these three steps and is independent of the rule.
 use mathlib.Core.Path.{refl, _≡_}
 use Prim.Native.Nat.{ℕ, _<_, _^_}
 use mathlib.Core.List.{[], _∷_, List}

@@ -1,5 +1,5 @@
--- `lent::shut_player` meets its contract: a walk of its code by hand, since it lends a local that is a struct. The local is lent for a lifetime made for the call, and
--- read once the lifetime has ended; the walk does not look at the rule.
+-- `lent::shut_player` meets its contract: a walk through its code by hand, since it lends a local that is a struct. The local is lent for a lifetime made for the call, and
+-- read once the lifetime has ended; the walk is independent of the rule.
 use mathlib.Core.Path.{refl, _≡_}
 use Prim.Native.Nat.{ℕ, _<_, _^_}
 use mathlib.Core.List.{[], _∷_, List}

@@ -1,5 +1,5 @@
--- Closed runs of the ledger: the uses that the afternoon leaves, its answers by the ledger alone, and single entries judged at
--- a time, just on their bounds and beside them.
+-- Computed examples of the ledger: the uses that the afternoon leaves, its answers from the ledger alone, and single entries judged at
+-- a time, exactly at their bounds and just beside them.
 use mathlib.Core.Path.{_≡_, refl}
 use Prim.Native.Nat.{ℕ}
 use mathlib.Core.Bool.{Bool, true, false}

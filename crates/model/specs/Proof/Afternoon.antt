@@ -1,5 +1,5 @@
--- The afternoon of document 01, lines 1 to 16, as one list run through the definitions and one equality.
--- The book has all its 64 and 64 and 16 places, so this is the run that a server makes.
+-- The afternoon of document 01, lines 1 to 16, as one list run through the definitions, with one equality.
+-- The book has all its 64 asset, 64 entry and 16 player slots, so this is the run that a server makes.
 use mathlib.Core.Path.{_≡_, refl}
 use Prim.Native.Nat.{ℕ}
 use mathlib.Core.List.{List, [], _∷_}
@@ -23,7 +23,7 @@ use Rattle.model.specs.Demand3.{answers}
 abbrev pub asset : ℕ → ℕ → ℕ → Asset
 asset number key inherit = record { number = number; inherit = inherit; key = key }
 
--- limits of rights object 1
+-- limits under rights object 1
 abbrev pub limits : ℕ → ℕ → ℕ → ℕ → ℕ → ℕ → ℕ → ℕ → ℕ → ℕ → Limits
 limits asset kind flags count timed timer start end interval accumulated = record {
   object = 1;
@@ -39,7 +39,7 @@ limits asset kind flags count timed timer start end interval accumulated = recor
   accumulated = accumulated;
 }
 
--- an unused entry with them
+-- an unused entry with these limits
 abbrev pub entry : ℕ → ℕ → ℕ → ℕ → ℕ → ℕ → ℕ → ℕ → ℕ → ℕ → Entry
 entry asset kind flags count timed timer start end interval accumulated = record {
   limits = limits asset kind flags count timed timer start end interval accumulated;

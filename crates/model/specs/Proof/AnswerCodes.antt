@@ -1,4 +1,4 @@
--- What a record is answered and leaves, computed on a book that is not legal: each of 1 to 6 in its order, a resend, and two taken events.
+-- The answer to a record and the book it leaves, computed on an illegal book: each of 1 to 6 in order, a resend, and two taken events.
 use mathlib.Core.Path.{_≡_, refl}
 use Prim.Native.Nat.{ℕ}
 use mathlib.Core.List.{List, [], _∷_}
@@ -16,7 +16,7 @@ use Rattle.model.specs.Events.{kindOf, requestOf, eventIn, decoded, same
 use Rattle.model.specs.Demand1.{refused}
 use Rattle.model.specs.Proof.Afternoon.{asset, limits, granted}
 
--- play of asset 1, timed 3 with timer 100, so many used
+-- play of asset 1, timed 3 with timer 100, `timed` of them used
 abbrev pub used : ℕ → Entry
 used timed = record { limits = limits 1 1 2 0 3 100 0 0 0 0; meters = record { count = 0; timed = timed; first = 0; seconds = 0; started = 0 } }
 
@@ -40,7 +40,7 @@ book time timed zeroth first = record {
   players = zeroth ∷ first ∷ replicate 14 noPlayer;
 }
 
--- no legal book: player 0 has 7 3 9 for its last answer, and a use open that was over 10 seconds ago
+-- an illegal book: player 0 has 7 3 9 as its last answer, and an open use that should have ended 10 seconds ago
 abbrev pub stale : Player
 stale = player 5 1 1 1 (record { code = 7; entry = 3; until = 9 }) (running 40 90)
 
@@ -55,11 +55,11 @@ bytes player number operation asset kind time = player ∷ 0 ∷ 0 ∷ 0 ∷ num
 abbrev too-late : List ℕ
 too-late = 0 ∷ 0 ∷ 0 ∷ 0 ∷ 6 ∷ 3 ∷ 0 ∷ 0 ∷ 0 ∷ 238 ∷ 107 ∷ 40 ∷ 1 ∷ []
 
--- answered so, and nothing changed
+-- this answer, and nothing changed
 abbrev left : Answer → Outcome
 left a = record { answer = a; book = odd }
 
--- 6 before all; 2 before 1; 1 before the number; 4 and a resend, whose time is not read; 3 before 5; 5
+-- 6 before all others; 2 before 1; 1 before the number; 4 and a resend, whose time is not read; 3 before 5; 5
 pub nothing-changed : (
     stepRecord odd []
     ∷ stepRecord odd (0 ∷ bytes 0 5 1 1 1 100)
@@ -102,8 +102,8 @@ pub nothing-changed : (
 unfolding requestLegal kindOf requestOf eventIn decoded sameRequest sameNumber inLine timely gate stepBy step arrive stepRecord
 nothing-changed = refl
 
--- Taken: number, request, answer and time are stored. The stale use ends at its until, and its timed count, below the timer, goes back: in both
--- cases, whoever asks. A stop then finds nothing open; a begin of the other player counts itself.
+-- Taken: number, request, answer and time are stored. The stale use ends at its until and, being shorter than the timer, gives its timed count back: in both
+-- cases, whichever player asks. The stop then finds nothing open; the other player's begin adds its own timed count.
 pub stored : (stepRecord odd (bytes 0 6 3 0 0 100) ∷ stepRecord odd (bytes 1 1 1 1 1 101) ∷ []) ≡ (
     record { answer = refused 14; book = book 100 1 (player 6 3 0 0 (refused 14) closed) noPlayer }
     ∷ record {

@@ -1,4 +1,4 @@
--- "**Begin**, in order: 11, 10, 12, 13.": begins with more than one ground against them, on the afternoon's book, as one computed list.
+-- "**Begin**, in order: 11, 10, 12, 13.": begins with more than one ground for refusal, on the afternoon's book, computed as one list.
 use mathlib.Core.Path.{_≡_, refl}
 use mathlib.Core.List.{[], _∷_}
 use Rattle.laws.specs.Count.{first}
@@ -9,9 +9,9 @@ use Rattle.model.specs.Events.{sameRequest, sameNumber, inLine, timely, 
 use Rattle.model.specs.Demand3.{answers}
 use Rattle.model.specs.Proof.Afternoon.{start, event, granted}
 
--- Player 0 has a use open from 1000 to 1060: 11, whatever it asks for. Asset 5 is not in the book, 7 is illegal, 9 a parent: 10, also
--- where an entry of 9 itself would be suitable (play) and where none would be (print). Of asset 1 nothing is printed or executed: 12. Its one
--- display is in use by player 2: 13. At 1060 player 0's use has ended: 10.
+-- Player 0 has a use open from 1000 to 1060: 11, whatever it asks for. Asset 5 is not in the book, 7 is illegal, 9 is a parent: 10, both
+-- where an entry of 9 itself would be suitable (play) and where none would be (print). Asset 1 has no print or execute entry: 12. Its one
+-- display entry is in use by player 2: 13. At 1060 player 0's use has ended: 10.
 pub in-order :
     answers start
     (event 0 1 (Begin Play 1) 1000

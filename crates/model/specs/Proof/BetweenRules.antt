@@ -1,5 +1,5 @@
--- Closed runs where two rules meet: one order before another, the key of a parent, a use of exactly the timer,
--- a header with two faults. Each comes out otherwise under the neighbouring wrong rule. Quotations are document 01's.
+-- Computed examples where two rules meet: one order before another, the key of a parent, a use exactly as long as the timer,
+-- a header with two faults. Each would come out differently under the neighbouring wrong rule. Quotations are document 01's.
 use mathlib.Core.Path.{_≡_, refl}
 use Prim.Native.Nat.{ℕ}
 use mathlib.Core.List.{List, [], _∷_}
@@ -51,7 +51,7 @@ unfolding first assetsIn entriesIn grantLength isParent assetPosition flagged mo
     doStop done takenStep stepBy step arrive answers
 end-before-interval = refl
 
--- "Key 0 and inherit 0 is a *parent*.": 8, which has a key, is used itself and not inherited from; 9 the other way round
+-- "Key 0 and inherit 0 is a *parent*.": 8, which has a key, can be used but not inherited from; 9 is the other way round
 abbrev kept : List Entry
 kept = entry 8 1 1 9 0 0 0 0 0 0 ∷ entry 9 2 1 9 0 0 0 0 0 0 ∷ []
 
@@ -102,7 +102,7 @@ unfolding first assetsIn entriesIn grantLength isParent assetPosition flagged mo
     doStop done takenStep stepBy step arrive answers
 exactly-the-timer = refl
 
--- "players 0 to 15 in turn": two uses of one entry that end at one event give back two timed counts
+-- "players 0 to 15 in turn": two uses of one entry that end at the same event give back two timed counts
 abbrev pair : List Entry
 pair = timed 8 1 2 100 ∷ []
 
@@ -124,7 +124,7 @@ settled-together = refl
 
 -- ## Numbers as kinds and requests
 
--- what is no kind or no operation has been refused before; it reads as the last one
+-- a number that is no kind or no operation has already been refused; it reads as the last one
 pub kinds-read :
     kindOf 0 ∷ kindOf 1 ∷ kindOf 2 ∷ kindOf 3 ∷ kindOf 4 ∷ kindOf 5 ∷ kindOf 6 ∷ []
     ≡ Export ∷ Play ∷ Display ∷ Execute ∷ Print ∷ Export ∷ Export ∷ []
@@ -139,11 +139,11 @@ requests-read = refl
 
 -- ## Headers with two faults
 
--- a header with that first byte, version, numbers and time; no byte follows it, so that the length is wrong too
+-- a header with that first byte, version, numbers and time; no byte follows it, so the length is wrong too
 abbrev header : ℕ → ℕ → ℕ → ℕ → ℕ → List ℕ
 header mark version assets entries time = mark ∷ 66 ∷ 75 ∷ 0 ∷ version ∷ assets ∷ entries ∷ time ∷ 0 ∷ 0 ∷ 0 ∷ []
 
--- "Order: 20 below 11 bytes, 21 mark, 22 version, 23 a number above 64 or a late time, 20 wrong length": the first fault is told.
+-- "Order: 20 below 11 bytes, 21 mark, 22 version, 23 a number above 64 or a late time, 20 wrong length": the first fault is reported.
 -- `BookExamples.two-faults` goes on with 24 to 27.
 pub first-fault :
     readCode (take 10 (header 83 2 65 65 239))

@@ -1,6 +1,6 @@
--- Books that meet the premises of demand 2, from the empty one to one of the greatest size, and the reader run on images of a
--- small book, right and damaged, one for each of its answers. The bytes of that book are written out: a round trip alone does
--- not tell two fields that stand in each other's place.
+-- Books that meet the premises of demand 2, from the empty one to one of the greatest size; and the reader run on images of a
+-- small book, intact and damaged, one for each of its answers. The bytes of that book are written out: a round trip alone does
+-- not notice two swapped fields.
 use Prim.Native.Nat.{ℕ, _+_, _-_, _%_, _<_}
 use mathlib.Core.Path.{_≡_, refl, sym, ap, subst, _∙_}
 use mathlib.Core.List.{[], _∷_, _++_, append-nil}
@@ -25,7 +25,7 @@ use Rattle.model.specs.Image.{assetIn, entryIn, playerIn, assetTable, en
 use Rattle.model.specs.Image.{headerBroken, readCode, readBook, Typed}
 use Rattle.model.specs.Proof.RoundTrip.{demand2}
 
--- ## The book with nothing in it
+-- ## The empty book
 
 pub noBook-legal : Legal noBook
 unfolding all first sum assetsIn entriesIn assetsLegal entriesLegal playerBlank playerLegal playersLegal metersLegal ruleBroken
@@ -116,7 +116,7 @@ greatest-legal = record {
   rules = refl;
 }
 
--- what a list of n holds, at every position, if it holds of each that is listed and of the blank one
+-- what holds at every position of a list of n, if it holds of each element listed and of the blank one
 at-each : {A : Type 0} (P : A → Type 0) (f : ℕ → A) (n : ℕ) (d : A) → ((i : ℕ) → i < n → P (f i)) → P d → (i : ℕ) → P (getD (listed f n) i d)
 at-each P f n d each blank i =
     below-or-not i n
@@ -140,7 +140,7 @@ unfolding greatest all first sum listed assetsIn entriesIn grantLength assetPosi
     assetIn entryIn playerIn assetTable entryTable playerTable entriesFrom playersFrom bookIn headerBroken readCode
 greatest-read = refl
 
--- and demand 2 of it
+-- and demand 2 holds of it
 pub greatest-back : readBook noBook (image greatest) ≡ greatest
 greatest-back = demand2 .readsBack noBook greatest greatest-legal greatest-typed .1
 
@@ -217,11 +217,11 @@ pub small-bytes : image small
 unfolding small joined headerBytes assetBytes entryBytes playerBytes assetsIn entriesIn image
 small-bytes = refl
 
--- the reader's answer where one byte of the image is another
+-- the reader's answer with one byte of the image changed
 abbrev pub with : ℕ → ℕ → ℕ
 with k v = readCode (set (image small) k v)
 
--- one line for each of 20 to 25, two for 26, one for 27; the last are accepted, most of them just on a bound
+-- one line for each of 20 to 25, two for 26, one for 27; the last are accepted, most of them exactly at a bound
 pub damaged : (readCode (take 10 (image small)) ∷ readCode (take 506 (image small)) ∷ readCode (image small ++ (0 ∷ [])) ∷ with 6 1 ∷ [])
     ∷ (with 0 83 ∷ with 1 75 ∷ with 2 66 ∷ readCode (replicate 11 0) ∷ [])
     ∷ (with 3 1 ∷ with 4 0 ∷ with 4 2 ∷ [])
@@ -251,11 +251,11 @@ unfolding small all first sum listed assetsIn entriesIn grantLength assetPositio
     assetIn entryIn playerIn assetTable entryTable playerTable entriesFrom playersFrom bookIn headerBroken readCode
 damaged = refl
 
--- the reader's answer where two bytes of the image are others
+-- the reader's answer with two bytes of the image changed
 abbrev both : ℕ → ℕ → ℕ → ℕ → ℕ
 both i v j w = readCode (set (set (image small) i v) j w)
 
--- of two neighbouring stages that are broken the first is told, from "20 wrong length, 24 asset rules" on; the header's are in `BetweenRules`
+-- if two neighbouring stages fail, the first is reported, from "20 wrong length, 24 asset rules" on; the header's are in `BetweenRules`
 pub two-faults : readCode (take 506 (set (image small) 15 2)) ∷ both 15 2 25 0 ∷ both 25 0 127 4 ∷ both 127 4 58 11 ∷ [] ≡ 20 ∷ 24 ∷ 25 ∷ 26 ∷ []
 unfolding small all first sum listed assetsIn entriesIn grantLength assetPosition inBook flagged momentary limit assetLegal assetsLegal
     rangesLegal limitsLegal entriesLegal playerBlank requestLegal takenCode answerLegal insideDates insideInterval useLegal openLegal

@@ -1,5 +1,5 @@
--- The image's rules on single records, just on each bound of document 01 and just beside it: closed runs.
--- A theorem holds of a rule with a wrong bound too, since it speaks of every legal book; these do not.
+-- The image's rules on single records, exactly at each bound of document 01 and just beside it: computed examples.
+-- The theorems would hold with a wrong bound too, since they speak of every legal book; these examples would not.
 use mathlib.Core.Path.{_≡_, refl}
 use Prim.Native.Nat.{ℕ}
 use mathlib.Core.Bool.{Bool, true, false}
@@ -32,7 +32,7 @@ pub on-bounds : ranges 63 1 1 0 0 0 1 1 ∷ ranges 63 1000000 1000000 1000000 40
 unfolding flagged limit rangesLegal
 on-bounds = refl
 
--- one number too little or too much at a time, and one that is not flagged
+-- one number too small or too large at a time, and one that is not flagged
 pub beside-bounds :
     ranges 63 0 1 0 0 0 1 1
     ∷ ranges 63 1 0 0 0 0 1 1

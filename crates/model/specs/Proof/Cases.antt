@@ -1,4 +1,4 @@
--- Small closed runs through the definitions, each for a rule of document 01 in which a fault would be easy to make.
+-- Small computed examples, each for a rule of document 01 that is easy to get wrong.
 -- They also guard what the rules and the statement of demand 3 share. Quotations are that document's.
 use mathlib.Core.Path.{_≡_, refl}
 use Prim.Native.Nat.{ℕ}
@@ -44,7 +44,7 @@ abbrev lasting : ℕ → ℕ → ℕ → Entry
 lasting asset kind accumulated = entry asset kind 32 0 0 0 0 0 0 accumulated
 
 -- assets 1 and 2 inherit from the parent 9; 3 from 7, which is illegal; 4 from 8, which has a key; 5 from 6, which is not in the book;
--- behind 7 and 8 stands 9
+-- 7 and 8 themselves inherit from 9
 abbrev book : List Entry → ℕ → Book
 book entries count = record {
   time = 0;
@@ -55,7 +55,7 @@ book entries count = record {
   players = replicate 16 noPlayer;
 }
 
--- "One level only; an inherit not in the book gives nothing.": each begin but the last finds no suitable entry
+-- "One level only; an inherit not in the book gives nothing.": every begin but the last finds no suitable entry
 abbrev shelf : List Entry
 shelf = counted 7 1 9 ∷ counted 8 2 9 ∷ counted 9 3 9 ∷ counted 6 4 9 ∷ counted 0 5 9 ∷ []
 
@@ -133,7 +133,7 @@ pub momentary-begins :
 unfolding first assetsIn entriesIn grantLength isParent assetPosition flagged momentary sameRequest sameNumber inLine timely gate amend begun continued ended expired shut released settled catalogOf holds assetNamed usable parentOf own suitable countLeft timedLeft inDates intervalLeft secondsLeft grantable rankOf ranksBefore chooseOf anyOf choose leastUntil grantUntil moreUntil doBegin doContinue doStop done takenStep stepBy step arrive answers
 momentary-begins = refl
 
--- "start ≤ t ≤ end": both included, so that until is end + 1. "t < first + interval": excluded.
+-- "start ≤ t ≤ end": both included, so until is end + 1. "t < first + interval": excluded.
 abbrev windows : List Entry
 windows = dated 1 1 100 200 ∷ spanned 1 2 100 ∷ []
 

@@ -1,4 +1,4 @@
--- What becomes of an event before it is taken, by the ledger: the gate in words.
+-- The checks before an event is taken, by the ledger: the gate in the statement's words.
 use Prim.Native.Nat.{ℕ, _+_, _≤_, _<_}
 use mathlib.Core.Path.{_≡_, refl, sym, ap, _∙_}
 use mathlib.Core.Bool.{true, false}

@@ -1,5 +1,5 @@
 -- The order of the choice: the entry chosen goes before every other that is allowed, by the statement's words.
--- Ranks are compared as one number each, of which the choice takes the least; the words are read off two such numbers.
+-- Each rank becomes one number, and the choice takes the least; the statement's words are read off two such numbers.
 use mathlib.Core.Path.{_≡_, refl, sym, _∙_}
 use mathlib.Core.Logic.{_↔_, _⊎_, inl, inr}
 use Prim.Native.Nat.{ℕ, zero, suc, _+_, _*_, _≤_, _<_}
@@ -89,7 +89,7 @@ ranks-weight a b x y =
     (sym (le-ltb (weight a) (weight b) (omega (arith, eqb-true (a .flags) (b .flags) r, ltb-false (a .end) (b .end) s, eqb-false (a .end) (b .end) t, y .fresh, y .inherited)))))))
     (λ r. rw (q, r) (sym (le-ltb (weight a) (weight b) (omega (arith, ltb-false (a .flags) (b .flags) q, eqb-false (a .flags) (b .flags) r, y .end, y .fresh, y .inherited))))))
 
--- the first difference between two ranks, a's weight not being the greater
+-- the first difference between two ranks, where a's weight is not the larger
 by-rank : {P : Type 0} (a b : Rank) → Bounded a → Bounded b → weight a ≤ weight b → (a .flags < b .flags → P)
     → (a .flags ≡ b .flags → a .end < b .end → P) → (a .flags ≡ b .flags → a .end ≡ b .end → a .fresh < b .fresh → P)
     → (a .flags ≡ b .flags → a .end ≡ b .end → a .fresh ≡ b .fresh → a .inherited < b .inherited → P)
@@ -113,7 +113,7 @@ by-rank a b x y h f g k m n =
 
 -- ## From ranks to words
 
--- an entry's rank, with r telling whether its interval has started
+-- an entry's rank, where r says whether its interval has started
 abbrev rank : ℕ → Limits → Bool → Rank
 rank asset l r = record {
   flags = one (not (eqb (l .flags) 0));

@@ -1,5 +1,5 @@
 -- From lists of entries and players to functions of a position, and back: amending, settling, choosing.
--- Settling goes player by player, and at each the meters are the ledger's with those before judged at the new time.
+-- Settling goes player by player, and at each the meters are the ledger's, with earlier players judged at the new time.
 use mathlib.Core.Path.{_≡_, refl, sym, ap, _∙_, fun-ext}
 use Prim.Native.Nat.{ℕ, zero, suc, _+_, _≤_, _<_, zero-le}
 use mathlib.Core.Bool.{Bool, true, false}

@@ -1,4 +1,4 @@
--- A taken event by the ledger: whether its player has a use open, and hence what a continue and a stop are answered.
+-- A taken event, by the ledger: whether its player has a use open, and hence the answer to a continue and to a stop.
 -- The rules look at the player's latest use; all earlier ones have ended.
 use mathlib.Core.Path.{_≡_, refl, ap, _∙_}
 use Prim.Native.Nat.{ℕ, _≤_}
@@ -32,7 +32,7 @@ use Rattle.model.specs.Proof.Steps.{Inv, gate-refuse, gate-take, gate-re
 use Rattle.model.specs.Proof.Until.{until-least}
 use Rattle.model.specs.Proof.Run.{settled-filled, filled-limits, filled-meters, judged}
 
--- nothing is open or some use is, and not both
+-- either nothing is open or some use is, and not both
 none-or-some : (T p : ℕ) (us : List Use) → NothingOpen T p us ⊎ SomeOpen T p us
 none-or-some T p [] = inl tt
 none-or-some T p (u ∷ us) = behind (none-or-some T p us)
@@ -49,7 +49,7 @@ none-not-some T p [] n x = x
 none-not-some T p (u ∷ us) n (inl x) = clash (x .1) (n .0 (x .0))
 none-not-some T p (u ∷ us) n (inr x) = none-not-some T p us (n .1) x
 
--- what is no resend and is answered as taken has passed the gate
+-- an event that is no resend and is answered as taken has passed the gate
 takes-gate : (b : Book) (a : Account) (e : Event) → Inv b a → resent a e ≡ false → calledTaken (step b e .answer .code) ≡ true
     → gate (b .time) (lastAt (b .players) (e .player)) e ≡ Take
 unfolding step stepBy
@@ -92,7 +92,7 @@ module _ (s : State) (e : Event) (h : Inv (s .book) (s .account)) (t : Takes s e
       rw (settled-filled (B .time) (e .time) (B .entries) (B .players) (s .account .uses) later (h .held)) at
       (settled-held (B .time) (e .time) (B .entries) (B .players) (s .account .uses) later (h .held))
 
-  -- nothing open, by the latest use and by all
+  -- nothing open, by the latest use and by all uses
   pub idle-on : isOn O ≡ false → Idle
   idle-on q =
       all-shut (e .time) (e .player) (s .account .uses) (now .tidy) (λ u l.
@@ -106,7 +106,7 @@ module _ (s : State) (e : Event) (h : Inv (s .book) (s .account)) (t : Takes s e
       (λ c g. ap (λ (o : Open). isOn o) c)
       (λ u l o c. clash o (all-latest (ShutFor (e .time) (e .player)) (e .player) (s .account .uses) u l n (latest-player (e .player) (s .account .uses) u l)))
 
-  -- the same of a use that is open
+  -- the same for an open use
   pub some-on : isOn O ≡ true → SomeOpen (e .time) (e .player) (s .account .uses)
   some-on q = go (none-or-some (e .time) (e .player) (s .account .uses))
     where
@@ -117,7 +117,7 @@ module _ (s : State) (e : Event) (h : Inv (s .book) (s .account)) (t : Takes s e
   pub on-some : SomeOpen (e .time) (e .player) (s .account .uses) → isOn O ≡ true
   on-some x = on-test (isOn O) (λ q. q) (λ q. absurd (none-not-some (e .time) (e .player) (s .account .uses) (idle-on q) x))
 
-  -- where a use is open there is not nothing open
+  -- if a use is open, it is not the case that nothing is open
   busy : (u : Use) → O ≡ heldAs u → Idle → ⊥
   busy u c n = clash (ap (λ (o : Open). isOn o) c) (on-idle n)
 

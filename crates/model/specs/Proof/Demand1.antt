@@ -1,4 +1,4 @@
--- Demand 1 holds: of every book and every record.
+-- Demand 1 holds, for every book and every record.
 use mathlib.Core.Path.{_≡_, refl, sym, ap, _∙_, subst}
 use mathlib.Core.Logic.{_↔_, _⊎_, inl, inr}
 use Prim.Native.Nat.{ℕ, _+_, _≤_, _<_}
@@ -82,7 +82,7 @@ numbers operation asset kind (begin o l h) = rw o (record { same-operation = ref
 numbers operation asset kind (continue o a k) = rw o (record { same-operation = refl; same-asset = sym a; same-kind = sym k })
 numbers operation asset kind (stop o a k) = rw o (record { same-operation = refl; same-asset = sym a; same-kind = sym k })
 
--- ## What a taken event does, once all is settled
+-- ## What a taken event does, once all players are settled
 
 -- a code of 10 to 15 and nothing changed, or a grant that changes no entry but its own
 data Did (es : List Entry) (o : Open) (d : Done) : Type 0 where
@@ -220,7 +220,7 @@ module _ (b : Book) (s : List ℕ) where
   abbrev l : Last
   l = asker b s .last
 
-  -- what a list that is no event is answered
+  -- the answer to a list that is no event
   cut-away : (length s ≡ 13 → ⊥) → stepRecord b s ≡ record { answer = refused 6; book = b }
   unfolding stepRecord arrive decoded
   cut-away n = rw (ne-eqb (length s) 13 n)
@@ -237,7 +237,7 @@ module _ (b : Book) (s : List ℕ) where
       on-test (requestLegal (askedOperation s) (askedAsset s) (askedKind s)) (λ r. absurd (n (test-legal (askedOperation s) (askedAsset s) (askedKind s) r))) (λ r. r) in
       rw (eq-eqb (length s) 13 w, le-ltb 15 (askedPlayer s) p, q)
 
-  -- an event is stepped
+  -- a list that is an event takes the step
   event-is : IsEvent s → stepRecord b s ≡ step b e
   unfolding stepRecord arrive decoded
   event-is v = rw (eq-eqb (length s) 13 (v .whole), le-ltb 15 (askedPlayer s) (v .player), legal-test (askedOperation s) (askedAsset s) (askedKind s) (v .request))

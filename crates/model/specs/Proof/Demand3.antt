@@ -1,5 +1,5 @@
 -- Demand 3 holds of every legal fresh book.
--- What is left for this file are the begins: which of 10 to 13 each is answered, and else which entry and until.
+-- What is left for this file is begins: which of 10 to 13 each is answered, or else which entry and until.
 use mathlib.Core.Path.{_≡_, refl, sym, ap, _∙_, subst, fun-ext}
 use Prim.Native.Nat.{ℕ, _+_}
 use mathlib.Core.Bool.{Bool, true, false, not, _&&_, _||_, and-false, and-comm}
@@ -80,13 +80,13 @@ grantable-by-ledger T us i l =
     (none-of (flagged 1 l && leb (l .count) (spentCount us i)) (flagged 2 l && leb (l .timed) (spentTimed T us i l)) (flagged 4 l && ltb T (l .start)) (flagged 8 l && ltb (l .end) T)
     (flagged 16 l && over T (l .interval) (earliest i us)) (flagged 32 l && leb (l .accumulated) (spentSeconds us i)))
 
--- ## A begin, once all is settled
+-- ## A begin, once all players are settled
 
 granted-answer : (t : ℕ) (es : List Entry) (o : Open) (c : Choice) → granted t es o c .answer ≡ chosenAnswer t es c
 granted-answer t es o nobody = refl
 granted-answer t es o (chosen i) = refl
 
--- the four ways of a begin, each with what it is answered
+-- the four outcomes of a begin, each with its answer
 data Way (c : Catalog) (es : List Entry) (o : Open) (t asset kind : ℕ) : Type 0 where
   is-busy : isOn o ≡ true → doBegin c es o t asset kind .answer ≡ refusal 11 → Way c es o t asset kind
   is-unknown : isOn o ≡ false → usable c asset ≡ false → doBegin c es o t asset kind .answer ≡ refusal 10 → Way c es o t asset kind
@@ -214,7 +214,7 @@ module _ (s : State) (e : Event) (h : Inv (s .book) (s .account)) (kind : Kind) 
     choice : Chosen s e kind asset
     choice = record { none = (none-left, left-none); granted = granted-is; answer = choice-is }
 
-  -- ## The four ways, in words
+  -- ## The four outcomes, in words
 
   pub begins : Begins s e kind asset
   unfolding catalogOf

@@ -1,4 +1,4 @@
--- Flags, caps and updates by position: the small facts that the other files cite. The laws of tests are passed on from crate `laws`.
+-- Flags, caps and updates by position: small facts that the other files cite. The laws of tests are re-exported from crate `laws`.
 use mathlib.Core.Path.{_≡_, refl}
 use Prim.Native.Nat.{ℕ, _+_, _≤_}
 use mathlib.Core.Bool.{Bool, true, false, cond, false≢true}

@@ -1,5 +1,5 @@
--- What the ledger's figures become when a use is added, continued, stopped or comes to its end.
--- Each is what the rules do to an entry's meters.
+-- How the ledger's figures change when a use is added, continued, stopped or comes to its end.
+-- Each change is what the rules do to an entry's meters.
 use mathlib.Core.Path.{_≡_, refl, sym, ap, _∙_}
 use Prim.Native.Nat.{ℕ, suc, _+_, _-_, _≤_, _<_, min}
 use mathlib.Core.Bool.{Bool, true, false, not, _&&_, cond}
@@ -46,7 +46,7 @@ counts-own u = rw (eqb-self (u .entry))
 pub seconds-own : (u : Use) → countsSeconds (u .entry) u ≡ ran u
 seconds-own u = rw (eqb-self (u .entry))
 
--- a timed count goes back where the use ran for less than the timer
+-- a timed count goes back if the use ran for less than the timer
 pub timed-back : (f : Bool) (a b r x : ℕ) → b + 1 ≡ a + one (leb r x) → where-flagged f b ≡ where-flagged f a - where-flagged (f && ltb x r) 1
 timed-back false a b r x e = omega arith
 timed-back true a b r x e =
@@ -142,7 +142,7 @@ module _ (at : ℕ → ℕ) (us : List Use) (l : Limits) where
       (rw (ne-eqb (u .entry) j h))
       (ap (where-flagged (flagged 32 l)) (omega (arith, seconds-other j u h)))
 
-  -- a begin at a time that no begin is later than
+  -- a begin no earlier than any other
   pub figures-begun : (u : Use) → Every (λ v. v .begin ≤ u .begin) us → countsTimed at (l .timer) (u .entry) u ≡ 1 →
       figures at (u ∷ us) (u .entry) l ≡ begun (u .begin) (u .until) l (figures at us (u .entry) l)
   unfolding figures begun sumOf earliest

@@ -1,4 +1,4 @@
--- What the first stages of the reader tell of an image that they let pass: its counts, its time and its length.
+-- What is known of an image that passes the reader's first stages: its counts, its time and its length.
 use Prim.Native.Nat.{ℕ, _≤_}
 use mathlib.Core.Path.{_≡_, ap}
 use mathlib.Core.Bool.{Bool, cond, _||_, not}

@@ -1,5 +1,5 @@
--- The invariant over positions: meters and open uses are those that the ledger gives, and its uses keep to their limits.
--- A grant, a continue, a stop and the settling of one player each keep it.
+-- The invariant over positions: meters and open uses are those given by the ledger, and its uses keep within their limits.
+-- A grant, a continue, a stop and the settling of one player each preserve it.
 use mathlib.Core.Path.{_≡_, refl, sym, ap, _∙_}
 use Prim.Native.Nat.{ℕ, suc, _+_, _-_, _≤_, _<_}
 use mathlib.Core.Bool.{Bool, true, false, not, _||_, cond, and-false, or-true}
@@ -34,7 +34,7 @@ pub record Spanned (s : Option ℕ) (l : Limits) (u : Use) : Type 0 where
   pub from : flagged 16 l ≡ true → u .begin < startOr 0 s + l .interval
   pub last : flagged 16 l ≡ true → u .until ≤ startOr 0 s + l .interval
 
--- what holds of each use at time T, of k players and n entries
+-- what holds of each use at time T, with k players and n entries
 pub record Sound (T k n : ℕ) (lim : ℕ → Limits) (u : Use) : Type 0 where
   pub entry : u .entry < n
   pub player : u .player < k
@@ -49,7 +49,7 @@ pub record Within (l : Limits) (m : Meters) : Type 0 where
   pub timed : flagged 2 l ≡ true → m .timed ≤ l .timed
   pub seconds : flagged 32 l ≡ true → m .seconds ≤ l .accumulated
 
--- what is needed of an entry's limits: a momentary entry has timer 0, an interval is not 0, an end is a time
+-- what is needed about an entry's limits: a momentary entry has timer 0, an interval is not 0, an end is a time
 pub record Lawful (l : Limits) : Type 0 where
   pub timer : momentary (l .kind) ≡ true → l .timer ≡ 0
   pub interval : flagged 16 l ≡ true → 0 < l .interval
@@ -82,7 +82,7 @@ within-ended b u e l m w = record {
 abbrev pub heldAs : Use → Open
 heldAs u = record { on = 1; entry = u .entry; begin = u .begin; until = u .until }
 
--- what stands open, by the player's latest use
+-- what is open, by the player's latest use
 pub held-cases : {P : Type 0} (T p : ℕ) (us : List Use) (o : Open) → o ≡ heldIn T p us →
     (o ≡ closed → ((u : Use) → latest p us ≡ some u → isOpen T u ≡ false) → P) →
     ((u : Use) → latest p us ≡ some u → isOpen T u ≡ true → o ≡ heldAs u → P) → P
@@ -166,12 +166,12 @@ earliest-new j v us h e =
     go none z y = clash y refl
     go (some c) z y = omega (arith, earliest-le (v .begin) j us c h z)
 
--- the book's first use is the ledger's, where an interval is flagged and started
+-- the book's first-use time is the ledger's, if an interval is flagged and started
 pub from-started : (T : ℕ) (at : ℕ → ℕ) (us : List Use) (i : ℕ) (l : Limits) → flagged 16 l ≡ true → isSome (earliest i us) ≡ true → intervalFrom T (figures at us i l) ≡ startOr 0 (earliest i us)
 unfolding figures
 from-started T at us i l f e = rw (f, e) refl
 
--- and where it begins now
+-- and if it begins now
 pub from-new : (T : ℕ) (at : ℕ → ℕ) (us : List Use) (i : ℕ) (l : Limits) → Every (λ u. u .begin ≤ T) us → flagged 16 l ≡ true → intervalFrom T (figures at us i l) ≡ sooner T (earliest i us)
 unfolding figures
 from-new T at us i l h f = rw (f, one-is (isSome (earliest i us))) (go (earliest i us) refl)
@@ -261,7 +261,7 @@ module _ {T k n : ℕ} {lim : ℕ → Limits} {met : ℕ → Meters} {opn : ℕ 
       (within-ended (u .begin) (u .until) T (lim (u .entry)) (met (u .entry)) (h .within (u .entry)))
 
   module _ (v : ℕ) (ev : v ≡ moreUntil T (u .until) (lim (u .entry)) (met (u .entry))) where
-    -- the first use of the interval, as the book has it
+    -- the interval's first-use time, as the book has it
     own-from : flagged 16 (lim (u .entry)) ≡ true → intervalFrom T (met (u .entry)) ≡ startOr 0 (earliest (u .entry) us)
     own-from f = rw (h .meters (u .entry)) (from-started T (λ _. T) us (u .entry) (lim (u .entry)) f own-started)
 

@@ -47,7 +47,7 @@ use Rattle.model.specs.Proof.KeptEvents.{Part, stage, turn-part, settled
 
 -- ## An event that is taken
 
--- the checks that it has passed
+-- the checks it has passed
 pub record Passed (b : Book) (e : Event) : Type 0 where
   pub player : e .player < 16
   pub number : e .number ≡ lastAt (b .players) (e .player) .number + 1
@@ -94,7 +94,7 @@ request-legal Stop = refl
 counted-fits : {f : Bool} {z v k : ℕ} → Counted f z v k → z < 4294967296 → v < 4294967296
 counted-fits {f} c h = on-test f (λ q. omega (arith, c .within q)) (λ q. omega (arith, c .unused q))
 
--- meters that keep to the rules fit where the limits do
+-- meters that obey the rules fit if the limits do
 meters-fit : (T : ℕ) (l : Limits) (m m′ : Meters) {k s : ℕ} → T ≤ latestTime → MeterOk T l m′ k s → Fit entryWidths (entryValues (record { limits = l; meters = m })) →
     Fit entryWidths (entryValues (record { limits = l; meters = m′ }))
 meters-fit T l m m′ h w fits =
@@ -363,7 +363,7 @@ module _ (b : Book) (e : Event) (h : Legal b) (t : Passed b e) where
 
 -- ## The claims
 
--- a book after an event is the book before it, or the one that a taken event leaves
+-- the book after an event is the book before it, or the one that a taken event leaves
 on-step : (P : Book → Type 0) (b : Book) (e : Event) → P b → (Passed b e → P (takenStep b e .book)) → P (step b e .book)
 unfolding step stepBy
 on-step P b e same taken = go (gate (b .time) (lastAt (b .players) (e .player)) e) refl

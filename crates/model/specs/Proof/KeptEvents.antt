@@ -1,4 +1,4 @@
--- From lists of entries and players to functions of a position: settling all players, and then the event itself, keep the rules.
+-- From lists of entries and players to functions of a position: settling all players, and then the event itself, preserve the rules.
 use mathlib.Core.Path.{_≡_, refl, sym, ap, _∙_, subst, fun-ext}
 use Prim.Native.Nat.{ℕ, zero, suc, _+_, _≤_, _<_, zero-le}
 use mathlib.Core.Bool.{true, false, not, _&&_, _||_, cond}
@@ -123,7 +123,7 @@ module _ (T n : ℕ) (room : n ≤ 64) (lim : ℕ → Limits) where
       entry : expired T o ≡ true → o .entry < n
       entry x = subst (λ (y : Open). y .entry < n) e (h .sound .opens q .runs (ap isOn e ∙ on x) .entry)
 
-  -- the first p of the players ps, who stand from position q on, are settled
+  -- the first p of the players ps, who start at position q, are settled
   pub settle-part : (opn : ℕ → Open) (p : ℕ) (ps : List Player) (q : ℕ) (es : List Entry) → p ≤ length ps → q + length ps ≡ 16 → ((j : ℕ) → openAt ps j ≡ opn (q + j)) → Part T n lim es (stage T opn q) →
       Part T n lim (settled T (take p ps) es) (stage T opn (q + p))
   unfolding settled
@@ -174,7 +174,7 @@ settled-live T ps p = subst (λ (o : Open). isOn o ≡ true → T < o .until) (s
 
 -- ## What a taken event does
 
--- a kind that is asked for and is not momentary
+-- a kind that is requested and not momentary
 kind-runs : (k : Kind) (n : ℕ) → eqb n (kindNumber k) ≡ true → momentary n ≡ false → between 1 3 n ≡ true
 unfolding momentary
 kind-runs k n e f = rw (eqb-true n (kindNumber k) e) (go k (rw (eqb-true n (kindNumber k) e) at f))
@@ -186,7 +186,7 @@ kind-runs k n e f = rw (eqb-true n (kindNumber k) e) (go k (rw (eqb-true n (kind
     go Print q = clash refl q
     go Export q = clash refl q
 
--- what rule 26 asks of an answer
+-- what rule 26 requires of an answer
 pub record AnswerOk (T n : ℕ) (a : Answer) : Type 0 where
   pub code : takenCode (a .code) ≡ true
   pub grants : eqb (a .code) 0 ≡ true → a .entry < n

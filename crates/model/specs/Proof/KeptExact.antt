@@ -46,7 +46,7 @@ unfolding settled
 settled-both T [] qs es = refl
 settled-both T (x ∷ ps) qs es = settled-both T ps qs (released T (x .current) es)
 
--- an open use of a book that meets the rules of players runs beyond the book's time
+-- in a book that meets the player rules, an open use runs beyond the book's time
 ran-on : (b : Book) (p : ℕ) → playerPasses b (playerAt (b .players) p) ≡ true → isOn (openAt (b .players) p) ≡ true →
     openAt (b .players) p .begin ≤ openAt (b .players) p .until
 ran-on b p e on = omega (arith, player-live b (playerAt (b .players) p) e on, player-open b (playerAt (b .players) p) e .runs on .begun)

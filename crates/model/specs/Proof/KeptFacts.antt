@@ -1,4 +1,4 @@
--- More on updates by position and counting: what the proofs use that an event leaves a legal book.
+-- More on updates by position and on counting, for the proofs that an event leaves a legal book.
 use mathlib.Core.Path.{_≡_, refl, ap, fun-ext}
 use Prim.Native.Nat.{ℕ, zero, suc, _+_, _<_}
 use mathlib.Core.Bool.{Bool, true}
@@ -8,7 +8,7 @@ use Rattle.model.specs.Proof.Facts.{on-same, and-both, upd, upd-same, up
 
 -- ## Positions
 
--- a position that gets what it has
+-- storing what a position already holds
 pub upd-own : {A : Type 0} (i : ℕ) (f : ℕ → A) → upd i (f i) f ≡ f
 upd-own i f = fun-ext (λ j. on-same j i (λ x. rw x (upd-same i (f i) f)) (λ x. upd-other i (f i) f j x))
 
@@ -24,7 +24,7 @@ unfolding sum
 sum-same f g zero h = refl
 sum-same f g (suc n) h = omega (arith, sum-same f g n (λ i j. h i (omega arith)), h n (omega arith))
 
--- a sum of which one term changes
+-- a sum with one term changed
 pub sum-upd : {A : Type 0} (w : A → ℕ) (p : ℕ) (x : A) (f : ℕ → A) (n : ℕ) → p < n → sum (λ q. w (upd p x f q)) n + w (f p) ≡ sum (λ q. w (f q)) n + w x
 unfolding sum
 sum-upd w p x f zero h = absurd (omega arith)

@@ -42,7 +42,7 @@ module _ (i : ℕ) (o : Open) (own : isOn o ≡ true → o .entry ≡ i) where
   other-seconds : (j : ℕ) → (j ≡ i → ⊥) → secondsIn j o ≡ 0
   other-seconds j x = cond-off (opens j o) _ _ (opens-not j x)
 
--- an interval that has started stays as it is
+-- an interval that has started stays unchanged
 abbrev pub Stays : Limits → Meters → Meters → Type 0
 Stays l m m′ = flagged 16 l ≡ true → m .started ≡ 1 → (m′ .started ≡ 1) × (m′ .first ≡ m .first)
 
@@ -60,7 +60,7 @@ use-stays T n l m m′ o k u = record {
 }
 
 module _ {T n : ℕ} {lim : ℕ → Limits} {met : ℕ → Meters} {opn : ℕ → Open} (h : Sound T n lim met opn) (p i : ℕ) (m′ : Meters) (o′ : Open) where
-  -- what the change must keep to
+  -- what the change must respect
   pub record Change : Type 0 where
     pub player : p < 16
     pub entry : i < n
@@ -182,7 +182,7 @@ module _ {T n : ℕ} {lim : ℕ → Limits} {met : ℕ → Meters} {opn : ℕ �
 
 -- ## Until
 
--- a grant gives at most so much
+-- the most that a grant gives
 
 pub grant-most : (k : ℕ) → grantLength k ≤ 300
 unfolding grantLength

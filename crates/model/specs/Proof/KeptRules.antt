@@ -1,4 +1,4 @@
--- The rules on players and meters as facts about numbers, from the tests of the image reader and back to them.
+-- The rules for players and meters as facts about numbers, derived from the image reader's tests and back.
 -- Limits, meters and open uses are functions of a position here.
 use mathlib.Core.Path.{_≡_, refl, sym, ap, _∙_}
 use Prim.Native.Nat.{ℕ, _+_, _-_, _≤_, _<_}
@@ -74,7 +74,7 @@ pub record MeterOk (T : ℕ) (l : Limits) (m : Meters) (k s : ℕ) : Type 0 wher
   pub unset : eqb (m .started) 1 ≡ false → m .first ≡ 0
   pub past : m .first ≤ T
 
--- an open use at time T among n entries; whether it still runs is asked apart
+-- an open use at time T among n entries; whether it still runs is asked separately
 pub record UseOk (T n : ℕ) (l : Limits) (m : Meters) (o : Open) : Type 0 where
   pub begun : o .begin ≤ T
   pub near : o .until ≤ T + grantLength (l .kind)
@@ -112,7 +112,7 @@ pub record Sound (T n : ℕ) (lim : ℕ → Limits) (met : ℕ → Meters) (opn 
 abbrev pub Live : ℕ → (ℕ → Open) → Type 0
 Live T opn = (p : ℕ) → isOn (opn p) ≡ true → T < opn p .until
 
--- ## The reader's tests, of a book
+-- ## The reader's tests, on a book
 
 abbrev pub lawfulIn : Book → Limits → Bool
 lawfulIn b l = limitsLegal (inBook b (l .asset)) l
@@ -372,7 +372,7 @@ stages-to b h =
     go : (p q r s : Bool) → p ≡ true → q ≡ true → r ≡ true → s ≡ true → _≡_ {A = ℕ} (cond (not p) 24 (cond (not q) 25 (cond (not r) 26 (cond (not s) 27 0)))) 0
     go p q r s a b c d = rw (a, b, c, d)
 
--- ## Of a whole book
+-- ## For a whole book
 
 module _ (b : Book) (h : Legal b) where
   pub entries-counted : entriesIn b ≡ b .entrycount

@@ -1,4 +1,4 @@
--- What demand 1 says of records on a book that is not legal, and of a resend on one that is: its premises can be met.
+-- What demand 1 says of records on an illegal book, and of a resend on a legal one: its premises can be met.
 use mathlib.Core.Path.{_≡_, refl}
 use Prim.Native.Nat.{ℕ}
 use mathlib.Core.List.{List, [], _∷_}
@@ -61,12 +61,12 @@ takes = record {
   time = record { not-back = omega arith; not-late = omega arith };
 }
 
--- what it leaves: there are 16 players, so its last event is stored
+-- the book after it: there are 16 players, so its last event is stored
 pub stored-last : asker (stepRecord odd (begins 6 100) .book) (begins 6 100) .last ≡
     record { number = 6; operation = 1; asset = 1; kind = 1; answer = stepRecord odd (begins 6 100) .answer }
 stored-last = demand1 .records odd (begins 6 100) .taken takes .last refl
 
--- ## A resend on a legal book: the last number there is
+-- ## A resend on a legal book: the greatest number
 
 abbrev last-again : List ℕ
 last-again = 3 ∷ 255 ∷ 255 ∷ 255 ∷ 255 ∷ 1 ∷ 255 ∷ 255 ∷ 5 ∷ 0 ∷ 0 ∷ 0 ∷ 0 ∷ []

@@ -1,4 +1,4 @@
--- What demand 3 says of three begins on the afternoon's book: its premises can be met, and its words tell 11, 10 and 12 apart.
+-- What demand 3 says of three begins on the afternoon's book: its premises can be met, and it distinguishes 11, 10 and 12.
 use mathlib.Core.Path.{_≡_, refl}
 use Prim.Native.Nat.{ℕ}
 use mathlib.Core.Logic.{inl}
@@ -19,7 +19,7 @@ use Rattle.model.specs.Proof.Example.{afternoon}
 abbrev running : State
 running = after (starting start) (event 0 1 (Begin Play 1) 1000 ∷ [])
 
--- then a player begins
+-- then a player sends a begin
 abbrev asks : ℕ → ℕ → Kind → ℕ → Event
 asks player number kind asset = record { player = player; number = number; request = Begin kind asset; time = 1001 }
 

@@ -1,5 +1,5 @@
--- The afternoon of document 01 as the run program reads and prints it, and the image that is saved behind it: 17 event records
--- and one cut short, to 18 lines of text and 568 bytes. The numbers of a refusal, the digits, and what a player's record keeps of
+-- The afternoon of document 01 as the run program reads and prints it, and the image saved after it: 17 event records
+-- and one cut short give 18 lines of text and 568 bytes. The numbers of a refusal, the digits, and what a player's record keeps of
 -- a request are written out here.
 use mathlib.Core.Path.{_≡_, refl}
 use Prim.Native.Nat.{ℕ}
@@ -86,7 +86,7 @@ pub saved : image (runBook start records) ≡ after
 unfolding first listed assetsIn entriesIn grantLength isParent assetPosition flagged momentary requestLegal kindOf requestOf eventIn decoded sameRequest sameNumber inLine timely gate amend begun continued ended expired shut released settled catalogOf holds assetNamed usable parentOf own suitable countLeft timedLeft inDates intervalLeft secondsLeft grantable rankOf ranksBefore chooseOf anyOf choose leastUntil grantUntil moreUntil doBegin doContinue doStop done takenStep stepBy step arrive stepRecord recordCount recordAt recordsIn joined headerBytes assetBytes entryBytes playerBytes image runBook recordFinal
 saved = refl
 
--- numbers of one digit, of more, and of ten
+-- numbers of one digit, of several, and of ten
 pub digits : decimal 0 ∷ decimal 9 ∷ decimal 10 ∷ decimal 99 ∷ decimal 100 ∷ decimal 4294967295 ∷ []
     ≡ (48 ∷ [])
     ∷ (57 ∷ [])

@@ -33,7 +33,7 @@ use Rattle.model.specs.Proof.Header.{HeaderPassed, header-passed, accept
 
 module _ {A : Type 0} (ws : List Width) (values : A → List ℕ) (of : List ℕ → A)
     (whole : (x : A) → of (values x) ≡ x) (each : (x : A) → length (values x) ≡ length ws) where
-  -- a record that was written in a table is read from there
+  -- a record written to a table reads back
   record-back : (f : ℕ → A) (n i o : ℕ) (pre rest : List ℕ) → length pre ≡ o → i < n → Fit ws (values (f i))
       → of (valuesAt ws 0 (drop (o + size ws * i) (pre ++ joined (λ (k : ℕ). laidOut ws (values (f k))) n ++ rest))) ≡ f i
   record-back f n i o pre rest e h fit =
@@ -46,7 +46,7 @@ module _ {A : Type 0} (ws : List Width) (values : A → List ℕ) (of : List ℕ
 
 module _ {A : Type 0} (ws : List Width) (values : A → List ℕ) (of : List ℕ → A)
     (again : (o : ℕ) (s : List ℕ) → values (of (valuesAt ws o s)) ≡ valuesAt ws o s) where
-  -- the records that were read from a table are written as the bytes of the table
+  -- the records read from a table are written as the bytes of the table
   table-back : (f : ℕ → A) (n o : ℕ) (s : List ℕ) → ((k : ℕ) → getD s k 0 < 256) → o + size ws * n ≤ length s
       → ((i : ℕ) → i < n → f i ≡ of (valuesAt ws 0 (drop (o + size ws * i) s)))
       → joined (λ (k : ℕ). laidOut ws (values (f k))) n ≡ take (size ws * n) (drop o s)
@@ -251,7 +251,7 @@ module _ (b : Book) (l : Legal b) where
 
 module _ {A : Type 0} (ws : List Width) (values : A → List ℕ) (of : List ℕ → A)
     (again : (o : ℕ) (s : List ℕ) → values (of (valuesAt ws o s)) ≡ valuesAt ws o s) (d : A) (blank : Fit ws (values d)) where
-  -- whatever slot of a table that was read holds fits its layout
+  -- the contents of every slot of a table that was read fit its layout
   slots-fit : (s : List ℕ) → Bytes s → (o n k i : ℕ)
       → Fit ws (values (getD (listed (λ (j : ℕ). of (valuesAt ws 0 (drop (o + size ws * j) s))) n ++ replicate k d) i d))
   slots-fit s b o n k i =
@@ -262,7 +262,7 @@ module _ {A : Type 0} (ws : List Width) (values : A → List ℕ) (of : List ℕ
       (subst (Fit ws) (sym (again 0 t)) (values-fit ws 0 t (drop-bytes (o + size ws * i) s b))))
       (λ h. subst (λ (x : A). Fit ws (values x)) (sym (blank-at f n i k d h)) blank)
 
--- the n slots that were read, and no others, are as long as the table
+-- n filled slots and the blank ones after them make up the whole table
 slots-all : (n : ℕ) → n ≤ 64 → n + (64 - n) ≡ 64
 slots-all n h = omega arith
 

@@ -1,4 +1,4 @@
--- What holds of every list of events: the invariant after it, hence the limits, and the answers by the ledger alone.
+-- What holds of every list of events: the invariant after it, hence the limits, and the answers from the ledger alone.
 -- Resends struck out leave the other answers and the book as they were.
 use mathlib.Core.Path.{_≡_, refl, sym, ap, _∙_}
 use Prim.Native.Nat.{ℕ, zero, suc, _+_, _≤_, zero-le}

@@ -1,5 +1,5 @@
--- Each event keeps the invariant between the book and the account, whatever the gate makes of it.
--- The ledger's word for a resend and the rules' test agree.
+-- Each event preserves the invariant between the book and the account, whatever the gate decides.
+-- The ledger and the rules agree on which events are resends.
 use mathlib.Core.Path.{_≡_, refl, sym, _∙_}
 use Prim.Native.Nat.{ℕ, _+_, _≤_, _<_}
 use mathlib.Core.Bool.{Bool, true, false, not, _&&_, _||_, cond, or-true}
@@ -43,7 +43,7 @@ pub record Inv (b : Book) (a : Account) : Type 0 where
   pub held : Held (b .time) (length (b .players)) (length (b .entries)) (limitsAt (b .entries)) (metersAt (b .entries)) (openAt (b .players)) (a .uses)
   pub grounds : Grounds b
 
--- ## What a taken event does, once all is settled
+-- ## What a taken event does, once all players are settled
 
 abbrev entered : Event → Answer → List Use → List Use
 entered e r us = cond (eqb (r .code) 0) (posted (e .request) e r us) us
@@ -64,7 +64,7 @@ module _ (e : Event) (k : ℕ) (pk : e .player < k) (es : List Entry) (opn : ℕ
     held = rw z (held-ext refl refl (λ i. refl) (λ i. refl) same-open h);
   }
 
-  -- an entry is amended, by what the invariant was shown for
+  -- an entry is amended in a way for which the invariant was shown
   amended : (i : ℕ) → i < length es → (g : Limits → Meters → Meters) (o : Open) (us′ : List Use) →
       Held (e .time) k (length es) (limitsAt es) (upd i (g (limitsAt es i) (metersAt es i)) (metersAt es)) (upd (e .player) o opn) us′ →
       Held (e .time) k (length (amend i g es)) (limitsAt (amend i g es)) (metersAt (amend i g es)) (upd (e .player) o opn) us′
@@ -131,7 +131,7 @@ module _ (e : Event) (k : ℕ) (pk : e .player < k) (es : List Entry) (opn : ℕ
 
 -- ## The gate
 
--- the test for a resend, as the rules have it
+-- the rules' test for a resend
 abbrev pub again : Last → Event → Bool
 again l e = sameNumber l (e .number) && sameRequest l (e .request)
 

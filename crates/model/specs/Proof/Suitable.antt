@@ -1,5 +1,5 @@
--- Usable assets and suitable entries: the rules' tests hold exactly where the statement's words do.
--- That each number stands once in a legal book is what makes a number name one asset.
+-- Usable assets and suitable entries: the rules' tests pass exactly when the statement's conditions hold.
+-- In a legal book each number occurs once, so a number names one asset.
 use mathlib.Core.Path.{_≡_, refl, sym, ap, _∙_, subst}
 use Prim.Native.Nat.{ℕ, zero, suc, _<_}
 use mathlib.Core.Bool.{Bool, true, false, not, _&&_, _||_, or-true}

@@ -38,7 +38,7 @@ all-revise {P} p f (u ∷ us) g h =
     (λ e. rw e (g u (rw e) (h .0), h .1))
     (λ e. rw e (h .0, all-revise {P = P} p f us (λ v q. g v (rw e q)) (h .1)))
 
--- the latest use of a player in a ledger that has uses: the newest, or one behind it
+-- the latest use of a player in a ledger that has uses: the newest, or one after it in the list
 pub latest-here : (p : ℕ) (v : Use) (us : List Use) (u : Use) → latest p (v ∷ us) ≡ some u → eqb (v .player) p ≡ true → v ≡ u
 unfolding latest
 latest-here p v us u e q = cc
@@ -80,7 +80,7 @@ sum-revise w p f (v ∷ us) u e =
     (λ q. rw (← latest-here p v us u e q, q) (omega arith))
     (λ q. rw q (omega (arith, sum-revise w p f us u (latest-behind p v us u e q))))
 
--- ## What a revision leaves as it was
+-- ## What a revision leaves unchanged
 
 -- the revised use has the same entry, player and begin
 pub record Kept (f : Use → Use) : Type 0 where
@@ -149,7 +149,7 @@ all-shut T p (v ∷ us) h g =
     (λ q. (λ r. g v (rw q), rw (← eqb-true (v .player) p q) (h .0)))
     (λ q. (λ r. absurd (eqb-false (v .player) p q r), all-shut T p us (h .1) (λ u e. g u (rw q e))))
 
--- two weights that differ at an open use of player p alone
+-- two weights that differ only at an open use of player p
 pub sum-latest : (w v : Use → ℕ) (T p : ℕ) →
     ((u : Use) → (u .player ≡ p → ⊥) → w u ≡ v u) → ((u : Use) → isOpen T u ≡ false → w u ≡ v u) →
     (us : List Use) (u : Use) → Tidy T us → latest p us ≡ some u → sumOf v us + w u ≡ sumOf w us + v u

@@ -1,5 +1,5 @@
 -- Until, by the ledger's figures, is the least of the statement's bounds, and one of them.
--- Of a momentary kind it is the time itself.
+-- For a momentary kind it is the time itself.
 use mathlib.Core.Path.{_≡_, refl, ap, _∙_}
 use Prim.Native.Nat.{ℕ, _+_, _-_, _≤_}
 use mathlib.Core.Bool.{Bool, true, false, cond}
@@ -22,7 +22,7 @@ cap-pick : {P : Type 0} (f : Bool) (v x : ℕ) → (f ≡ true → cap f v x ≡
 cap-pick false v x g h = h refl
 cap-pick true v x g h = on-test (leb v x) (λ q. g refl (omega (arith, leb-true v x q))) (λ q. h (omega (arith, leb-false v x q)))
 
--- the caps are one of the times capped
+-- the capped time is one of the caps that apply, or the time itself
 caps-pick : {P : Type 0} (f g h : Bool) (a b c d : ℕ) → (f ≡ true → caps f g h a b c d ≡ a → P) → (g ≡ true → caps f g h a b c d ≡ b → P)
     → (h ≡ true → caps f g h a b c d ≡ c → P) → (caps f g h a b c d ≡ d → P) → P
 unfolding caps

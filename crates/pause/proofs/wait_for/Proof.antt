@@ -1,4 +1,4 @@
--- `wait_for` meets its contract: a walk of its code by hand, since it lends two locals that are structs, one to be read and one to be written. Each is lent for
+-- `wait_for` meets its contract: a walk through its code by hand, since it lends two locals that are structs, one to be read and one to be written. Each is lent for
 -- a lifetime made for the call, and is a local again once that has ended.
 use mathlib.Core.Path.{refl, _≡_}
 use Prim.Native.Nat.{ℕ}

@@ -1,4 +1,4 @@
--- `fill_places`: the tables are cleared, then the assets entered from the last to the first.
+-- `fill_places`: the tables are cleared, then the assets are entered from last to first.
 use Prim.Native.Nat.{ℕ, _-_, _≤_}
 use mathlib.Core.Path.{_≡_, sym, ap, ap₂, _∙_}
 use mathlib.Core.Bool.{cond}

@@ -1,4 +1,4 @@
--- `places::reach_at` meets its contract: one look into each table.
+-- `places::reach_at` meets its contract: one lookup in each table.
 use borrow.Author.Needs.{needs}
 use borrow.Author.Tests.{lt-ltb, le-ltb}
 use Rattle.places.specs.Places.{reachAt}

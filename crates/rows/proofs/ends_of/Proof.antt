@@ -1,4 +1,4 @@
--- `rows::ends_of` meets its contract: the first i places are filled.
+-- `rows::ends_of` meets its contract: after i turns the first i slots are filled.
 use mathlib.Core.Path.{_≡_}
 use Prim.Native.Nat.{_-_, _≤_}
 use native.Mathlib.Omega.{arith}

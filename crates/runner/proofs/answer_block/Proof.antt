@@ -46,7 +46,7 @@ use Rattle.runner.specs.Ways.{beginCode, looked, looked-most, actOn, clo
 use Rattle.runner.proofs.answer_block.Statement.{statement}
 use Rattle.runner.proofs.answer_block.Tie as tie
 
--- the rows that stand beside a book
+-- the rows kept beside a book
 abbrev rowsFor : Book → List Row
 rowsFor b = map rowOfEntry (b .entries)
 
@@ -72,7 +72,7 @@ Inv-loop records out₀ size count book₀ places parents rows₀ ends₀ next�
 abbrev μ-loop : tie.MeasureT-loop
 μ-loop records out₀ size count book₀ places parents rows₀ ends₀ next₀ at₀ i₀ out book rows ends next at i = count - i
 
--- ## Places on the way of a record, each with the way back to the one before it
+-- ## Points in the handling of a record, each with the way back to the one before it
 
 abbrev Entered : Type 0
 Entered = tie.Start Inv-loop2 μ-loop2 Inv-loop3 μ-loop3 Inv-loop μ-loop
@@ -126,7 +126,7 @@ entries-64 c = search length-mapped
 players-16 : (c : Entered) → length (c .args .b .players) ≡ 16
 players-16 c = search length-mapped
 
--- in a turn there is room for one line more
+-- in a turn there is room for one more line
 in-turn : (c : Turn) → (c .before .loop .i + 1 ≤ (length (entered c .args .records .now) + 12) / 13) × (19 * (c .before .loop .i + 1) ≤ length (entered c .args .out .now))
 in-turn c = (omega arith, omega arith)
 
@@ -173,7 +173,7 @@ after-settle c =
     ))
     (c .if2 .came)
 
--- settling leaves the assets
+-- settling leaves the assets unchanged
 assets-kept : (c : AllSettled) → (c .if2 .book .assets ≡ entered (turn (read (judged (taken c)))) .args .b .assets) × (c .if2 .book .assetcount ≡ entered (turn (read (judged (taken c)))) .args .b .assetcount)
 unfolding settledBook
 assets-kept c =
@@ -181,7 +181,7 @@ assets-kept c =
     let l = turn (read (judged (taken c))) .before .loop in
     (ap (λ (m : Book). m .assets) z ∙ l .inv .6, ap (λ (m : Book). m .assetcount) z ∙ l .inv .7)
 
--- the match leaves the request
+-- the match leaves the request unchanged
 request-kept : (c : Chosen) → c .match3 .request ≡ event-at (judged (taken (all-settled c))) .request
 request-kept c =
     ⊎-elim (λ w. w .14 ∙ sym (w .1 .given .1)) (λ v. ⊎-elim (λ w. w .2) (λ w. w .2) v) (c .match3 .came)
@@ -225,7 +225,7 @@ planned c =
     v)
     (c .match3 .came)
 
--- a turn that leaves the book: one line more, and all that stands beside the book stays
+-- a turn that leaves the book unchanged: one line more, and all that is kept beside the book stays
 kept-turn :
     (c : Turn) (a : Answer) (out : List ℕ) (at : ℕ) →
     stepRecord (book-at c) (record-at c) ≡ record { answer = a; book = book-at c } →

@@ -12,7 +12,7 @@ use borrow.Author.Needs.{needs}
 use Rattle.serve.proofs.answer_reads.Statement.{statement}
 use Rattle.serve.proofs.answer_reads.Tie as tie
 
--- what the contract of `turn` says of the text and of the kept bytes, in numbers
+-- what the contract of `turn` says about the text and the kept bytes, in numbers
 text-there : (b : Book) (input : List ℕ) (n : ℕ) (ended : Bool) (out outs : List ℕ) (written : ℕ)
     → written ≡ writtenAfter b input n ended → outs ≡ outAfter b input n ended out → written ≤ length outs
 text-there b input n ended out outs written e f = rw (e, f) (written-inside b input n ended out)

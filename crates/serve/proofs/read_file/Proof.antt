@@ -1,4 +1,4 @@
--- `read_file` ends: each turn but the last finds more bytes there.
+-- `read_file` ends: every turn but the last adds bytes.
 use mathlib.Core.Path.{_≡_}
 use Prim.Native.Nat.{_-_, _≤_}
 use lib.ListN.{length}

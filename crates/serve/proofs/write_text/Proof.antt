@@ -1,4 +1,4 @@
--- `write_text` ends: the count of tries falls. No more is done than there is.
+-- `write_text` ends: the count of tries falls. No more bytes are written than there are.
 use Prim.Native.Nat.{_≤_}
 use lib.ListN.{length}
 use borrow.Author.Needs.{needs}

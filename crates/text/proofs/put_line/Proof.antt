@@ -1,4 +1,4 @@
--- `text::put_line` meets its contract: three numbers, each with the byte behind it, laid one behind the other.
+-- `text::put_line` meets its contract: three numbers, each with the byte after it, written one after another.
 use Prim.Native.Nat.{_+_, _<_, _≤_}
 use mathlib.Core.Path.{_≡_, refl, _∙_}
 use native.Mathlib.Omega.{arith}
@@ -10,7 +10,7 @@ use borrow.Author.Needs.{needs}
 use Rattle.text.proofs.put_line.Statement.{statement}
 use Rattle.text.proofs.put_line.Tie as tie
 
--- each number leaves the buffer's length, and room for the rest of the line
+-- each number leaves the buffer's length unchanged, and room for the rest of the line
 first : (c : tie.After-put-byte) → (c .put-byte .result + 16 ≤ length (c .before .before .before .before .before .args .out .now)) × (length (c .put-byte .last .0) ≡ length (c .before .before .before .before .before .args .out .now))
 first c =
     let a = c .before .before .before .before .before .args in

@@ -1,4 +1,4 @@
--- `text::put_number` meets its contract. The invariant: the digits from `left` on are laid, and `rest` has those before them.
+-- `text::put_number` meets its contract. The invariant: the digits from `left` on are written, and `rest` has those before them.
 use Prim.Native.Nat.{ℕ, _+_, _-_, _%_, _≤_}
 use mathlib.Core.Path.{_≡_, refl, ap, _∙_}
 use native.Mathlib.Nat.{add-zero}

@@ -1,4 +1,4 @@
--- `text::put_ten` meets its contract: five times two digits, laid one behind the other.
+-- `text::put_ten` meets its contract: five pairs of digits, written one after another.
 use native.Mathlib.Omega.{arith}
 use Rattle.text.specs.Digits.{ten-laid}
 use borrow.Author.Needs.{needs}

@@ -1,4 +1,4 @@
--- `load`: the bytes that stand in image are the first of the file, as many as image has, and these decide (the laws of `Load`).
+-- `load`: the bytes in image are the first of the file, as many as image holds, and they decide the answer (the laws of `Load`).
 use Prim.Native.Nat.{ℕ, _≤_, min}
 use native.Mathlib.Omega.{arith}
 use borrow.Author.Needs.{needs}
@@ -13,7 +13,7 @@ use Rattle.turn.specs.Load.{cut-code, cut-book}
 use Rattle.turn.proofs.load.Statement.{statement}
 use Rattle.turn.proofs.load.Tie as tie
 
--- a count above the length takes no more than all
+-- a count above the length takes the whole list
 least-take : (n : ℕ) (l : List ℕ) → take (min n (length l)) l ≡ take n l
 least-take n l =
     below-or-not n (length l)

@@ -1,4 +1,4 @@
--- `turn`: where more bytes are said to be there than the buffer has, nothing is done; else the records are answered, and what is
+-- `turn`: if n is more than the buffer holds, nothing is done; otherwise the records are answered, and what is
 -- left of the next one is moved to the front. The output buffer has room for the lines of all records that the input buffer holds.
 use Prim.Native.Nat.{ℕ, _+_, _*_, _-_, _/_, _%_, _≤_, _<_}
 use native.Mathlib.Omega.{arith}
@@ -31,7 +31,7 @@ left-refused : (b : Book) (input : List ℕ) (n : ℕ) (ended : Bool) (out : Lis
 unfolding bookAfter writtenAfter outAfter keptAfter inputAfter
 left-refused b input n ended out e = (sym e, (rw e, (rw e, (rw e, (rw e, rw e)))))
 
--- a part of the front
+-- a slice of a prefix
 part : (a k : ℕ) (l : List ℕ) → a + k ≤ length l → drop a (take (a + k) l) ≡ take k (drop a l)
 part a k l h = ap (drop a) (take-add a k l) ∙ drop-at (take a l) (take k (drop a l)) a (length-take-le a l (omega arith))
 

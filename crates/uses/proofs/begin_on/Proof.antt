@@ -1,4 +1,4 @@
--- `uses::begin_on` meets its contract: a grant's sums fit, since an entry that is grantable has room left.
+-- `uses::begin_on` meets its contract: a grant's sums fit, since a grantable entry has room left.
 use Rattle.uses.specs.Room.{grant-room}
 use Rattle.uses.specs.Uses.{beginOn}
 use mathlib.Core.Path.{sym, _∙_}
