@@ -9,16 +9,13 @@ ghost use lib.ListN.{length};
 ghost use lib.Dec.{eqb, ltb};
 ghost use Rattle.model.specs.Events.{refusal, isOn};
 ghost use Rattle.runner.specs.Block.{blockBook, blockWritten, blockBuffer};
-ghost use Rattle.runner.specs.Ways.{beginCode, looked, actOn};
+ghost use Rattle.runner.specs.Ways.{beginCode, looked};
 use book::Answer;
 use book::Book;
 use book::Decoded;
 use book::Entry;
 use book::Gate;
 use book::Last;
-use book::Limits;
-use book::Meters;
-use book::Open;
 use book::Player;
 use book::Request;
 use book::at_most_64;
@@ -38,10 +35,10 @@ use rules::gate_of;
 use rules::kind_number;
 use rules::wire_of;
 use text::put_line;
-use uses::Part;
 use uses::begin_on;
 use uses::continue_on;
 use uses::ended_meters;
+use uses::kept;
 use uses::stop_on;
 
 // The book after the records, and how many bytes of text were written.
@@ -107,17 +104,6 @@ fn further_code(on: bool) -> u8
     ensures { λ r. ⌜ r ≡ cond on 0 14 ⌝ }
 {
     if on { 0 } else { 14 }
-}
-
-// The request's operation on the limits and meters of the entry at a position.
-fn act(q: Request, l: Limits, m: Meters, o: Open, at: u8, t: u32) -> Part
-    ensures { λ r. ⌜ r ≡ actOn q at t l m o ⌝ }
-{
-    match q {
-        Request::Begin(kind, asset) => begin_on(l, m, o, at, t),
-        Request::Continue => continue_on(l, m, o, t),
-        Request::Stop => stop_on(l, m, o, t),
-    }
 }
 
 // If out has no room for 19 bytes per record, nothing is done.
@@ -245,7 +231,18 @@ pub fn answer_block(b: Book, records: &[u8], out: &mut [u8]) -> Block
                             }
                             let l = x.limits;
                             let m = x.meters;
-                            let part = act(request, l, m, o, (k % 256) as u8, t);
+                            let mut part = kept(0, m, o);
+                            match request {
+                                Request::Begin(_, _) => {
+                                    part = begin_on(l, m, o, (k % 256) as u8, t);
+                                }
+                                Request::Continue => {
+                                    part = continue_on(l, m, o, t);
+                                }
+                                Request::Stop => {
+                                    part = stop_on(l, m, o, t);
+                                }
+                            }
                             if k < 64 {
                                 let meters = part.meters;
                                 let y = Entry {

@@ -37,6 +37,7 @@ use Rattle.rows.specs.Ends.{endOfPlayer, never}
 use Rattle.rows.specs.Rows.{rowOfEntry, noRow, row-at}
 use Rattle.places.specs.Places.{reachAt}
 use Rattle.text.specs.Lines.{lineEnd, lineBuffer}
+use Rattle.uses.specs.declared.Part.{Part}
 use Rattle.uses.specs.Uses.{placed, stored}
 use Rattle.events.specs.Settle.{settledBook, settledTo, settle-none, settle-turn, settled-length, settleOne, with}
 use Rattle.runner.specs.Block.{fits, blockBook, blockWritten, blockBuffer}
@@ -46,7 +47,7 @@ use Rattle.runner.specs.Ways.{beginCode, looked, looked-most, actOn, clo
 use Rattle.runner.proofs.answer_block.Statement.{statement}
 use Rattle.runner.proofs.answer_block.Tie as tie
 
--- the rows kept beside a book
+-- the rows that stand beside a book
 abbrev rowsFor : Book → List Row
 rowsFor b = map rowOfEntry (b .entries)
 
@@ -72,7 +73,7 @@ Inv-loop records out₀ size count book₀ places parents rows₀ ends₀ next�
 abbrev μ-loop : tie.MeasureT-loop
 μ-loop records out₀ size count book₀ places parents rows₀ ends₀ next₀ at₀ i₀ out book rows ends next at i = count - i
 
--- ## Points in the handling of a record, each with the way back to the one before it
+-- ## Places on the way of a record, each with the way back to the one before it
 
 abbrev Entered : Type 0
 Entered = tie.Start Inv-loop2 μ-loop2 Inv-loop3 μ-loop3 Inv-loop μ-loop
@@ -126,7 +127,7 @@ entries-64 c = search length-mapped
 players-16 : (c : Entered) → length (c .args .b .players) ≡ 16
 players-16 c = search length-mapped
 
--- in a turn there is room for one more line
+-- in a turn there is room for one line more
 in-turn : (c : Turn) → (c .before .loop .i + 1 ≤ (length (entered c .args .records .now) + 12) / 13) × (19 * (c .before .loop .i + 1) ≤ length (entered c .args .out .now))
 in-turn c = (omega arith, omega arith)
 
@@ -173,7 +174,7 @@ after-settle c =
     ))
     (c .if2 .came)
 
--- settling leaves the assets unchanged
+-- settling leaves the assets
 assets-kept : (c : AllSettled) → (c .if2 .book .assets ≡ entered (turn (read (judged (taken c)))) .args .b .assets) × (c .if2 .book .assetcount ≡ entered (turn (read (judged (taken c)))) .args .b .assetcount)
 unfolding settledBook
 assets-kept c =
@@ -181,7 +182,7 @@ assets-kept c =
     let l = turn (read (judged (taken c))) .before .loop in
     (ap (λ (m : Book). m .assets) z ∙ l .inv .6, ap (λ (m : Book). m .assetcount) z ∙ l .inv .7)
 
--- the match leaves the request unchanged
+-- the match leaves the request
 request-kept : (c : Chosen) → c .match3 .request ≡ event-at (judged (taken (all-settled c))) .request
 request-kept c =
     ⊎-elim (λ w. w .14 ∙ sym (w .1 .given .1)) (λ v. ⊎-elim (λ w. w .2) (λ w. w .2) v) (c .match3 .came)
@@ -225,7 +226,7 @@ planned c =
     v)
     (c .match3 .came)
 
--- a turn that leaves the book unchanged: one line more, and all that is kept beside the book stays
+-- a turn that leaves the book: one line more, and all that stands beside the book stays
 kept-turn :
     (c : Turn) (a : Answer) (out : List ℕ) (at : ℕ) →
     stepRecord (book-at c) (record-at c) ≡ record { answer = a; book = book-at c } →
@@ -629,11 +630,30 @@ element-copy-out-held :
     tie.Need-element-copy-out-held Inv-loop2 μ-loop2 Inv-loop3 μ-loop3 Inv-loop μ-loop
 element-copy-out-held c = search needs
 
-cast-act : tie.Need-cast-act Inv-loop2 μ-loop2 Inv-loop3 μ-loop3 Inv-loop μ-loop
-cast-act c = search needs
+kept-requires : tie.Need-kept-requires Inv-loop2 μ-loop2 Inv-loop3 μ-loop3 Inv-loop μ-loop
+kept-requires c κs = tt
 
-act-requires : tie.Need-act-requires Inv-loop2 μ-loop2 Inv-loop3 μ-loop3 Inv-loop μ-loop
-act-requires c κs = tt
+enum-told-5 : tie.Need-enum-told-5 Inv-loop2 μ-loop2 Inv-loop3 μ-loop3 Inv-loop μ-loop
+enum-told-5 c = search needs
+
+cast-begin-on : tie.Need-cast-begin-on Inv-loop2 μ-loop2 Inv-loop3 μ-loop3 Inv-loop μ-loop
+cast-begin-on c = search needs
+
+begin-on-requires : tie.Need-begin-on-requires Inv-loop2 μ-loop2 Inv-loop3 μ-loop3 Inv-loop μ-loop
+begin-on-requires c κs = tt
+
+enum-told-6 : tie.Need-enum-told-6 Inv-loop2 μ-loop2 Inv-loop3 μ-loop3 Inv-loop μ-loop
+enum-told-6 c = search needs
+
+continue-on-requires :
+    tie.Need-continue-on-requires Inv-loop2 μ-loop2 Inv-loop3 μ-loop3 Inv-loop μ-loop
+continue-on-requires c κs = tt
+
+enum-told-7 : tie.Need-enum-told-7 Inv-loop2 μ-loop2 Inv-loop3 μ-loop3 Inv-loop μ-loop
+enum-told-7 c = search needs
+
+stop-on-requires : tie.Need-stop-on-requires Inv-loop2 μ-loop2 Inv-loop3 μ-loop3 Inv-loop μ-loop
+stop-on-requires c κs = tt
 
 mul-y-2 : tie.Need-mul-y-2 Inv-loop2 μ-loop2 Inv-loop3 μ-loop3 Inv-loop μ-loop
 mul-y-2 c = search needs
@@ -701,13 +721,18 @@ loop-again-4 c =
     let kept = assets-kept s in
     let k = d .match3 .k in
     let x = c .before .before .before .before .before .before .before .before .before .before .before .before .before .if6 .x in
-    let part = c .before .before .before .before .before .before .before .before .before .act .result in
+    let part = c .before .before .before .before .before .before .before .before .before .match4 .part in
     let is-x : x ≡ getD es k noEntry =
     ⊎-elim (λ v. v .3)
     (λ v. v .1 ∙ c .before .before .before .before .before .before .before .before .before .before .before .before .before .before .blank-entry .ensures ∙ sym (List·getD-eq-default es noEntry (omega (arith, v .0 .left, z .0 .entries))))
     (c .before .before .before .before .before .before .before .before .before .before .before .before .before .if6 .came) in
+    let acts : Request → Part = λ y. actOn y (k % 256) t (x .limits) (x .meters) o in
+    let is-part : part ≡ acts (d .match3 .request) =
+    ⊎-elim (λ v. v .4 ∙ v .3 .ensures ∙ ap acts (sym (v .1 .given .1)))
+    (λ u. ⊎-elim (λ v. v .3 ∙ v .2 .ensures ∙ ap acts (sym (v .1 .given .1))) (λ v. v .3 ∙ v .2 .ensures ∙ ap acts (sym (v .1 .given .1))) u)
+    (c .before .before .before .before .before .before .before .before .before .match4 .came) in
     let hp =
-    c .before .before .before .before .before .before .before .before .before .act .ensures
+    is-part
     ∙ ap (λ (y : Entry). actOn (d .match3 .request) (k % 256) t (y .limits) (y .meters) o) is-x
     ∙ ap (λ (q : Request). actOn q (k % 256) t (limitsAt es k) (metersAt es k) o) (request-kept d) in
     let hd = planned d .acts (c .before .before .before .before .before .before .before .before .before .before .before .before .before .before .before .if5 .taken) part hp in
@@ -718,8 +743,8 @@ loop-again-4 c =
     (λ v.
     let y : Entry = record { limits = x .limits; meters = part .meters } in
     let same : set es k y ≡ es′ = ap (λ (u : Entry). set es k (record { limits = u .limits; meters = part .meters })) is-x in (
-      v .3 ∙ ap timed same,
-      v .4 ∙ rows-next es (s .if2 .rows) k y (v .2 .result) (z .1) (v .2 .ensures) ∙ ap (map rowOfEntry) same,
+      v .4 ∙ ap timed same,
+      v .5 ∙ rows-next es (s .if2 .rows) k y (v .3 .result) (z .1) (v .3 .ensures) ∙ ap (map rowOfEntry) same,
     ))
     (λ v.
     let same : es ≡ es′ = sym (set-out es k _ (omega (arith, v .0 .left, z .0 .entries))) in (
@@ -910,8 +935,14 @@ answer-block-spec =
     blank-entry-requires
     mul-held
     element-copy-out-held
-    cast-act
-    act-requires
+    kept-requires
+    enum-told-5
+    cast-begin-on
+    begin-on-requires
+    enum-told-6
+    continue-on-requires
+    enum-told-7
+    stop-on-requires
     mul-y-2
     element-set-from-y-2
     row-of-requires-2
