@@ -1,18 +1,30 @@
 #!/usr/bin/env bash
-# The bench: the built program against a tuned server in ordinary Rust, and against one that keeps sorted candidates,
-# on four kinds of days.
+# The bench: the run program against the sharpest server that we can write in ordinary Rust, on four kinds of days.
 #
-#     bench/run.sh [PROGRAM]        (target/bin/run by default)
+#     bench/run.sh [--before PATH] [--more] [PROGRAM]        (target/bin/run by default)
+#     bench/run.sh --build                                   only builds the server
 #
-# EVENTS (2000000), RUNS (7), GROWTH (10000000: the longest day, 0 for none), SQLITE (1000 events, 0 for none) and
-# SEED (1) may be set in the environment. All files go to target/bench. One process runs at a time.
+# --before adds a second run program, say of the landing before this one, timed in turn with the others. --more adds longer days
+# and books with more entries. EVENTS (2000000), RUNS (7) and SEED (1) may be set in the environment. All files go to target/bench.
+# One process runs at a time.
 set -eu
+program= before= more= build=
+while [ $# -gt 0 ]; do
+    case $1 in
+    --before) before=$(realpath "$2") && shift ;;
+    --more) more=--more ;;
+    --build) build=1 ;;
+    *) program=$(realpath "$1") ;;
+    esac
+    shift
+done
 cd "$(dirname "$0")/.."
-program=$(realpath "${1:-target/bin/run}")
 mkdir -p target/bench
-for each in baseline sorted days; do
+for each in server days; do
     if [ ! -x target/bench/$each ] || [ bench/$each.rs -nt target/bench/$each ]; then
         rustc --edition 2021 -C opt-level=3 -C codegen-units=1 -o target/bench/$each bench/$each.rs
     fi
 done
-exec python3 bench/measure.py "$program" target/bench
+[ -z "$build" ] || exit 0
+exec python3 bench/measure.py target/bench $more "run=${program:-$PWD/target/bin/run}" ${before:+"before=$before"} \
+    "server=$PWD/target/bench/server"

@@ -34,8 +34,8 @@ static void *allocate(size_t bytes)
     return memory;
 }
 
-/* All bytes of a file, or of a pipe. */
-static uint8_t *read_file(const char *name, size_t *length)
+/* All bytes of a file, or of a pipe, in a buffer that has at least RIGHTS_LONGEST_IMAGE bytes. */
+static uint8_t *read_file(const char *name, size_t *buffer_room, size_t *length)
 {
     int file = open(name, O_RDONLY);
     struct stat about;
@@ -63,6 +63,7 @@ static uint8_t *read_file(const char *name, size_t *length)
         }
     }
     close(file);
+    *buffer_room = room;
     *length = used;
     return bytes;
 }
@@ -124,23 +125,23 @@ static void save(const char *name, const uint8_t *bytes, size_t length)
 
 int main(int count, char **words)
 {
-    size_t image_length, records_length;
+    size_t image_room, book_length, records_room, records_length;
     if (count != 4) {
         fprintf(stderr, "usage: example rights.rbk events.bin next.rbk\n");
         return 2;
     }
-    uint8_t *image = read_file(words[1], &image_length);
-    uint8_t *records = read_file(words[2], &records_length);
+    uint8_t *image = read_file(words[1], &image_room, &book_length);
+    uint8_t *records = read_file(words[2], &records_room, &records_length);
     size_t room = RIGHTS_ROOM(records_length);
     uint8_t *out = allocate(room);
-    uint64_t written = 0;
+    uint64_t image_length = book_length, written = 0;
 
-    uint8_t code = rights_answer(image, image_length, records, records_length, out, room, &written);
+    uint8_t code = rights_answer(image, image_room, &image_length, records, records_length, out, room, &written);
     if (code != RIGHTS_OK) {
         fprintf(stderr, "example: %s: the image is refused: %d\n", words[1], code);
         return 1;
     }
-    save(words[3], image, image_length);
+    save(words[3], image, (size_t)image_length);
     if (write_all(STDOUT_FILENO, out, (size_t)written) != 0)
         fail("standard output", strerror(errno));
     free(out);

@@ -1,13 +1,15 @@
 /* The rights server's core for C: the functions of the static library libembed.a.
  *
  * The library keeps no state between calls. The book is passed as its image, the bytes of rights.rbk: the caller keeps them,
- * lends them for the length of a call, and saves them when it likes. What the functions return and leave in the
- * buffers is proved for every input; this header is not checked against that proof, so it changes only with
- * crates/embed/src/lib.rt. docs/EMBEDDING.md shows how to use it, docs/FORMAT.md has the bytes of records and images.
+ * lends them for the length of a call, and saves them when it likes. The calls that answer put the next image in place of the
+ * one before; a later library may write one that is longer, so the buffer's room is passed apart from the image's length.
+ * What the functions return and leave in the buffers is proved for every input; this header is not checked against that
+ * proof, so it changes only with crates/embed/src/lib.rt. docs/EMBEDDING.md shows how to use it, docs/FORMAT.md has the
+ * bytes of records and images.
  *
  * What the caller must ensure in every call:
- *  - each pointer points to as many elements as the length beside it says (one if there is no length), and is not
- *    NULL even if the length is 0;
+ *  - each pointer points to as many elements as the room or length passed after it says (one if there is none),
+ *    and is not NULL even if that is 0;
  *  - the buffers of one call do not overlap, and nothing else reads or writes them until it returns;
  *  - the stack has RIGHTS_STACK bytes left.
  * Calls on different buffers may run at the same time. The functions allocate nothing and call nothing but memcpy,
@@ -26,7 +28,7 @@ extern "C" {
  * If a call does not return 0, everything lent to it is unchanged. */
 enum {
     RIGHTS_OK = 0,
-    RIGHTS_IMAGE_LENGTH = 20,  /* the image is too short, or its length is not what its header says */
+    RIGHTS_IMAGE_LENGTH = 20,  /* the image is too short, its length is not what its header says, or it is more than the room */
     RIGHTS_IMAGE_MARK = 21,    /* it does not begin with RBK */
     RIGHTS_IMAGE_VERSION = 22, /* its version is not 1 */
     RIGHTS_IMAGE_HEADER = 23,  /* more than 64 assets or entries, or a time that is too late */
@@ -34,7 +36,7 @@ enum {
     RIGHTS_IMAGE_ENTRIES = 25, /* a rule on entries is broken */
     RIGHTS_IMAGE_PLAYERS = 26, /* a rule on players is broken */
     RIGHTS_IMAGE_METERS = 27,  /* a rule on what has been used is broken */
-    RIGHTS_SHORT_OUT = 30,     /* the buffer for the result is too short */
+    RIGHTS_SHORT_OUT = 30,     /* the buffer for a result is too short: the text, the numbers or the next image */
     RIGHTS_NOT_THERE = 31      /* the book has no asset, entry or player at that position */
 };
 
@@ -75,7 +77,7 @@ enum {
     RIGHTS_RECORD = 13,          /* bytes of an event record */
     RIGHTS_LINE = 19,            /* the longest line of an answer, including its line feed */
     RIGHTS_NO_ENTRY = 255,       /* the entry in an answer that is no grant */
-    RIGHTS_LONGEST_IMAGE = 3979, /* bytes of an image with 64 assets and 64 entries */
+    RIGHTS_LONGEST_IMAGE = 3979, /* bytes of an image with 64 assets and 64 entries: room for any next image */
     RIGHTS_PLAYERS = 16,
     RIGHTS_STACK = 262144        /* bytes of stack that are enough for any call (docs/EMBEDDING.md) */
 };
@@ -98,14 +100,17 @@ uint8_t rights_check(const uint8_t *image, size_t image_length);
 
 /* Answers event records from the book in the image, in turn.
  *
- * image    in: the book. Out: the book after the last record. Its length stays the same.
- * records  the event records, 13 bytes each, one after another; a last one cut short is answered too. Only read.
- * out      out: a line "code entry until" for each record, with a line feed and no 0 at the end. Bytes after the
- *          text are unchanged.
- * written  out: the length of the text.
+ * image         a buffer of image_room bytes. In: it starts with the image of the book. Out: with that of the book after the
+ *               last record. Bytes after the next image are unchanged.
+ * image_length  how many bytes of the buffer are the image. In: its length, at most image_room. Out: the next image's length.
+ * records       the event records, 13 bytes each, one after another; a last one cut short is answered too. Only read.
+ * out           out: a line "code entry until" for each record, with a line feed and no 0 at the end. Bytes after the
+ *               text are unchanged.
+ * written       out: the length of the text.
  *
- * Returns 0, or 20 to 27 if the image is refused, or 30 if out is shorter than RIGHTS_ROOM(records_length). */
-uint8_t rights_answer(uint8_t *image, size_t image_length,
+ * Returns 0, or 20 to 27 if the image is refused (20 too if *image_length is above image_room), or 30 if out is shorter than
+ * RIGHTS_ROOM(records_length) or image_room is less than the next image needs. RIGHTS_LONGEST_IMAGE bytes are always enough. */
+uint8_t rights_answer(uint8_t *image, size_t image_room, uint64_t *image_length,
                       const uint8_t *records, size_t records_length,
                       uint8_t *out, size_t out_length,
                       uint64_t *written);
@@ -113,13 +118,14 @@ uint8_t rights_answer(uint8_t *image, size_t image_length,
 /* Answers one event, given and answered as numbers. It does the same step as rights_answer for the record of these
  * numbers: the same next image, and the numbers that its line would have.
  *
- * image               in: the book. Out: the book after the event. Its length stays the same.
- * player .. time      the event: operation RIGHTS_BEGIN, asset and kind as asked; or RIGHTS_CONTINUE or RIGHTS_STOP
- *                     with asset 0 and kind 0. Time is in seconds since 1970-01-01 UTC.
- * code, entry, until  out: the answer. A code other than 0 comes with entry 255 and until 0.
+ * image, image_length  the buffer and the image's length, as for rights_answer.
+ * player .. time       the event: operation RIGHTS_BEGIN, asset and kind as asked; or RIGHTS_CONTINUE or RIGHTS_STOP
+ *                      with asset 0 and kind 0. Time is in seconds since 1970-01-01 UTC.
+ * code, entry, until   out: the answer. A code other than 0 comes with entry 255 and until 0.
  *
- * Returns 0 if the event was answered, whatever the answer, or 20 to 27 if the image is refused. */
-uint8_t rights_answer_one(uint8_t *image, size_t image_length,
+ * Returns 0 if the event was answered, whatever the answer, or 20 to 27 if the image is refused (20 too if *image_length is
+ * above image_room), or 30 if image_room is less than the next image needs. */
+uint8_t rights_answer_one(uint8_t *image, size_t image_room, uint64_t *image_length,
                           uint8_t player, uint32_t number, uint8_t operation,
                           uint16_t asset, uint8_t kind, uint32_t time,
                           uint8_t *code, uint8_t *entry, uint32_t *until);
@@ -187,6 +193,22 @@ enum {
 
 uint8_t rights_left(const uint8_t *image, size_t image_length, uint32_t position, uint32_t time,
                     uint32_t *out, size_t out_length);
+
+/* What stands against granting the entry at a position to a player, as a begin at that time would find it (see rights_left for
+ * the time): 1 for each ground that stands, otherwise 0. The entry is grantable if all are 0. Whether it is suitable, and
+ * whether the player may begin at all, is not judged. */
+enum {
+    RIGHTS_GROUNDS_COUNT_SPENT,
+    RIGHTS_GROUNDS_TIMED_SPENT,
+    RIGHTS_GROUNDS_BEFORE_START,
+    RIGHTS_GROUNDS_AFTER_END,
+    RIGHTS_GROUNDS_INTERVAL_OVER,
+    RIGHTS_GROUNDS_SECONDS_SPENT,
+    RIGHTS_GROUNDS_NUMBERS
+};
+
+uint8_t rights_grounds(const uint8_t *image, size_t image_length, uint32_t position, uint8_t player, uint32_t time,
+                       uint32_t *out, size_t out_length);
 
 /* A player, 0 to 15: the last event taken from it with its answer (number 0: none yet), and the open use. */
 enum {

@@ -5,8 +5,8 @@
 set -u
 cd "$(dirname "$0")/.." || exit 2
 work=target/embed
-days=crates/days/data/days.bin
-images=crates/images/data/cases.bin
+days=crates/test_days/data/days.bin
+images=crates/test_images/data/cases.bin
 afternoon=examples/afternoon
 passed=0 failed=0
 
@@ -58,10 +58,10 @@ small() {
 for language in c rs; do
     calls=$work/calls_$language
     for each in 0 1 7; do
-        holds "$language, days, $each records a call" crates/days/stdout small $calls days $each $days
+        holds "$language, days, $each records a call" crates/test_days/stdout small $calls days $each $days
     done
-    holds "$language, days, an event a call, in numbers" crates/days/stdout small $calls ones $days
-    holds "$language, images" crates/images/stdout small $calls images $images
+    holds "$language, days, an event a call, in numbers" crates/test_days/stdout small $calls ones $days
+    holds "$language, images" crates/test_images/stdout small $calls images $images
 done
 
 # What is in an image, according to the second program.
@@ -73,7 +73,7 @@ holds "c, what is in the stored images" $work/seen_images small $work/calls_c se
 
 # A call uses at most half of the stack that the header asks for.
 $work/cost $afternoon/rights.rbk 0 1 1 1 1 1000 >$work/costs &&
-    awk -v most=$((stack_kb * 512)) '/bytes of stack/ { n++; if ($(NF - 3) > most) bad = 1 } END { exit bad || n != 10 }' $work/costs
+    awk -v most=$((stack_kb * 512)) '/bytes of stack/ { n++; if ($(NF - 3) > most) bad = 1 } END { exit bad || n != 11 }' $work/costs
 judged "the stack" $?
 
 # The pages: the tables of docs/FORMAT.md and the header's numbers, and the programs and command lines of docs/EMBEDDING.md

@@ -5,8 +5,8 @@ compete and players ask again. The same seed gives the same day on every machine
 
     python3 oracle/days.py
 
-writes the stored days: `crates/days/data/days.bin`, for each day the length of its image in 32 bits, big-endian, the
-image, the length of its event bytes in 32 bits, and those bytes, to the end of the file; and `crates/days/stdout`, for each
+writes the stored days: `crates/test_days/data/days.bin`, for each day the length of its image in 32 bits, big-endian, the
+image, the length of its event bytes in 32 bits, and those bytes, to the end of the file; and `crates/test_days/stdout`, for each
 day a line `day N`, N from 1, and what the run program prints for it.
 """
 
@@ -17,7 +17,7 @@ import rights
 from rights import (ACCUMULATED, BEGIN, CONTINUE, COUNT, END, INTERVAL, LAST_NUMBER, LATEST, START, STOP, TIMED, Asset,
                     Book, Entry, Event)
 
-STORED = Path(__file__).resolve().parent.parent / "crates" / "days"
+STORED = Path(__file__).resolve().parent.parent / "crates" / "test_days"
 TOP = 4_294_967_295         # the greatest 32-bit number
 
 
@@ -218,7 +218,7 @@ def damaged(rng, record):
     if chance < 0.997:
         at = rng.randrange(len(record))
         return record[:at] + bytes([rng.choice((0, 1, 255, rng.randrange(256)))]) + record[at + 1:]
-    return rng.randbytes(13)
+    return rng.randbytes(rights.RECORD.size)
 
 
 # ---- Days

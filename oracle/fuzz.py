@@ -72,10 +72,9 @@ def wait_for_each(program, folder, seed):
     (Path(folder) / "rights.rbk").write_bytes(image)
     child = subprocess.Popen([program], cwd=folder, stdin=subprocess.PIPE, stdout=subprocess.PIPE, bufsize=0)
     try:
-        for number, wanted in enumerate(expected.splitlines(keepends=True)):
-            record = events[13 * number:13 * number + 13]
+        for number, (record, wanted) in enumerate(zip(rights.records_in(events), expected.splitlines(keepends=True))):
             child.stdin.write(record)
-            if len(record) < 13:
+            if len(record) < rights.RECORD.size:
                 child.stdin.close()
             if not select.select([child.stdout], [], [], 5)[0]:
                 return f"day {seed}, event {number + 1}: no answer within 5 seconds while the input is open"
@@ -104,7 +103,8 @@ def difference(seed, expected, got, events):
         line = got[number] if number < len(got) else "(nothing)"
         if wanted != line:
             break
-    event = rights.decode(events[13 * number:13 * number + 13])
+    records = rights.records_in(events)
+    event = rights.decode(records[number]) if number < len(records) else "no event"
     return (f"day {seed}, event {number + 1}: {event}\n  expected {wanted}\n  got      {line}\n"
             + keep(seed, day(seed), got))
 

@@ -3,10 +3,10 @@
 Each case is a base book or its image with a few small edits, and the answer that document 01 gives, which is
 written here by hand. The reader of rights.py must agree with every one of them, or nothing is written. The script writes
 
-  crates/images/data/cases.bin   for each case its length in 16 bits, big-endian, then its bytes, to the end of file
-  crates/images/stdout           for each case one line: the number of a refusal, or 0, a space, and the bytes that
+  crates/test_images/data/cases.bin   for each case its length in 16 bits, big-endian, then its bytes, to the end of file
+  crates/test_images/stdout           for each case one line: the number of a refusal, or 0, a space, and the bytes that
                                  the book read from it is written back as, in hexadecimal
-  crates/image_speed/data/full.rbk  one image of the greatest size
+  crates/bench_image/data/full.rbk  one image of the greatest size
   oracle/images.txt              for each case its answer, its length, its name, its base and its edits
 
 Edits are words: `time N`; `asset I FIELD N`, `entry I FIELD N` and `player I FIELD N` set a field of a record;
@@ -479,9 +479,9 @@ def main():
             lines.append(f"{code}\n")
         told = edits.strip("; ")
         listing.append(f"{number:3} {answer:2} {len(bytes_in):5} {name} [{base.__name__}{': ' + told if told else ''}]\n")
-    write_file(CRATES / "images" / "data" / "cases.bin", data)
-    write_file(CRATES / "images" / "stdout", "".join(lines).encode())
-    write_file(CRATES / "image_speed" / "data" / "full.rbk", rights.write(full()))
+    write_file(CRATES / "test_images" / "data" / "cases.bin", data)
+    write_file(CRATES / "test_images" / "stdout", "".join(lines).encode())
+    write_file(CRATES / "bench_image" / "data" / "full.rbk", rights.write(full()))
     write_file(HERE / "images.txt", ("case, answer, length, name [base: edits]\n" + "".join(listing)).encode())
     print(f"{len(CASES)} cases, {sum(1 for c in CASES if c[0] == 0)} accepted, {len(data)} bytes")
 

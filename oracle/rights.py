@@ -4,6 +4,7 @@ It holds the book, reads and writes its image, decodes an event record and answe
 It shares nothing with the proved program, so an answer on which both agree was reached twice.
 """
 
+import struct
 from dataclasses import dataclass, field
 
 LATEST = 4_000_000_000      # the last time that a book or an event may have
@@ -84,6 +85,10 @@ class Book:
             if asset.number == number:
                 return asset
         return None
+
+    def users(self, position):
+        """The players that have the entry at this position open."""
+        return [player for player in self.players if player.open and player.open_entry == position]
 
 
 @dataclass(frozen=True)
@@ -246,14 +251,48 @@ def stop(book, player, t):
     return (0, position, t)
 
 
-# ---- An event record of 13 bytes
+# ---- Bytes: big-endian fields, one behind the other
+
+RECORD_FIELDS = [("player", 1), ("number", 4), ("operation", 1), ("asset", 2), ("kind", 1), ("time", 4)]
+ASSET_FIELDS = [("number", 2), ("inherit", 2), ("key", 1)]
+ENTRY_FIELDS = [
+    ("object", 2), ("asset", 2), ("kind", 1), ("flags", 1), ("count", 4), ("timed", 4), ("timer", 4), ("start", 4),
+    ("end", 4), ("interval", 4), ("accumulated", 4), ("used_count", 4), ("used_timed", 4), ("first", 4),
+    ("used_seconds", 4), ("started", 1)]
+PLAYER_FIELDS = [
+    ("number", 4), ("operation", 1), ("asset", 2), ("kind", 1), ("code", 1), ("entry", 1), ("answer_until", 4),
+    ("open", 1), ("open_entry", 1), ("begin", 4), ("until", 4)]
+
+
+class Layout:
+    def __init__(self, make, fields):
+        self.make, self.names = make, [name for name, _ in fields]
+        self.packed = struct.Struct(">" + "".join({1: "B", 2: "H", 4: "I"}[width] for _, width in fields))
+        self.size = self.packed.size
+
+    def read(self, data, at=0):
+        return self.make(**dict(zip(self.names, self.packed.unpack_from(data, at))))
+
+    def written(self, item):
+        return self.packed.pack(*(getattr(item, name) for name in self.names))
+
+
+RECORD = Layout(Event, RECORD_FIELDS)
+ASSET, ENTRY, PLAYER = Layout(Asset, ASSET_FIELDS), Layout(Entry, ENTRY_FIELDS), Layout(Player, PLAYER_FIELDS)
+
+
+# ---- An event record
+
+def records_in(data):
+    """The records, the last one perhaps cut short."""
+    return [data[at:at + RECORD.size] for at in range(0, len(data), RECORD.size)]
+
 
 def decode(record):
     """The event in a record, or the number 6, 2 or 1 that turns it away."""
-    if len(record) != 13:
+    if len(record) != RECORD.size:
         return 6
-    event = Event(record[0], number_of(record[1:5]), record[5], number_of(record[6:8]), record[8],
-                  number_of(record[9:13]))
+    event = RECORD.read(record)
     if event.player >= PLAYERS:
         return 2
     if not request_is_good(event.operation, event.asset, event.kind):
@@ -262,8 +301,7 @@ def decode(record):
 
 
 def encode(event):
-    return (bytes([event.player]) + event.number.to_bytes(4, "big") + bytes([event.operation])
-            + event.asset.to_bytes(2, "big") + bytes([event.kind]) + event.time.to_bytes(4, "big"))
+    return RECORD.written(event)
 
 
 def answer_record(book, record):
@@ -278,24 +316,12 @@ def run(image, records):
     code, book = read(image)
     if code != 0:
         return f"{code}\n"
-    lines = []
-    for at in range(0, len(records), 13):
-        lines.append("%d %d %d\n" % answer_record(book, records[at:at + 13]))
-    return "".join(lines)
+    return "".join("%d %d %d\n" % answer_record(book, record) for record in records_in(records))
 
 
 # ---- The image
 
 HEADER = 11
-ASSET_FIELDS = [("number", 2), ("inherit", 2), ("key", 1)]
-ENTRY_FIELDS = [
-    ("object", 2), ("asset", 2), ("kind", 1), ("flags", 1), ("count", 4), ("timed", 4), ("timer", 4), ("start", 4),
-    ("end", 4), ("interval", 4), ("accumulated", 4), ("used_count", 4), ("used_timed", 4), ("first", 4),
-    ("used_seconds", 4), ("started", 1)]
-PLAYER_FIELDS = [
-    ("number", 4), ("operation", 1), ("asset", 2), ("kind", 1), ("code", 1), ("entry", 1), ("answer_until", 4),
-    ("open", 1), ("open_entry", 1), ("begin", 4), ("until", 4)]
-ASSET_SIZE, ENTRY_SIZE, PLAYER_SIZE = 5, 51, 24
 
 
 def number_of(data):
@@ -305,10 +331,8 @@ def number_of(data):
 def write(book):
     data = b"RBK" + (1).to_bytes(2, "big") + bytes([len(book.assets), len(book.entries)])
     data += book.time.to_bytes(4, "big")
-    for fields, records in ((ASSET_FIELDS, book.assets), (ENTRY_FIELDS, book.entries), (PLAYER_FIELDS, book.players)):
-        for record in records:
-            for name, width in fields:
-                data += getattr(record, name).to_bytes(width, "big")
+    for layout, items in ((ASSET, book.assets), (ENTRY, book.entries), (PLAYER, book.players)):
+        data += b"".join(map(layout.written, items))
     return data
 
 
@@ -323,12 +347,12 @@ def read(data):
     assets, entries, time = data[5], data[6], number_of(data[7:11])
     if assets > MOST or entries > MOST or time > LATEST:
         return 23, None
-    if len(data) != HEADER + ASSET_SIZE * assets + ENTRY_SIZE * entries + PLAYER_SIZE * PLAYERS:
+    if len(data) != HEADER + ASSET.size * assets + ENTRY.size * entries + PLAYER.size * PLAYERS:
         return 20, None
     book, at = Book(time), HEADER
-    book.assets, at = take(data, at, Asset, ASSET_FIELDS, assets)
-    book.entries, at = take(data, at, Entry, ENTRY_FIELDS, entries)
-    book.players, at = take(data, at, Player, PLAYER_FIELDS, PLAYERS)
+    book.assets, at = take(data, at, ASSET, assets)
+    book.entries, at = take(data, at, ENTRY, entries)
+    book.players, at = take(data, at, PLAYER, PLAYERS)
     if not assets_are_good(book):
         return 24, None
     if not all(entry_is_good(book, entry) for entry in book.entries):
@@ -340,21 +364,20 @@ def read(data):
     return 0, book
 
 
-def take(data, at, make, fields, how_many):
-    records = []
-    for _ in range(how_many):
-        record = make()
-        for name, width in fields:
-            setattr(record, name, number_of(data[at:at + width]))
-            at += width
-        records.append(record)
-    return records, at
+def take(data, at, layout, how_many):
+    end = at + layout.size * how_many
+    return [layout.read(data, each) for each in range(at, end, layout.size)], end
 
 
 def assets_are_good(book):
     numbers = [asset.number for asset in book.assets]
     return (0 not in numbers and len(set(numbers)) == len(numbers)
             and all(asset.key in (0, 1) for asset in book.assets))
+
+
+def all_within(entry, bounds):
+    """Whether each flagged number is within its bounds, and every other is 0."""
+    return all(least <= number <= greatest if entry.has(flag) else number == 0 for flag, number, least, greatest in bounds)
 
 
 def entry_is_good(book, entry):
@@ -366,11 +389,8 @@ def entry_is_good(book, entry):
         (COUNT, entry.count, 1, 1_000_000), (TIMED, entry.timed, 1, 1_000_000), (TIMED, entry.timer, 0, 1_000_000),
         (START, entry.start, 0, LATEST), (END, entry.end, 0, LATEST), (INTERVAL, entry.interval, 1, 100_000_000),
         (ACCUMULATED, entry.accumulated, 1, 100_000_000)]
-    for flag, limit, least, greatest in limits:
-        if entry.has(flag) and not least <= limit <= greatest:
-            return False
-        if not entry.has(flag) and limit != 0:
-            return False
+    if not all_within(entry, limits):
+        return False
     if entry.has(START) and entry.has(END) and entry.start > entry.end:
         return False
     if entry.is_momentary() and (entry.has(ACCUMULATED) or entry.timer != 0):
@@ -413,16 +433,13 @@ def open_use_is_good(book, player):
 
 def meters_are_good(book, position):
     entry = book.entries[position]
-    uses = [player for player in book.players if player.open and player.open_entry == position]
+    uses = book.users(position)
     seconds = sum(player.until - player.begin for player in uses)
     meters = [
         (COUNT, entry.used_count, len(uses), entry.count), (TIMED, entry.used_timed, len(uses), entry.timed),
         (ACCUMULATED, entry.used_seconds, seconds, entry.accumulated)]
-    for flag, used, least, greatest in meters:
-        if entry.has(flag) and not least <= used <= greatest:
-            return False
-        if not entry.has(flag) and used != 0:
-            return False
+    if not all_within(entry, meters):
+        return False
     if entry.started > 1 or (entry.started == 0 and entry.first != 0) or entry.first > book.time:
         return False
     return entry.has(INTERVAL) or entry.started == 0

@@ -45,7 +45,7 @@ def long_run(rng, book):
     records = []
     waiting = []
     while len(records) < RECORDS:
-        if records and len(records) % (READ // 13) == 0:
+        if records and len(records) % (READ // rights.RECORD.size) == 0:
             waiting = list(resends(book))
         event = waiting.pop(0) if waiting else days.next_event(rng, book, AROUND)
         record = rights.encode(event)
@@ -73,7 +73,7 @@ def main():
     text = store("run_long", image, records)
     codes = [line.split()[0] for line in text.split("\n")[:-1]]
     print("  " + ", ".join(f"{codes.count(code)} of {code}" for code in sorted(set(codes), key=int)))
-    store("run_over", image + b"\0", records[:13 * 5])
+    store("run_over", image + b"\0", records[:rights.RECORD.size * 5])
 
 
 if __name__ == "__main__":

@@ -1,5 +1,5 @@
 #!/usr/bin/env python3
-"""Tests of tools/book.py: messages, files kept, round trips, what is left, the book after a day.
+"""Tests of tools/book.py: messages, files kept, round trips, what is left, why a begin is refused, the book after a day.
 
     python3 tests/book.py [BOOKS [PART ..]]
 
@@ -25,7 +25,7 @@ sys.path.insert(0, str(ROOT / "tools"))
 sys.path.insert(0, str(ROOT / "oracle"))
 import days
 import rights
-from books import library, records, state, texts, words
+from books import library, records, state, texts, why, words
 from rights import LATEST, Asset, Book, Entry, Event
 
 AFTERNOON = ROOT / "examples" / "afternoon"
@@ -214,9 +214,9 @@ def test_inputs(folder):
     shutil.copy(AFTERNOON / "book.txt", text)
     shutil.copy(AFTERNOON / "events.bin", events)
     out = folder / "out"
-    for command in ("show", "text", "left", "diff", "explain", "make", "events", "after"):
+    for command in ("show", "text", "left", "why", "diff", "explain", "make", "events", "after"):
         rest = {"diff": [image], "explain": [AFTERNOON / "expected.txt"], "make": [out], "events": [out],
-                "after": [events, out]}.get(command, [])
+                "after": [events, out], "why": [0, 1, "play"]}.get(command, [])
         refused(f"{command}: missing file", "there is no such file", command, folder / "none", *rest)
         refused(f"{command}: folder", "this is a folder", command, folder, *rest)
         refused(f"{command}: empty name", "there is no such file", command, "", *rest)
@@ -236,13 +236,18 @@ def test_inputs(folder):
     refused("explain: both from standard input", "only one", "explain", "-", "-")
     refused("explain: text for records", "this is a text", "explain", AFTERNOON / "events.txt", AFTERNOON / "expected.txt")
     refused("explain: answers are bytes", "this is not a text file", "explain", events, events)
-    for command in ("show", "text", "left"):
-        refused(f"{command}: text for an image", "this is a text; `book.py make`", command, text)
-        refused(f"{command}: empty file", "refuses this image with 20", command, "/dev/null")
+    for command, *rest in (["show"], ["text"], ["left"], ["why", 0, 1, "play"]):
+        refused(f"{command}: text for an image", "this is a text; `book.py make`", command, text, *rest)
+        refused(f"{command}: empty file", "refuses this image with 20", command, "/dev/null", *rest)
+    refused("why: no such player", "the player is 16, but 15 is the greatest", "why", image, 16, 1, "play")
+    refused("why: a name for a player", "the player should be a number, not `x`", "why", image, "x", 1, "play")
+    refused("why: no such asset", "65535 is the greatest", "why", image, 0, 65536, "play")
+    refused("why: no such kind", "`stop` is not a known kind; known are: play", "why", image, 0, 1, "stop")
+    refused("why: bad time", "--at: the time should be seconds", "why", image, 0, 1, "play", "--at", "noon")
     refused("make: an image for text", "`book.py text", "make", image, out)
     refused("make: bytes for text", "this is not a text file", "make", events, out)
     refused("events: an image for text", "this is a book image", "events", image, out)
-    refused("unknown command", "`print` is not a command; the commands are: left, after", "print", image)
+    refused("unknown command", "`print` is not a command; the commands are: left, why, after", "print", image)
     refused("command with a capital", "`Show` is not a command", "Show", image)
     refused("left: no time", "usage: book.py left", "left", image, "--at")
     refused("left: bad time", "--at: the time should be seconds", "left", image, "--at", "noon")
@@ -415,7 +420,7 @@ def wild_book(rng):
         if rng.random() < 0.6:
             wild_player(rng, book, player)
     for position, entry in enumerate(book.entries):
-        uses = [p for p in book.players if p.open and p.open_entry == position]
+        uses = book.users(position)
         seconds = sum(p.until - p.begin for p in uses)
         if rng.random() < 0.2:      # to be used up often enough
             entry.used_count, entry.used_timed, entry.used_seconds = entry.count, entry.timed, entry.accumulated
@@ -481,8 +486,8 @@ def played_book(rng, seed):
 
 
 def play(book, events):
-    for at in range(0, len(events), 13):
-        rights.answer_record(book, events[at:at + 13])
+    for record in rights.records_in(events):
+        rights.answer_record(book, record)
 
 
 def random_books(how_many):
@@ -667,15 +672,19 @@ player 3: number 1, begin 1 play, granted 0 1040, open 0 980 1040
     wanted = """At 1970-01-01 00:16:40 (1000), UTC, as asked
 entry 0: play of asset 9 (for 1); count 1 of 2 used, 1 left; open: player 3 until 1970-01-01 00:17:20; can be granted, no end
 entry 1: play of asset 1; no count and no seconds to use up; open: nobody; can be granted, no end
-entry 2: play of asset 7; no count and no seconds to use up; open: nobody; nobody can use it: asset 7 is illegal (it inherits but has no key)
+entry 2: play of asset 7; no count and no seconds to use up; open: nobody; nobody can use it: asset 7 is illegal \
+(it inherits but has no key)
 entry 3: play of asset 8; count 0 of 2 used, 2 left; open: nobody; nobody can use it: nothing with a key inherits from asset 8
 entry 4: play of asset 1; no count and no seconds to use up; open: nobody; nobody can use it: it starts 1970-01-01 00:33:20
 entry 5: play of asset 1; no count and no seconds to use up; open: nobody; nobody can use it: it ended 1970-01-01 00:16:39
-entry 6: play of asset 1; no count and no seconds to use up; open: nobody; can be granted, ends 1 h after its first use, at the latest 1970-01-01 02:30:00
+entry 6: play of asset 1; no count and no seconds to use up; open: nobody; can be granted, \
+ends 1 h after its first use, at the latest 1970-01-01 02:30:00
 entry 7: play of asset 1; no count and no seconds to use up; open: nobody; can be granted, ends 1970-01-01 01:14:59
 entry 8: play of asset 1; no count and no seconds to use up; open: nobody; nobody can use it: its interval ended 1970-01-01 00:16:39
-entry 9: play of asset 1; seconds 60 of 60 used, 0 left (0 s); open: player 0 until 1970-01-01 00:17:40; nobody can use it: the seconds are used up (a stop of an open use gives some back)
-entry 10: display of asset 1; count 3 of 3 used, 0 left; timed count 1 of 1 used, 0 left (a use counts from 30 s on); open: nobody; nobody can use it: the count is used up and the timed count is used up
+entry 9: play of asset 1; seconds 60 of 60 used, 0 left (0 s); open: player 0 until 1970-01-01 00:17:40; \
+nobody can use it: the seconds are used up (a stop of an open use gives some back)
+entry 10: display of asset 1; count 3 of 3 used, 0 left; timed count 1 of 1 used, 0 left (a use counts from 30 s on); open: nobody; \
+nobody can use it: the count is used up and the timed count is used up
 """
     check("left: a book with every case", done.out.decode() == wanted, done.out.decode())
     done = call("left", "--at", "1970-01-01", "00:16:40", "(1000)", image)
@@ -693,6 +702,121 @@ entry 10: display of asset 1; count 3 of 3 used, 0 left; timed count 1 of 1 used
     check("show: an entry on a parent without heirs", "play of asset 8: nobody can use it at" in out, out)
 
 
+# ---- why
+
+def test_why(folder, how_many):
+    """The answer, the entries listed and what stands against each are those of the second program."""
+    seen = {}
+    for seed, rng, book in random_books(how_many):
+        image, parts = rights.write(book), []
+        for _ in range(3):
+            t = min(LATEST, max(book.time, rng.choice((book.time, book.time + 30, *days.edges(book, book.time)))))
+            player, kind = rng.randrange(rights.PLAYERS), rng.randint(1, 5)
+            entry = rng.choice(book.entries) if book.entries else None
+            asset = rng.choice([rng.randrange(9)] + [asset.number for asset in book.assets])
+            if entry and rng.random() < 0.7:
+                kind = entry.kind
+            first, *lines = why.why_lines(image, copy_of(book), player, asset, kind, t)
+            after = copy_of(book)
+            last = book.players[player].number
+            answer = rights.step(after, Event(player, (last + 1) % 2**32, rights.BEGIN, asset, kind, t))
+            seen[answer[0]] = seen.get(answer[0], 0) + 1
+            parts.append((first.startswith(f"The answer would be {answer[0]}, "), f"{answer}: {first}"))
+            parts += why_parts(state.settled(book, t), asset, kind, t, answer, lines)
+        check_all(f"why, book {seed}", parts)
+    check("why: every answer is met", {0, 10, 11, 12, 13} <= set(seen), str(seen))
+
+
+def why_parts(book, asset, kind, t, answer, lines):
+    found = book.asset(asset)
+    suitable = rights.suitable_entries(book, found, kind) if found is not None and found.key else []
+    listed = [int(re.match("  entry ([0-9]+) ", line)[1]) for line in lines]
+    yield listed == suitable, f"suitable are {suitable}: {lines}"
+    for position, line in zip(suitable, lines):
+        entry, said = book.entries[position], line.split("): ", 1)[1].removesuffix(" (a stop of an open use gives some back)")
+        if rights.is_grantable(entry, t):
+            chosen = "would be chosen" if position == answer[1] else f"entry {answer[1]} goes first"
+            yield said == (f"can be granted; {chosen}" if answer[0] == 0 else "nothing stands against it"), line
+            continue
+        wanted = [words for words, stands in (
+            (f"count: {entry.count} of {entry.count} used", entry.has(rights.COUNT) and entry.used_count == entry.count),
+            (f"timed count: {entry.timed} of {entry.timed} used", entry.has(rights.TIMED) and entry.used_timed == entry.timed),
+            (f"not before {words.date(entry.start)}", entry.has(rights.START) and t < entry.start),
+            (f"not after {words.date(entry.end)}", entry.has(rights.END) and entry.end < t),
+            (f"interval over since {words.date(entry.first + entry.interval)}",
+             entry.has(rights.INTERVAL) and entry.started and entry.first + entry.interval <= t),
+            (f"seconds: {entry.accumulated} of {entry.accumulated} used",
+             entry.has(rights.ACCUMULATED) and entry.used_seconds == entry.accumulated)) if stands]
+        yield said == "; ".join(wanted), f"wanted {wanted}: {line}"
+
+
+def test_why_words(folder):
+    """One book with every case, word for word."""
+    path, image = folder / "cases.txt", folder / "cases.rbk"
+    path.write_text("""time 1000
+asset 1 key, inherits 9
+asset 2 key
+asset 7 inherits 9
+asset 9 parent
+entry 0: object 1, asset 9, play, count 2, used count 2
+entry 1: object 1, asset 1, play, interval 1h
+entry 2: object 2, asset 1, play, end 9000
+entry 3: object 2, asset 1, play, start 2000, count 1, used count 1
+entry 4: object 1, asset 1, play, end 999
+entry 5: object 1, asset 1, play, interval 100, first 900
+entry 6: object 1, asset 1, play, accumulated 60, used accumulated 60
+entry 7: object 1, asset 1, display, timed 1, timer 30, used timed 1
+player 0: number 1, begin 1 play, granted 6 1060, open 6 1000 1060
+player 1: number 4294967295, stop, refused 14
+""")
+    call("make", path, image)
+    cases = (((3, 1, "play", "--at", "1970-01-01 00:16:40 (1000)"), """\
+Player 3 asks to play asset 1 at 1970-01-01 00:16:40 (1000), UTC, as asked.
+The answer would be 0, granted by entry 2 until 1970-01-01 00:17:40 (1060).
+  entry 0 (inherited from 9, rights object 1): count: 2 of 2 used
+  entry 1 (its own, rights object 1): can be granted; entry 2 goes first
+  entry 2 (its own, rights object 2): can be granted; would be chosen
+  entry 3 (its own, rights object 2): count: 1 of 1 used; not before 1970-01-01 00:33:20
+  entry 4 (its own, rights object 1): not after 1970-01-01 00:16:39
+  entry 5 (its own, rights object 1): interval over since 1970-01-01 00:16:40
+  entry 6 (its own, rights object 1): seconds: 60 of 60 used (a stop of an open use gives some back)
+"""), ((3, 1, "display", "--at", "5"), """\
+Player 3 asks to display asset 1 at 1970-01-01 00:16:40 (1000), UTC, the book's time (at 1970-01-01 00:00:05 (5), as asked, \
+it would be turned away with 5).
+The answer would be 13, refused: every entry for it is used up or out of its dates.
+  entry 7 (its own, rights object 1): timed count: 1 of 1 used
+"""), ((0, 1, "display", "--at=1059"), """\
+Player 0 asks to display asset 1 at 1970-01-01 00:17:39 (1059), UTC, as asked.
+The answer would be 11, refused: the player has a use open: entry 6, since 1970-01-01 00:16:40, until 1970-01-01 00:17:40.
+  entry 7 (its own, rights object 1): timed count: 1 of 1 used
+"""), ((3, 2, "play", "--at=1059"), """\
+Player 3 asks to play asset 2 at 1970-01-01 00:17:39 (1059), UTC, as asked.
+The answer would be 12, refused: the book has no entry of this kind for the asset: it has none of any kind.
+"""), ((3, 1, "print", "--at=1059"), """\
+Player 3 asks to print asset 1 at 1970-01-01 00:17:39 (1059), UTC, as asked.
+The answer would be 12, refused: the book has no entry of this kind for the asset: it has play, display.
+"""), ((1, 1, "play", "--at=9000"), """\
+Player 1 asks to play asset 1 at 1970-01-01 02:30:00 (9000), UTC, as asked.
+The answer would be 3, turned away: its number is not the player's next one: it has used all of them, up to 4294967295.
+  entry 0 (inherited from 9, rights object 1): count: 2 of 2 used
+  entry 1 (its own, rights object 1): nothing stands against it
+  entry 2 (its own, rights object 2): nothing stands against it
+  entry 3 (its own, rights object 2): count: 1 of 1 used
+  entry 4 (its own, rights object 1): not after 1970-01-01 00:16:39
+  entry 5 (its own, rights object 1): interval over since 1970-01-01 00:16:40
+  entry 6 (its own, rights object 1): seconds: 60 of 60 used
+"""))
+    for args, wanted in cases:
+        done = call("why", image, *args)
+        check(f"why: {args}", done.status == 0 and done.out.decode() == wanted, done.out.decode() or done)
+    for asset, reason in ((5, "is not in the book"), (9, "is a parent"), (7, "has no key")):
+        done = call("why", image, 3, asset, "play", "--at=1000")
+        wanted = f"refused: the asset is not in the book, or has no key: asset {asset} {reason}.\n"
+        check(f"why: asset {asset}", done.out.decode().endswith(wanted), done)
+    done = call("why", "-", 3, 1, "play", stdin=image.read_bytes())
+    check("why: standard input, this machine's clock", b"UTC, this machine's clock.\n" in done.out, done)
+
+
 # ---- after
 
 def test_after(folder, how_many):
@@ -703,9 +827,9 @@ def test_after(folder, how_many):
         data, stream, _ = days.make_day(seed, random.Random(seed).choice((0, 1, 60, 300)), None if seed % 3 else "crowd")
         compare_after(folder, f"after: day {seed}", data or b"", stream)
     data, stream, _ = days.make_day(4, 17_000, "cabins")
-    compare_after(folder, "after: a day of four blocks", data, stream[:13 * 17_000])
-    compare_after(folder, "after: a day of four blocks, cut short", data, stream[:13 * 16_999 + 5])
-    compare_after(folder, "after: a day of just one block", data, stream[:13 * 5000])
+    compare_after(folder, "after: a day of four blocks", data, stream[:rights.RECORD.size * 17_000])
+    compare_after(folder, "after: a day of four blocks, cut short", data, stream[:rights.RECORD.size * 16_999 + 5])
+    compare_after(folder, "after: a day of just one block", data, stream[:rights.RECORD.size * 5000])
     compare_after(folder, "after: a record of printable bytes", data, b"Event records")
 
     named = folder / "named"
@@ -784,7 +908,7 @@ def test_building(folder):
     done = Done(subprocess.run([root / "examples" / "try"], env=able, capture_output=True))
     check("try: prints the day and nothing else", done.out == (AFTERNOON / "try.txt").read_bytes(), done)
     check("try: a line for each thing that is built", re.fullmatch(
-        "building the run program, about 3 minutes .*; log in target/try.log\nbuilding the library .*\nbuilding the program .*\n",
+        "building the run program, about [0-9]+ minutes .*; log in target/try.log\nbuilding the library .*\nbuilding the program .*\n",
         done.err) is not None, done)
     rt.write_text("#!/bin/sh\necho words of the prover\nexit 1\n")
     done = Done(subprocess.run([root / "examples" / "try"], env=able, capture_output=True))
@@ -856,11 +980,12 @@ def test_damage(folder, how_many):
 
 def main():
     how_many = int(sys.argv[1]) if len(sys.argv) > 1 else 300
-    library.build()
+    library.build("after", "why")
     if not RUN.exists():
         sys.exit(f"there is no {RUN}: `rt check run` makes it")
     parts = [(test_lines,), (test_inputs,), (test_forgiving,), (test_times,), (test_files,), (test_streams,),
              (test_round_trips, how_many), (test_diff, how_many), (test_left, how_many), (test_left_words,),
+             (test_why, how_many // 3), (test_why_words,),
              (test_after, how_many // 5), (test_building,), (test_explain,), (test_help,), (test_damage, 2 * how_many)]
     for part, *numbers in parts:
         name = part.__name__.removeprefix("test_")

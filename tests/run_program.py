@@ -122,8 +122,8 @@ def test_each_record_has_its_answer_before_the_next_is_sent():
         program = start(folder, stdin=subprocess.PIPE, stdout=subprocess.PIPE)
         watch = threading.Timer(LIMIT, program.kill)
         watch.start()
-        for number, line in enumerate(wanted):
-            program.stdin.write(SHORT_EVENTS[13 * number:13 * number + 13])
+        for number, (record, line) in enumerate(zip(rights.records_in(SHORT_EVENTS), wanted)):
+            program.stdin.write(record)
             program.stdin.flush()
             same(program.stdout.readline().decode(), line, f"answer {number}")
         program.stdin.close()

@@ -13,7 +13,7 @@
 
 enum { BLOCK = 5000 }; /* records in a block */
 
-static uint8_t image[4096], records[BLOCK * RIGHTS_RECORD], out[RIGHTS_ROOM(sizeof records)];
+static uint8_t image[RIGHTS_LONGEST_IMAGE + 1], records[BLOCK * RIGHTS_RECORD], out[RIGHTS_ROOM(sizeof records)];
 
 static void fail(const char *name)
 {
@@ -36,7 +36,7 @@ int main(int count, char **words)
         return 1;
     }
     FILE *book = opened(words[1], "rb");
-    size_t image_length = fread(image, 1, sizeof image, book); /* a longer file is refused like this part of it */
+    uint64_t image_length = fread(image, 1, sizeof image, book); /* a longer file is refused like this part of it */
     if (ferror(book))
         fail(words[1]);
 
@@ -46,7 +46,7 @@ int main(int count, char **words)
         length = fread(records, 1, sizeof records, stdin); /* less than the block only at the end */
         if (ferror(stdin))
             fail("the events");
-        uint8_t code = rights_answer(image, image_length, records, length, out, sizeof out, &written);
+        uint8_t code = rights_answer(image, sizeof image, &image_length, records, length, out, sizeof out, &written);
         if (code != RIGHTS_OK)
             return code;
         if (fwrite(out, 1, written, stdout) != written)

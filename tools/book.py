@@ -2,6 +2,7 @@
 """Makes and shows the files that the rights server reads. A helper, not proved.
 
     tools/book.py left BOOK [--at TIME]           what is left of each entry, now or at a time, a line for each
+    tools/book.py why BOOK PLAYER ASSET KIND      why a begin would be granted or refused, now or with --at TIME
     tools/book.py after BOOK EVENTS NEXT          the book after these events, into NEXT; prints their answers
     tools/book.py diff BOOK BOOK                  what differs between two books; nothing if they are the same
     tools/book.py show BOOK                       all that a book says, in words
@@ -15,8 +16,9 @@ named - is standard input or output. Nothing is written over an input or over a 
 fails leaves the file that was there.
 
 The server (target/bin/run) only reads its book. `after` gives the book as it is after a day, from the proved library,
-which it builds if it is missing (that needs rt and a C compiler). `left` goes by this machine's clock; uses that
-have ended by then are counted as ended. A time before the book's time is judged at the book's time.
+which it builds if it is missing (that needs rt and a C compiler). `left` and `why` go by this machine's clock; uses
+that have ended by then are counted as ended. A time before the book's time is judged at the book's time. `why` tells
+the answer that a begin would get and, for each entry that is suitable, what stands against it, both from that library.
 
 Exit status: 0; 1 from `diff` if the books differ; 2 if something is wrong.
 
@@ -62,12 +64,14 @@ from books.library import after
 from books.records import events, explain
 from books.state import diff, left, show
 from books.texts import make, text
+from books.why import why
 from books.words import Trouble
 
 COMMANDS = {
-    "left": (left, "BOOK [--at TIME]"), "after": (after, "BOOK EVENTS NEXT"), "diff": (diff, "BOOK BOOK"),
-    "show": (show, "BOOK"), "explain": (explain, "EVENTS ANSWERS"), "make": (make, "BOOK.TXT BOOK"),
-    "text": (text, "BOOK"), "events": (events, "EVENTS.TXT EVENTS")}
+    "left": (left, "BOOK [--at TIME]"), "why": (why, "BOOK PLAYER ASSET KIND [--at TIME]"),
+    "after": (after, "BOOK EVENTS NEXT"), "diff": (diff, "BOOK BOOK"), "show": (show, "BOOK"),
+    "explain": (explain, "EVENTS ANSWERS"), "make": (make, "BOOK.TXT BOOK"), "text": (text, "BOOK"),
+    "events": (events, "EVENTS.TXT EVENTS")}
 
 
 def run(words):
@@ -80,7 +84,7 @@ def run(words):
         raise Trouble(f"`{name}` is not a command; the commands are: {', '.join(COMMANDS)} (and --help)")
     command, usage = COMMANDS[name]
     options = {}
-    if name == "left":
+    if name in ("left", "why"):
         words, options = take_time(words)
     wanted = usage.split(" [")[0].split()
     if len(words) != len(wanted) or any(word.startswith("--") for word in words):

@@ -11,6 +11,7 @@
 pub const RECORD: usize = 13;
 /// The longest line of an answer, including its line feed.
 pub const LINE: usize = 19;
+/// Room for any next image.
 pub const LONGEST_IMAGE: usize = 3979;
 /// Bytes of stack that are enough for any call (`docs/EMBEDDING.md`).
 pub const STACK: usize = 262_144;
@@ -20,9 +21,9 @@ pub const NO_LIMIT: u32 = u32::MAX;
 /// Why a call was refused. If it was, no byte of any buffer has changed.
 #[derive(Clone, Copy, Debug, PartialEq, Eq)]
 pub enum Refused {
-    /// The image breaks a rule: 20 to 27 of document 01's table.
+    /// The image breaks a rule: 20 to 27 of document 01's table. 20 too if its length is more than its buffer has.
     Image(u8),
-    /// `out` is shorter than `room(records.len())`.
+    /// `out` is shorter than `room(records.len())`, or the image's buffer has no room for the next image.
     ShortOut,
     /// The book has no asset, entry or player at that position.
     NotThere,
@@ -94,6 +95,17 @@ pub struct Left {
     pub seconds: u32,
 }
 
+/// What stands against granting an entry: 1 for each ground that stands, otherwise 0.
+#[derive(Clone, Copy, Debug, PartialEq, Eq)]
+pub struct Grounds {
+    pub count_spent: u32,
+    pub timed_spent: u32,
+    pub before_start: u32,
+    pub after_end: u32,
+    pub interval_over: u32,
+    pub seconds_spent: u32,
+}
+
 /// The last event taken from a player with its answer (number 0: none yet), and its open use.
 #[derive(Clone, Copy, Debug, PartialEq, Eq)]
 pub struct Player {
@@ -117,7 +129,8 @@ mod library {
         pub fn rights_check(image: *const u8, image_length: usize) -> u8;
         pub fn rights_answer(
             image: *mut u8,
-            image_length: usize,
+            image_room: usize,
+            image_length: *mut u64,
             records: *const u8,
             records_length: usize,
             out: *mut u8,
@@ -126,7 +139,8 @@ mod library {
         ) -> u8;
         pub fn rights_answer_one(
             image: *mut u8,
-            image_length: usize,
+            image_room: usize,
+            image_length: *mut u64,
             player: u8,
             number: u32,
             operation: u8,
@@ -158,6 +172,15 @@ mod library {
             out: *mut u32,
             out_length: usize,
         ) -> u8;
+        pub fn rights_grounds(
+            image: *const u8,
+            image_length: usize,
+            position: u32,
+            player: u8,
+            time: u32,
+            out: *mut u32,
+            out_length: usize,
+        ) -> u8;
         pub fn rights_player(image: *const u8, image_length: usize, player: u32, out: *mut u32, out_length: usize) -> u8;
     }
 }
@@ -182,15 +205,18 @@ pub fn check(image: &[u8]) -> Result<(), Refused> {
     judged(unsafe { library::rights_check(image.as_ptr(), image.len()) })
 }
 
-/// Answers event records from the book in the image, in turn, and leaves the book after the last record in
-/// the image. The answers are lines `code entry until` at the start of `out`; their length is returned.
-pub fn answer(image: &mut [u8], records: &[u8], out: &mut [u8]) -> Result<usize, Refused> {
+/// Answers event records from the book in the image, in turn, and leaves the book after the last record in its place. The image
+/// is the first `length` bytes of the buffer `image`, before and after; what is behind it stays. The answers are lines
+/// `code entry until` at the start of `out`; their length is returned.
+pub fn answer(image: &mut [u8], length: &mut usize, records: &[u8], out: &mut [u8]) -> Result<usize, Refused> {
     let mut written = 0u64;
+    let mut image_length = *length as u64;
     // The borrows guarantee that the slices are valid and do not overlap. The function keeps no pointer.
     let code = unsafe {
         library::rights_answer(
             image.as_mut_ptr(),
             image.len(),
+            &mut image_length,
             records.as_ptr(),
             records.len(),
             out.as_mut_ptr(),
@@ -198,26 +224,38 @@ pub fn answer(image: &mut [u8], records: &[u8], out: &mut [u8]) -> Result<usize,
             &mut written,
         )
     };
+    *length = image_length as usize;
     judged(code).map(|()| written as usize)
 }
 
-/// Like `answer`, with the text in its own buffer. Only the image can be refused.
-pub fn answers(image: &mut [u8], records: &[u8]) -> Result<Vec<u8>, Refused> {
+/// A call on an image with room for any next one, after which it has the length that the call leaves.
+fn with_room<T>(image: &mut Vec<u8>, call: impl FnOnce(&mut [u8], &mut usize) -> T) -> T {
+    let mut length = image.len();
+    image.resize(length.max(LONGEST_IMAGE), 0);
+    let result = call(image, &mut length);
+    image.truncate(length);
+    result
+}
+
+/// Like `answer`, with the text in its own buffer, and the image as long as it is, before and after. Only the image can be refused.
+pub fn answers(image: &mut Vec<u8>, records: &[u8]) -> Result<Vec<u8>, Refused> {
     let mut out = vec![0; room(records.len())];
-    let written = answer(image, records, &mut out)?;
+    let written = with_room(image, |buffer, length| answer(buffer, length, records, &mut out))?;
     out.truncate(written);
     Ok(out)
 }
 
-/// Answers one event from the book in the image, and leaves the book after it in the image: the same step as `answer` does
-/// for the event's record. Only the image can be refused.
-pub fn answer_one(image: &mut [u8], event: Event) -> Result<Answer, Refused> {
+/// Answers one event from the book in the image, and leaves the book after it in its place: the same step as `answer` does
+/// for the event's record. The image is the first `length` bytes of the buffer `image`, before and after.
+pub fn answer_one(image: &mut [u8], length: &mut usize, event: Event) -> Result<Answer, Refused> {
     let mut answer = Answer { code: 0, entry: 0, until: 0 };
+    let mut image_length = *length as u64;
     // The borrows guarantee that what is pointed to is valid and does not overlap. The function keeps no pointer.
     let code = unsafe {
         library::rights_answer_one(
             image.as_mut_ptr(),
             image.len(),
+            &mut image_length,
             event.player,
             event.number,
             event.operation,
@@ -229,7 +267,13 @@ pub fn answer_one(image: &mut [u8], event: Event) -> Result<Answer, Refused> {
             &mut answer.until,
         )
     };
+    *length = image_length as usize;
     judged(code).map(|()| answer)
+}
+
+/// Like `answer_one`, with the image as long as it is, before and after. Only the image can be refused.
+pub fn answer_event(image: &mut Vec<u8>, event: Event) -> Result<Answer, Refused> {
+    with_room(image, |buffer, length| answer_one(buffer, length, event))
 }
 
 /// The record that holds an event's numbers, whether or not they make a legal event.
@@ -272,8 +316,8 @@ pub fn asset(image: &[u8], position: u32) -> Result<Asset, Refused> {
 pub fn entry(image: &[u8], position: u32) -> Result<Entry, Refused> {
     let mut out = [0; 16];
     let code = unsafe { library::rights_entry(image.as_ptr(), image.len(), position, out.as_mut_ptr(), out.len()) };
-    let [object, asset, kind, flags, count, timed, timer, start, end, interval, accumulated, used_count, used_timed, first, used_seconds, started] =
-        out;
+    let [object, asset, kind, flags, count, timed, timer, start, end, interval, accumulated, ..] = out;
+    let [.., used_count, used_timed, first, used_seconds, started] = out;
     judged(code).map(|()| Entry {
         object,
         asset,
@@ -301,6 +345,17 @@ pub fn left(image: &[u8], position: u32, time: u32) -> Result<Left, Refused> {
     let code = unsafe { library::rights_left(image.as_ptr(), image.len(), position, time, out.as_mut_ptr(), out.len()) };
     let [grantable, count, timed, seconds] = out;
     judged(code).map(|()| Left { grantable, count, timed, seconds })
+}
+
+/// What stands against granting the entry at a position to a player, as a begin at that time would find it; for the time see
+/// `left`. Whether the entry is suitable, and whether the player may begin at all, is not judged.
+pub fn grounds(image: &[u8], position: u32, player: u8, time: u32) -> Result<Grounds, Refused> {
+    let mut out = [0; 6];
+    let code = unsafe {
+        library::rights_grounds(image.as_ptr(), image.len(), position, player, time, out.as_mut_ptr(), out.len())
+    };
+    let [count_spent, timed_spent, before_start, after_end, interval_over, seconds_spent] = out;
+    judged(code).map(|()| Grounds { count_spent, timed_spent, before_start, after_end, interval_over, seconds_spent })
 }
 
 /// A player, 0 to 15.

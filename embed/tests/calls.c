@@ -1,4 +1,4 @@
-/* Calls the library on the stored files and prints what the programs of crates/days and crates/images print for them:
+/* Calls the library on the stored files and prints what the programs of crates/test_days and crates/test_images print for them:
  *
  *     calls days N days.bin     the answers of each day, N records per call (0: all of them), the image handed from call to call
  *     calls ones days.bin       the same with rights_answer_one, one event per call (a last record cut short goes through rights_answer)
@@ -6,7 +6,8 @@
  *     calls seen days.bin       what the calls that read an image say of each day's book, before, during and after the day
  *     calls seen-images cases.bin    the same for each stored image; embed/tests/seen.py prints both from the second program
  *
- * It also checks what every call promises: bytes after the text stay, a refused call changes no byte of any buffer.
+ * It also checks what every call promises: bytes after the text and after the next image stay, a length above the image's room
+ * is refused, a refused call changes no byte of any buffer and no length.
  * It exits with status 1 at the first violation. */
 #include <stdio.h>
 #include <stdlib.h>
@@ -14,10 +15,10 @@
 
 #include "../rights.h"
 
-enum { LONGEST = 70000, ROOM = 110000, BEHIND = 64, FILL = 0xa5 };
+enum { LONGEST = 70000, ROOM = 110000, SPARE = 5, BEHIND = 64, FILL = 0xa5 };
 
 /* Each has more bytes than are ever lent, so that a write past the end is noticed. */
-static uint8_t image[LONGEST + BEHIND], image_before[LONGEST + BEHIND];
+static uint8_t image[LONGEST + SPARE + BEHIND], image_before[LONGEST + SPARE + BEHIND];
 static uint8_t records[LONGEST + BEHIND];
 static uint8_t out[ROOM + BEHIND], out_before[ROOM + BEHIND];
 static const uint64_t UNWRITTEN = 0x1122334455667788u;
@@ -47,38 +48,48 @@ static void fill(FILE *f, uint8_t *buffer, size_t length)
         fail("a stored file is cut short or has too long a part");
 }
 
-/* One call; everything it must not touch is compared before and after. Returns the code, and the text's length. */
-static uint8_t call(size_t image_length, const uint8_t *from, size_t length, size_t room, uint64_t *written)
+/* One call; everything it must not touch is compared before and after. Returns the code, the next image's length and the
+ * text's. */
+static uint8_t call(size_t image_room, size_t *image_length, const uint8_t *from, size_t length, size_t room,
+                    uint64_t *written)
 {
-    size_t all_out = room + BEHIND, all_image = image_length + BEHIND;
+    size_t all_out = room + BEHIND, all_image = image_room + BEHIND;
+    uint64_t next_length = *image_length;
     memset(out, FILL, all_out);
     memcpy(out_before, out, all_out);
     memcpy(image_before, image, all_image);
     *written = UNWRITTEN;
-    uint8_t code = rights_answer(image, image_length, from, length, out, room, written);
+    uint8_t code = rights_answer(image, image_room, &next_length, from, length, out, room, written);
     size_t text = code == RIGHTS_OK ? (size_t)*written : 0;
-    size_t book = code == RIGHTS_OK ? image_length : 0;
-    if (text > room)
-        fail("more text than room");
+    size_t book = code == RIGHTS_OK ? (size_t)next_length : 0;
+    if (text > room || book > image_room)
+        fail("more text than room, or a longer image");
     if (memcmp(out + text, out_before + text, all_out - text) != 0)
         fail("a byte behind the text was touched");
     if (memcmp(image + book, image_before + book, all_image - book) != 0)
         fail("a byte of a refused image, or one behind an image, was touched");
-    if (code != RIGHTS_OK && *written != UNWRITTEN)
-        fail("a refused call set the length");
-    if (rights_check(image, image_length) != (code == RIGHTS_SHORT_OUT ? RIGHTS_OK : code))
+    if (code != RIGHTS_OK && (*written != UNWRITTEN || next_length != *image_length))
+        fail("a refused call set a length");
+    *image_length = (size_t)next_length;
+    if (*image_length > image_room) {
+        if (code != RIGHTS_IMAGE_LENGTH)
+            fail("a length above the room was not refused");
+    } else if (rights_check(image, *image_length) != (code == RIGHTS_SHORT_OUT ? RIGHTS_OK : code))
         fail("the check and the answer do not agree on an image");
     return code;
 }
 
-/* One call with just enough room, after one with a byte too little. */
-static uint8_t call_twice(size_t image_length, const uint8_t *from, size_t length, uint64_t *written)
+/* One call with just enough room for the text and some to spare for the image, after some with a byte too little. */
+static uint8_t call_again(size_t *image_length, const uint8_t *from, size_t length, uint64_t *written)
 {
     size_t room = RIGHTS_ROOM(length);
-    uint8_t refused = rights_check(image, image_length);
-    if (room > 0 && call(image_length, from, length, room - 1, written) != (refused ? refused : RIGHTS_SHORT_OUT))
+    uint8_t refused = rights_check(image, *image_length);
+    if (*image_length > 0)
+        call(*image_length - 1, image_length, from, length, room, written);
+    if (room > 0
+        && call(*image_length, image_length, from, length, room - 1, written) != (refused ? refused : RIGHTS_SHORT_OUT))
         fail("a buffer that is a byte too short was not refused");
-    return call(image_length, from, length, room, written);
+    return call(*image_length + SPARE, image_length, from, length, room, written);
 }
 
 static void days(FILE *f, size_t each)
@@ -94,7 +105,7 @@ static void days(FILE *f, size_t each)
         size_t at = 0, step = each ? each * RIGHTS_RECORD : length + 1;
         do {
             size_t part = length - at < step ? length - at : step;
-            uint8_t code = call_twice(image_length, records + at, part, &written);
+            uint8_t code = call_again(&image_length, records + at, part, &written);
             if (code != RIGHTS_OK) {
                 printf("%d\n", code);
                 break;
@@ -111,7 +122,7 @@ static void images(FILE *f)
     while (read_length(f, 2, &length)) {
         uint64_t written;
         fill(f, image, length);
-        uint8_t code = call(length, records, 0, 0, &written);
+        uint8_t code = call(length, &length, records, 0, 0, &written);
         printf("%d", code);
         if (code == RIGHTS_OK) {
             if (written != 0)
@@ -155,29 +166,36 @@ static void encode(const uint8_t *from)
 
 /* One event as numbers. The call on its record, with a copy of the image, has to print the same numbers and leave
  * the same image. */
-static uint8_t one(size_t image_length, const uint8_t *from)
+static uint8_t one(size_t image_room, size_t *image_length, const uint8_t *from)
 {
-    static uint8_t by_text[LONGEST + BEHIND];
+    static uint8_t by_text[LONGEST + SPARE + BEHIND];
+    size_t all_image = image_room + BEHIND;
+    uint64_t next_length = *image_length, text_length = *image_length;
     uint8_t code = FILL, entry = FILL;
     uint32_t until = 0xa5a5a5a5u;
     uint64_t written;
     encode(from);
-    memcpy(by_text, image, image_length + BEHIND);
-    memcpy(image_before, image, image_length + BEHIND);
-    uint8_t refused = rights_answer_one(image, image_length, from[0], number_at(from + 1, 4), from[5],
+    memcpy(by_text, image, all_image);
+    memcpy(image_before, image, all_image);
+    uint8_t refused = rights_answer_one(image, image_room, &next_length, from[0], number_at(from + 1, 4), from[5],
                                         (uint16_t)number_at(from + 6, 2), from[8], number_at(from + 9, 4),
                                         &code, &entry, &until);
-    if (refused != rights_answer(by_text, image_length, from, RIGHTS_RECORD, out, RIGHTS_LINE, &written))
+    if (refused != rights_answer(by_text, image_room, &text_length, from, RIGHTS_RECORD, out, RIGHTS_LINE, &written))
         fail("the two calls do not agree on an image");
-    if (memcmp(image, by_text, image_length + BEHIND) != 0)
+    if (memcmp(image, by_text, all_image) != 0 || next_length != text_length)
         fail("the two calls leave different images");
+    if (*image_length > image_room && refused != RIGHTS_IMAGE_LENGTH)
+        fail("a length above the room was not refused");
     if (refused) {
-        if (memcmp(image, image_before, image_length + BEHIND) != 0)
+        if (memcmp(image, image_before, all_image) != 0)
             fail("a byte of a refused image was touched");
-        if (code != FILL || entry != FILL || until != 0xa5a5a5a5u)
+        if (code != FILL || entry != FILL || until != 0xa5a5a5a5u || next_length != *image_length)
             fail("a refused call set a number");
         return refused;
     }
+    if (next_length > image_room || memcmp(image + next_length, image_before + next_length, all_image - next_length) != 0)
+        fail("a byte behind an image was touched");
+    *image_length = (size_t)next_length;
     char line[RIGHTS_LINE + 1];
     int length = snprintf(line, sizeof line, "%u %u %u\n", code, entry, until);
     if ((uint64_t)length != written || memcmp(line, out, (size_t)length) != 0)
@@ -198,10 +216,13 @@ static void ones(FILE *f)
         printf("day %d\n", day);
         uint8_t code = RIGHTS_OK;
         size_t at = 0;
-        for (; at + RIGHTS_RECORD <= length && code == RIGHTS_OK; at += RIGHTS_RECORD)
-            code = one(image_length, records + at);
+        for (; at + RIGHTS_RECORD <= length && code == RIGHTS_OK; at += RIGHTS_RECORD) {
+            if (image_length > 0)
+                one(image_length - 1, &image_length, records + at);
+            code = one(image_length + SPARE, &image_length, records + at);
+        }
         if (code == RIGHTS_OK && (at < length || length == 0)) {
-            code = call(image_length, records + at, length - at, RIGHTS_ROOM(length - at), &written);
+            code = call(image_length, &image_length, records + at, length - at, RIGHTS_ROOM(length - at), &written);
             if (code == RIGHTS_OK)
                 fwrite(out, 1, (size_t)written, stdout);
         }
@@ -220,6 +241,7 @@ static uint8_t reading(const char *name, size_t image_length, uint32_t at, uint3
     case 'a': return rights_asset(image, image_length, at, numbers, room);
     case 'e': return rights_entry(image, image_length, at, numbers, room);
     case 'l': return rights_left(image, image_length, at, time, numbers, room);
+    case 'g': return rights_grounds(image, image_length, at, (uint8_t)(at % RIGHTS_PLAYERS), time, numbers, room);
     default: return rights_player(image, image_length, at, numbers, room);
     }
 }
@@ -242,7 +264,7 @@ static uint8_t look(const char *name, size_t image_length, uint32_t at, uint32_t
     if (memcmp(image, image_before, image_length + BEHIND) != 0)
         fail("a reading call touched the image");
     printf("%s %u", name, at);
-    if (name[0] == 'l')
+    if (name[0] == 'l' || name[0] == 'g')
         printf(" %u", time);
     if (last != RIGHTS_OK)
         printf(" refused %u", last);
@@ -268,6 +290,8 @@ static void see(size_t image_length)
         look("entry", image_length, i, 0, RIGHTS_ENTRY_NUMBERS);
         for (size_t t = 0; t < sizeof times / sizeof *times; t++)
             look("left", image_length, i, times[t], RIGHTS_LEFT_NUMBERS);
+        for (size_t t = 0; t < sizeof times / sizeof *times; t++)
+            look("grounds", image_length, i, times[t], RIGHTS_GROUNDS_NUMBERS);
     }
     for (uint32_t i = 0; i <= RIGHTS_PLAYERS; i++)
         look("player", image_length, i, 0, RIGHTS_PLAYER_NUMBERS);
@@ -290,7 +314,7 @@ static void seen_days(FILE *f)
         size_t step = 97 * RIGHTS_RECORD;
         for (size_t at = 0; at < length; at += step) {
             size_t part = length - at < step ? length - at : step;
-            if (call(image_length, records + at, part, RIGHTS_ROOM(part), &written) != RIGHTS_OK)
+            if (call(image_length, &image_length, records + at, part, RIGHTS_ROOM(part), &written) != RIGHTS_OK)
                 break;
             see(image_length);
         }

@@ -1,12 +1,12 @@
-//! Calls the library through the safe functions of `embed/rust/rights.rs` and prints what the programs of `crates/days`
-//! and `crates/images` print for the stored files:
+//! Calls the library through the safe functions of `embed/rust/rights.rs` and prints what the programs of `crates/test_days`
+//! and `crates/test_images` print for the stored files:
 //!
 //!     calls days N days.bin     the answers of each day, N records per call (0: all of them)
 //!     calls ones days.bin       the same with `answer_one`, one event per call (a last record cut short goes through `answers`)
 //!     calls images cases.bin    the number of a refusal, or 0 and the image that a call without records leaves
 //!     calls seen days.bin       what the functions that read an image say, as calls.c prints it
 //!
-//! A refused call has to leave every byte of every buffer unchanged.
+//! A refused call has to leave every byte of every buffer unchanged, and the lengths.
 
 #[path = "../rust/rights.rs"]
 mod rights;
@@ -26,14 +26,20 @@ fn part<'a>(file: &mut &'a [u8], width: usize) -> Option<&'a [u8]> {
     Some(bytes)
 }
 
-/// One call with just enough room, after one with a byte too little, which must change nothing.
-fn answered(image: &mut [u8], records: &[u8]) -> Result<Vec<u8>, Refused> {
-    let before = image.to_vec();
+/// One call with just enough room, after some with a byte too little, which must change nothing.
+fn answered(image: &mut Vec<u8>, records: &[u8]) -> Result<Vec<u8>, Refused> {
+    let before = image.clone();
+    let mut length = image.len();
     let mut out = vec![0xa5; rights::room(records.len())];
     if let Some(less) = out.len().checked_sub(1) {
-        let refused = rights::answer(image, records, &mut out[..less]).unwrap_err();
+        let refused = rights::answer(image, &mut length, records, &mut out[..less]).unwrap_err();
         assert_eq!(refused, rights::check(image).err().unwrap_or(Refused::ShortOut));
-        assert!(image == before && out.iter().all(|&b| b == 0xa5));
+        assert!(*image == before && length == before.len() && out.iter().all(|&b| b == 0xa5));
+    }
+    if let Some(less) = image.len().checked_sub(1) {
+        let refused = rights::answer(&mut image[..less], &mut length, records, &mut out).unwrap_err();
+        assert_eq!(refused, Refused::Image(20));
+        assert!(*image == before && length == before.len() && out.iter().all(|&b| b == 0xa5));
     }
     let text = rights::answers(image, records);
     match text {
@@ -43,7 +49,7 @@ fn answered(image: &mut [u8], records: &[u8]) -> Result<Vec<u8>, Refused> {
         }
         Err(refused) => {
             assert_eq!(rights::check(image), Err(refused));
-            assert!(image == before);
+            assert!(*image == before);
         }
     }
     text
@@ -100,15 +106,20 @@ fn event_in(record: &[u8]) -> Event {
 }
 
 /// One record as numbers, or through the text call if it is cut short.
-fn one(image: &mut [u8], record: &[u8]) -> Result<String, Refused> {
+fn one(image: &mut Vec<u8>, record: &[u8]) -> Result<String, Refused> {
     if record.len() < rights::RECORD {
         return rights::answers(image, record).map(|text| String::from_utf8(text).unwrap());
     }
     let event = event_in(record);
     assert_eq!(rights::record(event), record);
-    let before = image.to_vec();
-    let answer = rights::answer_one(image, event);
-    assert!(answer.is_ok() || image == before);
+    let before = image.clone();
+    let mut length = image.len();
+    if let Some(less) = image.len().checked_sub(1) {
+        assert_eq!(rights::answer_one(&mut image[..less], &mut length, event), Err(Refused::Image(20)));
+        assert!(*image == before && length == before.len());
+    }
+    let answer = rights::answer_event(image, event);
+    assert!(answer.is_ok() || *image == before);
     answer.map(|a| format!("{} {} {}\n", a.code, a.entry, a.until))
 }
 
@@ -202,6 +213,12 @@ fn see(image: &[u8], print: &mut impl Write) {
         for time in [0, now, now + 1, now + 30, now + 59, now + 60, now + 86400, u32::MAX] {
             let left = rights::left(image, i, time).map(|l| vec![l.grantable, l.count, l.timed, l.seconds]);
             seen_line(print, "left", i, Some(time), left);
+        }
+        for time in [0, now, now + 1, now + 30, now + 59, now + 60, now + 86400, u32::MAX] {
+            let grounds = rights::grounds(image, i, (i % 16) as u8, time).map(|g| {
+                vec![g.count_spent, g.timed_spent, g.before_start, g.after_end, g.interval_over, g.seconds_spent]
+            });
+            seen_line(print, "grounds", i, Some(time), grounds);
         }
     }
     for i in 0..=16 {

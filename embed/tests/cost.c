@@ -20,7 +20,7 @@ static size_t length;
 static uint32_t event[6], numbers[RIGHTS_ENTRY_NUMBERS];
 static uint8_t code, entry;
 static uint32_t until;
-static uint64_t written;
+static uint64_t written, copy_length;
 
 static void fail(const char *what)
 {
@@ -42,14 +42,16 @@ static uint8_t check(void)
 static uint8_t answer(void)
 {
     memcpy(copy, image, length);
-    return rights_answer(copy, length, record, sizeof record, out, sizeof out, &written);
+    copy_length = length;
+    return rights_answer(copy, sizeof copy, &copy_length, record, sizeof record, out, sizeof out, &written);
 }
 
 static uint8_t answer_one(void)
 {
     memcpy(copy, image, length);
-    return rights_answer_one(copy, length, (uint8_t)event[0], event[1], (uint8_t)event[2], (uint16_t)event[3],
-                             (uint8_t)event[4], event[5], &code, &entry, &until);
+    copy_length = length;
+    return rights_answer_one(copy, sizeof copy, &copy_length, (uint8_t)event[0], event[1], (uint8_t)event[2],
+                             (uint16_t)event[3], (uint8_t)event[4], event[5], &code, &entry, &until);
 }
 
 static uint8_t make(void)
@@ -78,6 +80,11 @@ static uint8_t left(void)
     return rights_left(image, length, 0, event[5], numbers, RIGHTS_ENTRY_NUMBERS);
 }
 
+static uint8_t grounds(void)
+{
+    return rights_grounds(image, length, 0, (uint8_t)event[0], event[5], numbers, RIGHTS_ENTRY_NUMBERS);
+}
+
 static uint8_t player(void)
 {
     return rights_player(image, length, 0, numbers, RIGHTS_ENTRY_NUMBERS);
@@ -90,7 +97,7 @@ static const struct {
     {"(a copy of the image)", nothing}, {"rights_check", check},   {"rights_record", make},
     {"rights_answer", answer},          {"rights_answer_one", answer_one},
     {"rights_book", book},              {"rights_asset", asset},   {"rights_entry", one_entry},
-    {"rights_left", left},              {"rights_player", player},
+    {"rights_left", left},              {"rights_grounds", grounds}, {"rights_player", player},
 };
 
 static uint8_t (*now)(void);

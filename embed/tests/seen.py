@@ -36,6 +36,15 @@ def left(entry, time):
         limit - used if entry.has(flag) else NO_LIMIT for flag, limit, used in pairs]
 
 
+def grounds(entry, time):
+    """1 for each ground that stands against the entry at that time, in the order of rights.h."""
+    over = entry.started and time >= entry.first + entry.interval
+    tests = ((rights.COUNT, entry.used_count >= entry.count), (rights.TIMED, entry.used_timed >= entry.timed),
+             (rights.START, time < entry.start), (rights.END, time > entry.end), (rights.INTERVAL, over),
+             (rights.ACCUMULATED, entry.used_seconds >= entry.accumulated))
+    return [int(bool(entry.has(flag) and stands)) for flag, stands in tests]
+
+
 def settled(book, time):
     """The entries once every use that is over at that time has ended; the book stays as it is."""
     found = rights.Book(book.time, book.assets, [replace(e) for e in book.entries], [replace(p) for p in book.players])
@@ -57,8 +66,9 @@ def see(image):
         print_line("book", 0, refused)
         print_line("asset", 0, refused)
         print_line("entry", 0, refused)
-        for time in times:
-            print_line("left", 0, refused, time)
+        for name in ("left", "grounds"):
+            for time in times:
+                print_line(name, 0, refused, time)
         for position in range(rights.PLAYERS + 1):
             print_line("player", position, refused)
         print_line("entry", 256, refused)
@@ -74,6 +84,8 @@ def see(image):
         print_line("entry", position, absent(book.entries, position, astuple))
         for time, when, entries in tables:
             print_line("left", position, absent(entries, position, lambda entry: left(entry, when)), time)
+        for time, when, entries in tables:
+            print_line("grounds", position, absent(entries, position, lambda entry: grounds(entry, when)), time)
     for position in range(rights.PLAYERS + 1):
         print_line("player", position, absent(book.players, position, astuple))
     print_line("entry", 256, absent(book.entries, 256, astuple))

@@ -1,7 +1,8 @@
-"""The answers to a file of events and the book after them, from the proved library for C (crates/embed).
+"""The answers to a file of events and the book after them, and what stands against the entries of a book, from the proved
+library for C (crates/embed).
 
-The library and the small program on top of it (tools/after.c) are built if they are missing or older than their
-sources; the messages of the prover and the compiler go into target/tools/after.log.
+The library and the small programs on top of it (tools/after.c, tools/why.c) are built if they are missing or older than
+their sources; the messages of the prover and the compiler go into target/tools/after.log.
 """
 
 import os
@@ -19,9 +20,9 @@ from .texts import REFUSED, refusal
 from .words import Trouble
 
 LIBRARY = ROOT / "target" / "staticlib" / "libembed.a"
-SOURCE, HEADER = ROOT / "tools" / "after.c", ROOT / "embed" / "rights.h"
-PROGRAM = ROOT / "target" / "tools" / "after"
-LOG = ROOT / "target" / "tools" / "after.log"
+HEADER = ROOT / "embed" / "rights.h"
+MADE = ROOT / "target" / "tools"
+LOG = MADE / "after.log"
 
 
 def after(book, events, following):
@@ -31,28 +32,46 @@ def after(book, events, following):
         raise Trouble("only one of the two files can be standard input")
     keep_inputs(following, book, events)
     with open_records(events) as stream, tempfile.TemporaryDirectory() as folder:
-        build()
+        build("after")
         image, work = read_image(book), Path(folder)
         done = answer(image, stream, work)
         if done.returncode in REFUSED:
             raise Trouble(refusal(book, image, done.returncode))
         if done.returncode != 0:
             said = done.stderr.decode(errors="replace").strip()
-            raise Trouble(f"{events}: {said or f'{PROGRAM} ended with status {done.returncode}'}")
+            raise Trouble(f"{events}: {said or f'{MADE}/after ended with status {done.returncode}'}")
         write_bytes(following, (work / "next").read_bytes(), ["a book image"])
         with open(work / "answers", "rb") as answers:       # answers go out only once the book is saved
             shutil.copyfileobj(answers, sys.stdout.buffer)
 
 
 def answer(image, stream, work):
-    """Runs the program built on the library, with its files in the folder `work`."""
+    """Runs the program `after`, with its files in the folder `work`."""
     try:
         (work / "book").write_bytes(image)
         with open(work / "answers", "wb") as answers:
-            return subprocess.run([PROGRAM, work / "book", work / "next"], stdin=stream, stdout=answers,
+            return subprocess.run([MADE / "after", work / "book", work / "next"], stdin=stream, stdout=answers,
                                   stderr=subprocess.PIPE)
     except OSError as problem:
         raise Trouble(f"{problem.filename or work}: {reason(problem)}") from None
+
+
+def judged(image, record, player, t):
+    """By the library: the answer to one record (code, entry, until), and for each entry of the book which grounds stand
+    against it for that player at t, in the order of rights.h. The image must be one that the server accepts."""
+    with tempfile.TemporaryDirectory() as folder, tempfile.TemporaryFile() as stream:
+        build("after", "why")
+        work = Path(folder)
+        stream.write(record)
+        stream.seek(0)
+        done = answer(image, stream, work)
+        listed = subprocess.run([MADE / "why", work / "book", str(player), str(t)], capture_output=True)
+        for ended in (done, listed):
+            if ended.returncode != 0:
+                said = ended.stderr.decode(errors="replace").strip()
+                raise Trouble(said or f"{ended.args[0]} ended with status {ended.returncode}")
+        told = tuple(map(int, (work / "answers").read_text().split()))
+        return told, [[word == "1" for word in line.split()] for line in listed.stdout.decode().splitlines()]
 
 
 def open_records(path):
@@ -70,16 +89,17 @@ def open_records(path):
 
 # ---- Building
 
-def build():
+def build(*programs):
     if older(LIBRARY, (ROOT / "crates").glob("*/src/*.rt")):
         build_step("the library that answers, about 4 minutes on a fresh machine, or 1 where the run program is built",
                    "the command of the Rattle kit", ["rt", "staticlib", "embed"])
-    if older(PROGRAM, [LIBRARY, SOURCE, HEADER]):
-        made = PROGRAM.with_suffix(f".{os.getpid()}")
-        compiler = (os.environ.get("CC") or "cc").split()
-        build_step("the program over it, a second", "a C compiler",
-                   [*compiler, "-std=c11", "-O2", "-I", str(HEADER.parent), str(SOURCE), str(LIBRARY), "-o", str(made)])
-        made.replace(PROGRAM)
+    for name in programs:
+        source, made = ROOT / "tools" / f"{name}.c", MADE / f"{name}.{os.getpid()}"
+        if older(MADE / name, [LIBRARY, source, HEADER]):
+            compiler = (os.environ.get("CC") or "cc").split()
+            build_step("the program over it, a second", "a C compiler",
+                       [*compiler, "-std=c11", "-O2", "-I", str(HEADER.parent), str(source), str(LIBRARY), "-o", str(made)])
+            made.replace(MADE / name)
 
 
 def older(made, sources):
@@ -91,7 +111,7 @@ def build_step(what, tool, command):
         raise Trouble(f"`{command[0]}`, {tool}, is not found; it is needed to build {what.split(',')[0]}")
     log_name = os.path.relpath(LOG)
     print(f"building {what}; log in {log_name}", file=sys.stderr, flush=True)
-    PROGRAM.parent.mkdir(parents=True, exist_ok=True)
+    MADE.mkdir(parents=True, exist_ok=True)
     with open(LOG, "ab") as log:
         log.write(f"{' '.join(command)}\n".encode())
         log.flush()

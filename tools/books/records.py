@@ -1,6 +1,7 @@
 """Event records from their text (`events`), and each event in words with what its answer means (`explain`)."""
 
 import re
+from itertools import zip_longest
 
 import rights
 from rights import Event
@@ -9,13 +10,14 @@ from .files import keep_inputs, read_bytes, read_text, write_bytes
 from .texts import REFUSED
 from .words import KINDS, OPERATIONS, TOP, Mistake, Trouble, kind_name, lines_of, number, short, when
 
+SIZE = rights.RECORD.size
 MEANINGS = {
     1: "turned away: not a valid begin, continue or stop",
     2: "turned away: there is no such player (0 to 15)",
     3: "turned away: its number is not the player's next one",
     4: "turned away: the player used this number for another request",
     5: "turned away: its time is before the book's time, or too late",
-    6: "turned away: the record is not 13 bytes long",
+    6: f"turned away: the record is not {SIZE} bytes long",
     10: "refused: the asset is not in the book, or has no key",
     11: "refused: the player has a use open",
     12: "refused: the book has no entry of this kind for the asset",
@@ -35,7 +37,7 @@ class EventText:
 
     def line(self, words):
         if self.cut:
-            raise Mistake("only the last record may have fewer than 13 bytes, and one above this line has")
+            raise Mistake(f"only the last record may have fewer than {SIZE} bytes, and one above this line has")
         first = words.take("a player and a number")
         if first == "raw":
             self.raw(words)
@@ -59,9 +61,9 @@ class EventText:
         except ValueError:
             raise Mistake("after raw come bytes, each as two of the digits 0 to 9 and a to f") from None
         words.words.clear()
-        if not 1 <= len(record) <= 13:
-            raise Mistake(f"a record has 13 bytes, and the last one may have fewer; this one has {len(record)}")
-        self.cut = len(record) < 13
+        if not 1 <= len(record) <= SIZE:
+            raise Mistake(f"a record has {SIZE} bytes, and the last one may have fewer; this one has {len(record)}")
+        self.cut = len(record) < SIZE
         self.records.append(record)
 
 
@@ -92,16 +94,15 @@ def explain(records, answers):
         print(f"The server refused its book with {code}: {REFUSED[code]}. No event was answered.")
         return
     latest = {}
-    for at in range(0, max(len(data), 13 * len(told)), 13):
-        record, line = data[at:at + 13], told[at // 13].strip() if at // 13 < len(told) else None
-        print(f"{at // 13 + 1:>5}  {record_words(record)}")
-        print(f"         {line_words(line, record, latest)}")
+    for place, (record, line) in enumerate(zip_longest(rights.records_in(data), told), 1):
+        print(f"{place:>5}  {record_words(record or b'')}")
+        print(f"         {line_words(line and line.strip(), record or b'', latest)}")
 
 
 def record_words(record):
     if len(record) == 0:
         return "there is no event for this answer"
-    if len(record) != 13:
+    if len(record) != SIZE:
         return f"a record cut short, {len(record)} bytes: {record.hex(' ')}"
     event = event_of(record)
     request = request_words(event.operation, event.asset, event.kind)
@@ -109,8 +110,7 @@ def record_words(record):
 
 
 def event_of(record):
-    numbers = [int.from_bytes(record[a:b], "big") for a, b in ((0, 1), (1, 5), (5, 6), (6, 8), (8, 9), (9, 13))]
-    return Event(*numbers)
+    return rights.RECORD.read(record)
 
 
 def request_words(operation, asset, kind):
@@ -137,7 +137,7 @@ def line_words(line, record, latest):
     if not found or int(found[3]) > TOP:
         return f"`{short(line)}` is not an answer (code, entry, until)"
     code, entry, until = map(int, found.groups())
-    if len(record) != 13:
+    if len(record) != SIZE:
         return f"{line}: {MEANINGS.get(code, 'an unknown answer')}"
     event = event_of(record)
     request = (event.number, event.operation, event.asset, event.kind)

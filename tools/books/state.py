@@ -52,9 +52,8 @@ def grounds(book, position, t):
 def stop_helps(book, position, t):
     """Whether somebody could be granted the entry if its open uses were stopped at t."""
     book = copy.deepcopy(book)
-    for player in book.players:
-        if player.open and player.open_entry == position:
-            rights.stop(book, player, t)
+    for player in book.users(position):
+        rights.stop(book, player, t)
     return not grounds(book, position, t)
 
 

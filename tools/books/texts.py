@@ -203,7 +203,7 @@ def player_fault(book, player):
 def meter_fault(book, position):
     """Why what is used of an entry does not fit the book, or None."""
     entry = book.entries[position]
-    uses = [player for player in book.players if player.open and player.open_entry == position]
+    uses = book.users(position)
     seconds = sum(player.until - player.begin for player in uses)
     for name, least in (("count", len(uses)), ("timed", len(uses)), ("accumulated", seconds)):
         if entry.has(FLAGS[name]) and getattr(entry, METERS[name]) < least:

@@ -7,12 +7,12 @@ use native.Mathlib.Nat.{add-zero}
 use native.Mathlib.Omega.{arith}
 use lib.ListN.{length, take, drop, length-append, length-drop}
 use lib.Seq.{take-append-le, drop-append-le, drop-append-add}
-use Rattle.laws.specs.Count.{listed}
-use Rattle.laws.specs.TableLaws.{listed-same}
+use Rattle.numbers.specs.Count.{listed}
+use Rattle.numbers.proofs.TableLaws.{listed-same}
 use Rattle.book.specs.declared.Answer.{Answer}
 use Rattle.book.specs.declared.Book.{Book}
-use Rattle.model.specs.Events.{stepRecord}
-use Rattle.model.specs.Demand3.{recordAnswers, recordFinal}
+use Rattle.model.specs.Step.{stepRecord}
+use Rattle.model.specs.History.{recordAnswers, recordFinal}
 use Rattle.model.specs.Run.{line, lines, recordCount, recordAt, recordsIn, runText, runBook}
 
 -- ## Lists of records

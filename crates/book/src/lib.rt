@@ -4,7 +4,24 @@
 ghost use mathlib.Core.Path.{_≡_};
 ghost use Prim.Native.Nat.{min};
 ghost use lib.ListN.{getD};
-ghost use Rattle.book.specs.Blank.{noAsset, noEntry, noPlayer, noBook};
+ghost use Rattle.book.specs.Blank.{noAsset, noEntry, noPlayer, noBook, closed};
+
+// The latest time that an event can have.
+pub const LATEST_TIME: u32 = 4000000000;
+
+// Later than any time that an event or an until can have.
+pub const NEVER: u32 = 4294967295;
+
+// Later than any end.
+pub const NO_END: u64 = 4294967296;
+
+// How many bytes an event record has, and where its last byte is.
+pub const RECORD_SIZE: usize = 13;
+
+pub const RECORD_LAST: usize = RECORD_SIZE - 1;
+
+// "13 | suitable, none grantable"
+pub const NONE_GRANTABLE: u8 = 13;
 
 pub struct Asset {
     pub number: u16,
@@ -101,6 +118,22 @@ pub struct Event {
     pub time: u32,
 }
 
+// Who asks, and when: what the choice of an entry reads of an event.
+pub struct Ask {
+    pub player: u8,
+    pub time: u32,
+}
+
+// What stands against granting an entry, each ground under its name.
+pub struct Grounds {
+    pub countspent: bool,
+    pub timedspent: bool,
+    pub beforestart: bool,
+    pub afterend: bool,
+    pub intervalover: bool,
+    pub secondsspent: bool,
+}
+
 // What the bytes of an event record decode to: an event, or the code that refuses them.
 pub enum Decoded {
     Invalid(u8),
@@ -112,6 +145,14 @@ pub enum Gate {
     Refuse(u8),
     Resend,
     Take,
+}
+
+// What entries are ordered by, field by field: the smaller number comes first.
+pub struct Rank {
+    pub flags: u8,
+    pub end: u64,
+    pub fresh: u8,
+    pub inherited: u8,
 }
 
 // The answer to an event, and the book after it.
@@ -216,5 +257,30 @@ pub fn blank_book() -> Book
         assets: [blank_asset(); 64],
         entries: [blank_entry(); 64],
         players: [blank_player(); 16],
+    }
+}
+
+// A use that is not open.
+// Rules out: a begin or an until left in it.
+pub fn closed_use() -> Open
+    ensures { λ r. ⌜ r ≡ closed ⌝ }
+{
+    Open {
+        on: 0,
+        entry: 0,
+        begin: 0,
+        until: 0,
+    }
+}
+
+// "Each of 1 to 15 returns entry 255 and until 0."
+// Rules out: entry 0, the code in another place.
+pub fn refusal(code: u8) -> Answer
+    ensures { λ r. ⌜ r ≡ record { code = code; entry = 255; until = 0 } ⌝ }
+{
+    Answer {
+        code: code,
+        entry: 255,
+        until: 0,
     }
 }

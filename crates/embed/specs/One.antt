@@ -1,72 +1,42 @@
--- What a call of `rights_answer_one` returns and leaves: the step of one record, with numbers in place of text. s is the image
--- lent, r the record that holds the event's numbers (`recordBytes` of `encode`).
+-- What a call of `rights_answer_one` returns and leaves: the step of one record, with numbers in place of text. buffer is what is
+-- lent for the image, size how many of its bytes are the image, r the record that holds the event's numbers (`recordBytes` of
+-- `encode`).
 use Prim.Native.Nat.{ℕ}
-use mathlib.Core.Path.{_≡_, refl, sym, ap, _∙_}
 use mathlib.Core.Bool.{cond}
 use mathlib.Core.List.{List}
 use lib.Dec.{eqb}
-use borrow.Author.Tests.{ne-eqb}
 use Rattle.book.specs.declared.Outcome.{Outcome}
-use Rattle.model.specs.Image.{image, writeBuffer, readCode}
-use Rattle.model.specs.Events.{decoded, stepRecord}
-use Rattle.embed.specs.Calls.{heldBook}
-use Rattle.embed.specs.Left.{held-length, event-length, whole-buffer}
-
--- "20 to 27 | image refused": what is lent stays as it was
-unfoldable pub unlessRefused : {A : Type 0} → List ℕ → A → A → A
-unlessRefused s new old = cond (eqb (readCode s) 0) new old
+use Rattle.model.specs.Image.{lengthOf, writeBuffer, readCode}
+use Rattle.model.specs.Step.{stepRecord}
+use Rattle.embed.specs.Calls.{imageIn, lentBook, roomCode}
 
 -- the record's step on the book in the image
-unfoldable pub oneStep : List ℕ → List ℕ → Outcome
-oneStep s r = stepRecord (heldBook s) r
+unfoldable pub oneStep : List ℕ → ℕ → List ℕ → Outcome
+oneStep buffer size r = stepRecord (lentBook buffer size) r
 
--- the image of the book after it
-unfoldable pub oneImage : List ℕ → List ℕ → List ℕ
-oneImage s r = unlessRefused s (image (oneStep s r .book)) s
+-- "20 to 27 | image refused"; 30: no room for the next image; 0: answered
+unfoldable pub oneResult : List ℕ → ℕ → List ℕ → ℕ
+oneResult buffer size r =
+    cond (eqb (readCode (imageIn buffer size)) 0) (roomCode (oneStep buffer size r .book) buffer) (readCode (imageIn buffer size))
+
+-- what is lent changes only if the event is answered
+abbrev pub ifAnswered : {A : Type 0} → List ℕ → ℕ → List ℕ → A → A → A
+ifAnswered buffer size r new old = cond (eqb (oneResult buffer size r) 0) new old
+
+-- the image of the book after it, and behind it what was there before
+unfoldable pub oneImage : List ℕ → ℕ → List ℕ → List ℕ
+oneImage buffer size r = ifAnswered buffer size r (writeBuffer (oneStep buffer size r .book) buffer) buffer
+
+-- its length
+unfoldable pub oneSize : List ℕ → ℕ → List ℕ → ℕ
+oneSize buffer size r = ifAnswered buffer size r (lengthOf (oneStep buffer size r .book)) size
 
 -- the three numbers of the answer
-unfoldable pub oneCode : List ℕ → List ℕ → ℕ → ℕ
-oneCode s r before = unlessRefused s (oneStep s r .answer .code) before
+unfoldable pub oneCode : List ℕ → ℕ → List ℕ → ℕ → ℕ
+oneCode buffer size r before = ifAnswered buffer size r (oneStep buffer size r .answer .code) before
 
-unfoldable pub oneEntry : List ℕ → List ℕ → ℕ → ℕ
-oneEntry s r before = unlessRefused s (oneStep s r .answer .entry) before
+unfoldable pub oneEntry : List ℕ → ℕ → List ℕ → ℕ → ℕ
+oneEntry buffer size r before = ifAnswered buffer size r (oneStep buffer size r .answer .entry) before
 
-unfoldable pub oneUntil : List ℕ → List ℕ → ℕ → ℕ
-oneUntil s r before = unlessRefused s (oneStep s r .answer .until) before
-
--- ## What each exit leaves
-
--- s′, code, entry and until are what is lent after a call that returns result
-module _ (s r : List ℕ) (code₀ entry₀ until₀ : ℕ) where
-  abbrev pub One : ℕ → List ℕ → ℕ → ℕ → ℕ → Type 0
-  One result s′ code entry until =
-      (result ≡ readCode s)
-      × ((s′ ≡ oneImage s r)
-      × ((code ≡ oneCode s r code₀)
-      × ((entry ≡ oneEntry s r entry₀)
-      × (until ≡ oneUntil s r until₀))))
-
-  pub one-refused : (result : ℕ) → result ≡ readCode s → (result ≡ 0 → ⊥) → One result s code₀ entry₀ until₀
-  unfolding oneImage oneCode oneEntry oneUntil unlessRefused
-  one-refused result e n =
-      let w = ne-eqb (readCode s) 0 (λ z. n (e ∙ z)) in
-      (e, (rw w refl, (rw w refl, (rw w refl, rw w refl))))
-
-  -- no event changes the length, so the next image fills the same buffer
-  step-image : readCode s ≡ 0 → writeBuffer (oneStep s r .book) s ≡ image (oneStep s r .book)
-  unfolding oneStep stepRecord
-  step-image e = whole-buffer (oneStep s r .book) s (event-length (heldBook s) (decoded r) ∙ held-length s e)
-
-  pub one-answered : (x : Outcome) (s′ : List ℕ) → readCode s ≡ 0 → x ≡ oneStep s r → s′ ≡ writeBuffer (x .book) s
-      → One 0 s′ (x .answer .code) (x .answer .entry) (x .answer .until)
-  unfolding oneImage oneCode oneEntry oneUntil unlessRefused
-  one-answered x s′ e same w = (
-    sym e,
-    (
-      rw e (w ∙ ap (λ (y : Outcome). writeBuffer (y .book) s) same ∙ step-image e),
-      (
-        rw e (ap (λ (y : Outcome). y .answer .code) same),
-        (rw e (ap (λ (y : Outcome). y .answer .entry) same), rw e (ap (λ (y : Outcome). y .answer .until) same)),
-      ),
-    ),
-  )
+unfoldable pub oneUntil : List ℕ → ℕ → List ℕ → ℕ → ℕ
+oneUntil buffer size r before = ifAnswered buffer size r (oneStep buffer size r .answer .until) before

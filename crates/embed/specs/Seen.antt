@@ -1,20 +1,18 @@
--- What the calls that read an image return and leave: the numbers of its book, of one asset, entry or player, and what is left of an entry.
--- s is the image lent, which these calls only read.
-use Prim.Native.Nat.{ℕ, min}
-use mathlib.Core.Path.{_≡_, refl, sym, ap, _∙_}
-use mathlib.Core.Bool.{Bool, true, false, cond}
+-- What the calls that read an image return and leave: the numbers of its book, of one asset, entry or player, what is left of
+-- an entry, and what stands against it. s is the image lent, which these calls only read.
+use Prim.Native.Nat.{ℕ}
+use mathlib.Core.Bool.{Bool, true, cond}
 use mathlib.Core.List.{List}
-use lib.ListN.{length, getD}
+use lib.ListN.{getD}
 use lib.Dec.{ltb, eqb}
-use borrow.Author.Tests.{ne-eqb}
+use Rattle.book.specs.declared.Ask.{Ask}
 use Rattle.book.specs.declared.Entry.{Entry}
-use Rattle.book.specs.declared.Book.{Book}
 use Rattle.book.specs.Blank.{noEntry}
 use Rattle.model.specs.Book.{assetAt, playerAt, assetsIn, entriesIn}
 use Rattle.model.specs.Image.{assetValues, entryValues, playerValues, readCode}
-use Rattle.model.specs.Events.{settled}
+use Rattle.model.specs.Meters.{settled}
 use Rattle.fill.specs.Fill.{fillCode, filled}
-use Rattle.views.specs.Views.{bookValues, viewTime, leftValues}
+use Rattle.views.specs.Views.{bookValues, viewTime, leftValues, groundValues}
 use Rattle.embed.specs.Calls.{heldBook}
 
 -- 31: the book has nothing at that position
@@ -60,7 +58,15 @@ entryFound s t i = getD (settled t (heldBook s .players) (heldBook s .entries)) 
 unfoldable pub leftSeen : List ℕ → ℕ → ℕ → List ℕ
 leftSeen s time i = leftValues (viewTime (heldBook s .time) time) (entryFound s (viewTime (heldBook s .time) time) i)
 
--- ## The five calls: what each returns, given its buffer's length, and the buffer after it
+-- who asks at that time, or at the book's time if that is later
+abbrev pub askSeen : List ℕ → ℕ → ℕ → Ask
+askSeen s player time = record { player = player; time = viewTime (heldBook s .time) time }
+
+-- what stands against it for that player, at the same time
+unfoldable pub groundsSeen : List ℕ → ℕ → ℕ → ℕ → List ℕ
+groundsSeen s player time i = groundValues (askSeen s player time) (entryFound s (viewTime (heldBook s .time) time) i)
+
+-- ## The six calls: what each returns, given its buffer's length, and the buffer after it
 
 abbrev pub bookCode : List ℕ → ℕ → ℕ
 bookCode s room = seenCode s true (bookSeen s) room
@@ -92,40 +98,8 @@ leftCode s i time room = seenCode s (hasEntry s i) (leftSeen s time i) room
 abbrev pub leftOut : List ℕ → ℕ → ℕ → List ℕ → List ℕ
 leftOut s i time old = seenOut s (hasEntry s i) (leftSeen s time i) old
 
--- ## Why
+abbrev pub groundsCode : List ℕ → ℕ → ℕ → ℕ → ℕ → ℕ
+groundsCode s i player time room = seenCode s (hasEntry s i) (groundsSeen s player time i) room
 
--- the code's count gives the same result
-module _ (s : List ℕ) (b : Book) (n i : ℕ) (same : b ≡ heldBook s) where
-  pub asset-there : n ≡ min (b .assetcount) 64 → hasAsset s i ≡ ltb i n
-  unfolding hasAsset assetsIn
-  asset-there e = ap (ltb i) (sym (e ∙ ap (λ (x : Book). min (x .assetcount) 64) same))
-
-  pub entry-there : n ≡ min (b .entrycount) 64 → hasEntry s i ≡ ltb i n
-  unfolding hasEntry entriesIn
-  entry-there e = ap (ltb i) (sym (e ∙ ap (λ (x : Book). min (x .entrycount) 64) same))
-
--- what each exit leaves
-
-module _ (s : List ℕ) (there : Bool) (values old : List ℕ) where
-  abbrev pub Seen : ℕ → List ℕ → Type 0
-  Seen code out = (code ≡ seenCode s there values (length old)) × (out ≡ seenOut s there values old)
-
-  pub seen-refused : (code : ℕ) → code ≡ readCode s → (code ≡ 0 → ⊥) → Seen code old
-  unfolding seenCode seenOut
-  seen-refused code e n = rw (ne-eqb (readCode s) 0 (λ z. n (e ∙ z))) (e, refl)
-
-  pub seen-absent : readCode s ≡ 0 → there ≡ false → Seen absent old
-  unfolding seenCode seenOut
-  seen-absent e f = rw (e, f) (refl, refl)
-
-  pub seen-given :
-      (code : ℕ) (out given : List ℕ) →
-      readCode s ≡ 0 →
-      there ≡ true →
-      given ≡ values →
-      (code ≡ fillCode given (length old)) × (out ≡ filled given old) →
-      Seen code out
-  unfolding seenCode seenOut
-  seen-given code out given e f same p =
-      rw (e, f)
-      (p .0 ∙ ap (λ (v : List ℕ). fillCode v (length old)) same, p .1 ∙ ap (λ (v : List ℕ). filled v old) same)
+abbrev pub groundsOut : List ℕ → ℕ → ℕ → ℕ → List ℕ → List ℕ
+groundsOut s i player time old = seenOut s (hasEntry s i) (groundsSeen s player time i) old

@@ -1,14 +1,21 @@
 // The book of rights for servers written in C or Rust: functions on numbers and bytes, linked as a static library.
 // No state is kept between calls. The book is passed as its image, which the caller keeps and lends.
 ghost use mathlib.Core.Path.{_≡_};
-ghost use lib.ListN.{length};
+ghost use lib.ListN.{length, getD};
+ghost use Rattle.book.specs.Blank.{noEntry};
+ghost use Rattle.model.specs.Meters.{settled};
 ghost use Rattle.model.specs.Image.{readCode};
 ghost use Rattle.encode.specs.Record.{recordBytes};
 ghost use Rattle.fill.specs.Fill.{fillCode, filled};
-ghost use Rattle.embed.specs.Calls.{heldBook, answerCode, imageAfter, outAfter, writtenAfter};
-ghost use Rattle.embed.specs.One.{oneImage, oneCode, oneEntry, oneUntil};
-ghost use Rattle.embed.specs.Seen.{bookCode, bookOut, assetCode, assetOut, entryCode, entryOut};
-ghost use Rattle.embed.specs.Seen.{playerCode, playerOut, leftCode, leftOut};
+ghost use Rattle.embed.specs.Calls.{imageIn, heldBook, answerCode, imageAfter, sizeAfter, outAfter, writtenAfter};
+ghost use Rattle.embed.specs.One.{oneResult, oneImage, oneSize, oneCode, oneEntry, oneUntil};
+ghost use Rattle.embed.specs.Seen.{bookCode, bookOut, assetCode, assetOut, entryCode, entryOut, playerCode, playerOut, leftCode};
+ghost use Rattle.embed.specs.Seen.{leftOut, groundsCode, groundsOut};
+use book::Ask;
+use book::Book;
+use book::Entry;
+use book::RECORD_LAST;
+use book::RECORD_SIZE;
 use image_read::Loaded;
 
 // The code of an image, and the book in it; blank if the image is refused.
@@ -17,6 +24,20 @@ fn load(image: &[u8]) -> Loaded
 {
     let blank = book::blank_book();
     image_read::read(blank, image)
+}
+
+// The same for the image that is the first `size` bytes of a buffer; no byte at all if the buffer has not so many.
+// Rules out: the bytes behind the image taken for a part of it.
+fn load_from(buffer: &[u8], size: u64) -> Loaded
+    ensures { λ r. ⌜ (r .code ≡ readCode (imageIn (now (buffer .entry)) size))
+        × (r .book ≡ heldBook (imageIn (now (buffer .entry)) size)) ⌝ }
+{
+    let end = size as usize;
+    if buffer.len() < end {
+        let none: usize = 0;
+        return load(&buffer[..none]);
+    }
+    load(&buffer[..end])
 }
 
 // 0 if the image holds a legal book, otherwise the number of the refusal, 20 to 27.
@@ -29,47 +50,59 @@ pub extern "C" fn rights_check(image: &[u8]) -> u8
     loaded.code
 }
 
-// Answers the records in turn, as lines of text in out, and puts the next image into image and the text's length into
-// written. The next image is as long as the one before, since no event changes how many assets and entries there are.
-// Returns 0, or 20 to 27 if the image is refused, or 30 if out has no room for 19 bytes per record.
-// Rules out: a refusal that touches a byte, a next image that is not the image of the book after the last record, a byte
-// touched after the text, a length that is not the text's.
+// Answers the records in turn, as lines of text in out, and puts the text's length into written. image is a buffer, and its
+// first `size` bytes are the image: the next image takes their place, its length goes into size, and what is behind it stays.
+// Returns 0, or 20 to 27 if the image is refused (20 too if size is more than the buffer has), or 30 if out has no room for
+// 19 bytes per record or the buffer none for the next image. No event changes how many assets and entries there are, so the
+// next image has the length of the one that the book now has, and its room is known before anything is written.
+// Rules out: a refusal that touches a byte or a number, a next image that is not the image of the book after the last record, a
+// byte touched after the text or after the next image, a length that is not the text's or the next image's.
 #[no_mangle]
 pub extern "C" fn rights_answer(
     image: &mut [u8],
+    size: &mut u64,
     records: &[u8],
     out: &mut [u8],
     written: &mut u64,
 ) -> u8
-    ensures { λ r. ⌜ r ≡ answerCode (now (image .entry)) (now (records .entry)) (length (now (out .entry))) ⌝ }
-    ensures { λ _. ⌜ now (image .exit) ≡ imageAfter (now (image .entry)) (now (records .entry)) (length (now (out .entry))) ⌝ }
-    ensures { λ _. ⌜ now (out .exit) ≡ outAfter (now (image .entry)) (now (records .entry)) (now (out .entry)) ⌝ }
+    ensures { λ r. ⌜ r ≡ answerCode (now (image .entry)) (now (size .entry)) (now (records .entry)) (length (now (out .entry))) ⌝ }
+    ensures { λ _. ⌜ now (image .exit)
+        ≡ imageAfter (now (image .entry)) (now (size .entry)) (now (records .entry)) (length (now (out .entry))) ⌝ }
+    ensures { λ _. ⌜ now (size .exit)
+        ≡ sizeAfter (now (image .entry)) (now (size .entry)) (now (records .entry)) (length (now (out .entry))) ⌝ }
+    ensures { λ _. ⌜ now (out .exit)
+        ≡ outAfter (now (image .entry)) (now (size .entry)) (now (records .entry)) (now (out .entry)) ⌝ }
     ensures { λ _. ⌜ now (written .exit)
-        ≡ writtenAfter (now (image .entry)) (now (records .entry)) (length (now (out .entry))) (now (written .entry)) ⌝ }
+        ≡ writtenAfter (now (image .entry)) (now (size .entry)) (now (records .entry)) (length (now (out .entry)))
+        (now (written .entry)) ⌝ }
 {
-    let loaded = load(image);
-    let code = loaded.code;
-    if code != 0 {
-        return code;
+    let loaded = load_from(image, *size);
+    if loaded.code != 0 {
+        return loaded.code;
     }
-    let count = (records.len() + 12) / 13;
+    let count = (records.len() + RECORD_LAST) / RECORD_SIZE;
     if out.len() / 19 < count {
         return 30;
     }
-    let held = loaded.book;
-    let block = runner::answer_block(held, records, out);
-    let next = block.book;
-    image_write::write(next, image);
+    let needed = image_write::image_length(loaded.book.assetcount, loaded.book.entrycount);
+    if image.len() < needed {
+        return 30;
+    }
+    let block = batch::answer_block(loaded.book, records, out);
+    image_write::write(block.book, image);
+    *size = needed as u64;
     *written = block.written as u64;
     0
 }
 
 // One event given as numbers: the answer's code, entry and until as numbers, and the next image, the same as the record's step leaves.
-// Returns 0, or 20 to 27 if the image is refused.
+// image and size are those of rights_answer.
+// Returns 0, or 20 to 27 if the image is refused, or 30 if the buffer has no room for the next image.
 // Rules out: a refusal that touches a byte or a number, the image of the book before the event, an answer other than the record's.
 #[no_mangle]
 pub extern "C" fn rights_answer_one(
     image: &mut [u8],
+    size: &mut u64,
     player: u8,
     number: u32,
     operation: u8,
@@ -80,29 +113,33 @@ pub extern "C" fn rights_answer_one(
     entry: &mut u8,
     until: &mut u32,
 ) -> u8
-    ensures { λ r. ⌜ r ≡ readCode (now (image .entry)) ⌝ }
-    ensures { λ _. ⌜ now (image .exit) ≡ oneImage (now (image .entry)) (recordBytes player number operation asset kind time) ⌝ }
+    ensures { λ r. ⌜ r ≡ oneResult (now (image .entry)) (now (size .entry)) (recordBytes player number operation asset kind time) ⌝ }
+    ensures { λ _. ⌜ now (image .exit)
+        ≡ oneImage (now (image .entry)) (now (size .entry)) (recordBytes player number operation asset kind time) ⌝ }
+    ensures { λ _. ⌜ now (size .exit)
+        ≡ oneSize (now (image .entry)) (now (size .entry)) (recordBytes player number operation asset kind time) ⌝ }
     ensures { λ _. ⌜ now (code .exit)
-        ≡ oneCode (now (image .entry)) (recordBytes player number operation asset kind time) (now (code .entry)) ⌝ }
+        ≡ oneCode (now (image .entry)) (now (size .entry)) (recordBytes player number operation asset kind time) (now (code .entry)) ⌝ }
     ensures { λ _. ⌜ now (entry .exit)
-        ≡ oneEntry (now (image .entry)) (recordBytes player number operation asset kind time) (now (entry .entry)) ⌝ }
+        ≡ oneEntry (now (image .entry)) (now (size .entry)) (recordBytes player number operation asset kind time) (now (entry .entry)) ⌝ }
     ensures { λ _. ⌜ now (until .exit)
-        ≡ oneUntil (now (image .entry)) (recordBytes player number operation asset kind time) (now (until .entry)) ⌝ }
+        ≡ oneUntil (now (image .entry)) (now (size .entry)) (recordBytes player number operation asset kind time) (now (until .entry)) ⌝ }
 {
-    let loaded = load(image);
-    let refused = loaded.code;
-    if refused != 0 {
-        return refused;
+    let loaded = load_from(image, *size);
+    if loaded.code != 0 {
+        return loaded.code;
     }
     let record = encode::record_bytes(player, number, operation, asset, kind, time);
-    let held = loaded.book;
-    let outcome = events::step_record(held, &record);
-    let after = outcome.book;
-    image_write::write(after, image);
-    let answer = outcome.answer;
-    *code = answer.code;
-    *entry = answer.entry;
-    *until = answer.until;
+    let outcome = step::step_record(loaded.book, &record);
+    let next_length = image_write::image_length(outcome.book.assetcount, outcome.book.entrycount);
+    if image.len() < next_length {
+        return 30;
+    }
+    image_write::write(outcome.book, image);
+    *size = next_length as u64;
+    *code = outcome.answer.code;
+    *entry = outcome.answer.entry;
+    *until = outcome.answer.until;
     0
 }
 
@@ -133,12 +170,10 @@ pub extern "C" fn rights_book(image: &[u8], out: &mut [u32]) -> u8
     ensures { λ _. ⌜ now (out .exit) ≡ bookOut (now (image .entry)) (now (out .entry)) ⌝ }
 {
     let loaded = load(image);
-    let code = loaded.code;
-    if code != 0 {
-        return code;
+    if loaded.code != 0 {
+        return loaded.code;
     }
-    let held = loaded.book;
-    let values = views::book_values(held);
+    let values = views::book_values(loaded.book);
     fill::fill32(out, &values)
 }
 
@@ -150,16 +185,14 @@ pub extern "C" fn rights_entry(image: &[u8], position: u32, out: &mut [u32]) -> 
     ensures { λ _. ⌜ now (out .exit) ≡ entryOut (now (image .entry)) position (now (out .entry)) ⌝ }
 {
     let loaded = load(image);
-    let code = loaded.code;
-    if code != 0 {
-        return code;
+    if loaded.code != 0 {
+        return loaded.code;
     }
-    let held = loaded.book;
     let at = position as usize;
-    if book::at_most_64(held.entrycount) <= at {
+    if book::at_most_64(loaded.book.entrycount) <= at {
         return 31;
     }
-    let entries = held.entries;
+    let entries = loaded.book.entries;
     let values = views::entry_values(book::entry_at(entries, at));
     fill::fill32(out, &values)
 }
@@ -172,17 +205,15 @@ pub extern "C" fn rights_asset(image: &[u8], position: u32, out: &mut [u32]) -> 
     ensures { λ _. ⌜ now (out .exit) ≡ assetOut (now (image .entry)) position (now (out .entry)) ⌝ }
 {
     let loaded = load(image);
-    let code = loaded.code;
-    if code != 0 {
-        return code;
+    if loaded.code != 0 {
+        return loaded.code;
     }
-    let held = loaded.book;
     let at = position as usize;
-    if book::at_most_64(held.assetcount) <= at {
+    if book::at_most_64(loaded.book.assetcount) <= at {
         return 31;
     }
-    let asset = held.assets[at];
-    let values = views::asset_values(asset);
+    let assets = loaded.book.assets;
+    let values = views::asset_values(assets[at]);
     fill::fill32(out, &values)
 }
 
@@ -194,18 +225,25 @@ pub extern "C" fn rights_player(image: &[u8], player: u32, out: &mut [u32]) -> u
     ensures { λ _. ⌜ now (out .exit) ≡ playerOut (now (image .entry)) player (now (out .entry)) ⌝ }
 {
     let loaded = load(image);
-    let code = loaded.code;
-    if code != 0 {
-        return code;
+    if loaded.code != 0 {
+        return loaded.code;
     }
-    let held = loaded.book;
     let at = player as usize;
     if 16 <= at {
         return 31;
     }
-    let found = held.players[at];
-    let values = views::player_values(found);
+    let players = loaded.book.players;
+    let values = views::player_values(players[at]);
     fill::fill32(out, &values)
+}
+
+// The entry at a position as an event at that time finds it: uses that are over by then have ended.
+fn entry_then(b: Book, at: usize, when: u32) -> Entry
+    ensures { λ r. ⌜ r ≡ getD (settled when (b .players) (b .entries)) at noEntry ⌝ }
+{
+    let settled = step::settle(b, when);
+    let entries = settled.entries;
+    book::entry_at(entries, at)
 }
 
 // What is left of the entry at a position, as an event at that time would find it; at the book's time if that is later.
@@ -216,19 +254,45 @@ pub extern "C" fn rights_left(image: &[u8], position: u32, time: u32, out: &mut 
     ensures { λ _. ⌜ now (out .exit) ≡ leftOut (now (image .entry)) position time (now (out .entry)) ⌝ }
 {
     let loaded = load(image);
-    let code = loaded.code;
-    if code != 0 {
-        return code;
+    if loaded.code != 0 {
+        return loaded.code;
     }
-    let held = loaded.book;
     let at = position as usize;
-    let known = book::at_most_64(held.entrycount);
-    if known <= at {
+    if book::at_most_64(loaded.book.entrycount) <= at {
         return 31;
     }
-    let when = views::view_time(held.time, time);
-    let settled = events::settle(held, when);
-    let entries = settled.entries;
-    let values = views::left_values(book::entry_at(entries, at), when);
+    let when = views::view_time(loaded.book.time, time);
+    let values = views::left_values(entry_then(loaded.book, at, when), when);
+    fill::fill32(out, &values)
+}
+
+// What stands against granting the entry at a position to a player, as a begin at that time would find it; at the book's time if that is
+// later: 1 for a ground that stands, otherwise 0.
+// Rules out: the grounds of the book before its uses are settled, those of a neighbouring entry.
+#[no_mangle]
+pub extern "C" fn rights_grounds(
+    image: &[u8],
+    position: u32,
+    player: u8,
+    time: u32,
+    out: &mut [u32],
+) -> u8
+    ensures { λ r. ⌜ r ≡ groundsCode (now (image .entry)) position player time (length (now (out .entry))) ⌝ }
+    ensures { λ _. ⌜ now (out .exit) ≡ groundsOut (now (image .entry)) position player time (now (out .entry)) ⌝ }
+{
+    let loaded = load(image);
+    if loaded.code != 0 {
+        return loaded.code;
+    }
+    let at = position as usize;
+    if book::at_most_64(loaded.book.entrycount) <= at {
+        return 31;
+    }
+    let when = views::view_time(loaded.book.time, time);
+    let ask = Ask {
+        player: player,
+        time: when,
+    };
+    let values = views::ground_values(entry_then(loaded.book, at, when), ask);
     fill::fill32(out, &values)
 }

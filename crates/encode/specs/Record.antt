@@ -5,13 +5,13 @@ use mathlib.Core.Bool.{not, cond}
 use mathlib.Core.List.{List, [], _∷_, append-nil}
 use lib.ListN.{length, getD}
 use lib.Dec.{ltb, eqb}
-use Rattle.laws.specs.Fields.{laidOut, valuesAt, Fit}
-use Rattle.laws.specs.FieldLaws.{values-back, laid-bytes}
+use Rattle.numbers.specs.Fields.{laidOut, valuesAt, Fit}
+use Rattle.numbers.proofs.FieldLaws.{values-back, laid-bytes}
 use Rattle.book.specs.declared.Decoded.{Decoded}
 use Rattle.book.specs.declared.Decoded.the-variants.{Invalid, Valid}
 use Rattle.model.specs.Book.{requestLegal}
 use Rattle.model.specs.Image.{Bytes}
-use Rattle.model.specs.Events.{recordWidths, requestOf, eventIn, decoded}
+use Rattle.model.specs.Record.{recordWidths, requestOf, eventIn, decoded}
 
 -- the six numbers in the order of the record
 abbrev pub recordValues : ℕ → ℕ → ℕ → ℕ → ℕ → ℕ → List ℕ

@@ -1,8 +1,9 @@
 // An event's six numbers as the 13 bytes of a record.
 ghost use mathlib.Core.Path.{_≡_};
-ghost use Rattle.laws.specs.Fields.{laidOut};
-ghost use Rattle.model.specs.Events.{recordWidths};
+ghost use Rattle.numbers.specs.Fields.{laidOut};
+ghost use Rattle.model.specs.Record.{recordWidths};
 ghost use Rattle.encode.specs.Record.{recordValues};
+use book::RECORD_SIZE;
 
 // Rules out: two fields swapped, the bytes of a number in another order.
 pub fn record_bytes(
@@ -12,7 +13,7 @@ pub fn record_bytes(
     asset: u16,
     kind: u8,
     time: u32,
-) -> [u8; 13]
+) -> [u8; RECORD_SIZE]
     ensures { λ r. ⌜ r ≡ laidOut recordWidths (recordValues player number operation asset kind time) ⌝ }
 {
     [

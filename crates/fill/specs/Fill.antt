@@ -9,7 +9,8 @@ use native.Mathlib.Omega.{arith}
 use lib.ListN.{length, getD, set, take, drop}
 use lib.Dec.{leb}
 use borrow.Author.Tests.{le-leb, lt-leb}
-use Rattle.laws.specs.Buffer.{lay, lay-front, lay-byte, lay-all}
+use Rattle.numbers.specs.Buffer.{lay}
+use Rattle.numbers.proofs.BufferLaws.{lay-front, lay-byte, lay-all}
 
 unfoldable pub fillCode : List ℕ → ℕ → ℕ
 fillCode values room = cond (leb (length values) room) 0 30

@@ -5,8 +5,20 @@ ghost use Prim.Native.Nat.{_≤_};
 ghost use Rattle.model.specs.Book.{assetPosition, assetLegal, assetsLegal, limit, rangesLegal, limitsLegal, entriesLegal};
 use book::Asset;
 use book::Book;
+use book::LATEST_TIME;
 use book::Limits;
 use book::at_most_64;
+use rules::flags_of;
+use rules::momentary;
+
+// The least value of a flagged count, timed count, interval or accumulated.
+const LEAST_LIMIT: u32 = 1;
+
+// The greatest count, timed count and timer.
+const MOST_TIMES: u32 = 1000000;
+
+// The greatest interval and accumulated.
+const MOST_SECONDS: u32 = 100000000;
 
 // The position of the asset with that number among the first n; n if there is none.
 fn asset_position(assets: [Asset; 64], n: usize, number: u16) -> usize
@@ -63,30 +75,28 @@ fn limit_legal(flag: bool, least: u32, most: u32, v: u32) -> bool
 fn ranges_legal(l: Limits) -> bool
     ensures { λ r. ⌜ r ≡ rangesLegal l ⌝ }
 {
-    let timed = l.flags / 2 % 2 == 1;
-    limit_legal(l.flags % 2 == 1, 1, 1000000, l.count)
-        & limit_legal(timed, 1, 1000000, l.timed)
-        & limit_legal(timed, 0, 1000000, l.timer)
-        & limit_legal(l.flags / 4 % 2 == 1, 0, 4000000000, l.start)
-        & limit_legal(l.flags / 8 % 2 == 1, 0, 4000000000, l.end)
-        & limit_legal(l.flags / 16 % 2 == 1, 1, 100000000, l.interval)
-        & limit_legal(l.flags / 32 % 2 == 1, 1, 100000000, l.accumulated)
+    let f = flags_of(l);
+    limit_legal(f.count, LEAST_LIMIT, MOST_TIMES, l.count)
+        & limit_legal(f.timed, LEAST_LIMIT, MOST_TIMES, l.timed)
+        & limit_legal(f.timed, 0, MOST_TIMES, l.timer)
+        & limit_legal(f.start, 0, LATEST_TIME, l.start)
+        & limit_legal(f.end, 0, LATEST_TIME, l.end)
+        & limit_legal(f.interval, LEAST_LIMIT, MOST_SECONDS, l.interval)
+        & limit_legal(f.accumulated, LEAST_LIMIT, MOST_SECONDS, l.accumulated)
 }
 
 fn limits_legal(known: bool, l: Limits) -> bool
     ensures { λ r. ⌜ r ≡ limitsLegal known l ⌝ }
 {
-    let start = l.flags / 4 % 2 == 1;
-    let end = l.flags / 8 % 2 == 1;
-    let accumulated = l.flags / 32 % 2 == 1;
-    let momentary = (4 <= l.kind) & (l.kind <= 5);
+    let f = flags_of(l);
+    let momentary = momentary(l.kind);
     ((1 <= l.object) & (l.object <= 65535))
         & known
         & ((1 <= l.kind) & (l.kind <= 5))
         & (l.flags <= 63)
         & ranges_legal(l)
-        & (!(start & end) | (l.start <= l.end))
-        & (!momentary | (!accumulated & (l.timer == 0)))
+        & (!(f.start & f.end) | (l.start <= l.end))
+        & (!momentary | (!f.accumulated & (l.timer == 0)))
 }
 
 // Rules out: true for an entry of an asset that the book lacks; true for an unflagged count that is not 0.

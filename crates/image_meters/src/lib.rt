@@ -3,7 +3,7 @@
 ghost use mathlib.Core.Path.{_≡_};
 ghost use mathlib.Core.Bool.{cond};
 ghost use Prim.Native.Nat.{_≤_};
-ghost use Rattle.laws.specs.Count.{one};
+ghost use Rattle.numbers.specs.Count.{one};
 ghost use Rattle.model.specs.Book.{meterLegal, startLegal, opens, openUses, lasts, openSeconds, metersCover, entryMetersLegal, metersLegal};
 use book::Book;
 use book::Entry;
@@ -12,6 +12,7 @@ use book::Meters;
 use book::Open;
 use book::Player;
 use book::at_most_64;
+use rules::flags_of;
 
 fn meter_legal(flag: bool, most: u32, used: u32) -> bool
     ensures { λ r. ⌜ r ≡ meterLegal flag most used ⌝ }
@@ -22,8 +23,9 @@ fn meter_legal(flag: bool, most: u32, used: u32) -> bool
 fn start_legal(time: u32, l: Limits, m: Meters) -> bool
     ensures { λ r. ⌜ r ≡ startLegal time l m ⌝ }
 {
+    let f = flags_of(l);
     (m.started <= 1)
-        & ((l.flags / 16 % 2 == 1) | (m.started == 0))
+        & (f.interval | (m.started == 0))
         & ((m.started == 1) | (m.first == 0))
         & (m.first <= time)
 }
@@ -93,9 +95,10 @@ fn meters_cover(uses: u64, seconds: u64, l: Limits, m: Meters) -> bool
     let count = m.count as u64;
     let timed = m.timed as u64;
     let used = m.seconds as u64;
-    (!(l.flags % 2 == 1) | (uses <= count))
-        & (!(l.flags / 2 % 2 == 1) | (uses <= timed))
-        & (!(l.flags / 32 % 2 == 1) | (seconds <= used))
+    let f = flags_of(l);
+    (!f.count | (uses <= count))
+        & (!f.timed | (uses <= timed))
+        & (!f.accumulated | (seconds <= used))
 }
 
 fn entry_meters_legal(time: u32, players: [Player; 16], i: usize, e: Entry) -> bool
@@ -103,11 +106,12 @@ fn entry_meters_legal(time: u32, players: [Player; 16], i: usize, e: Entry) -> b
 {
     let l = e.limits;
     let m = e.meters;
+    let f = flags_of(l);
     let uses = open_uses(players, i);
     let seconds = open_seconds(players, i);
-    meter_legal(l.flags % 2 == 1, l.count, m.count)
-        & meter_legal(l.flags / 2 % 2 == 1, l.timed, m.timed)
-        & meter_legal(l.flags / 32 % 2 == 1, l.accumulated, m.seconds)
+    meter_legal(f.count, l.count, m.count)
+        & meter_legal(f.timed, l.timed, m.timed)
+        & meter_legal(f.accumulated, l.accumulated, m.seconds)
         & start_legal(time, l, m)
         & meters_cover(uses, seconds, l, m)
 }

@@ -1,20 +1,96 @@
 -- What a valid header says about the bytes, in numbers: the tables it counts are there, and nothing after them.
-use mathlib.Core.Path.{_≡_}
+use mathlib.Core.Path.{_≡_, ap, ap₂, _∙_}
 use Prim.Native.Nat.{ℕ, _+_, _*_, _≤_}
 use mathlib.Core.List.{List}
 use native.Mathlib.Omega.{arith}
 use lib.ListN.{length, getD}
-use Rattle.model.specs.Image.{assetCountIn, entryCountIn, imageLength, headerBroken}
-use Rattle.model.specs.Proof.Header.{header-passed}
+use Rattle.numbers.specs.Fields.{bits16, bits32, numberAt}
+use Rattle.book.specs.declared.Asset.{Asset}
+use Rattle.book.specs.declared.Entry.{Entry}
+use Rattle.book.specs.declared.Player.{Player}
+use Rattle.book.specs.declared.Book.{Book}
+use Rattle.model.specs.Image.{newest, headerSize, assetSize, entrySize, playerSize, versionIn, timeIn, assetCountIn, entryCountIn}
+use Rattle.model.specs.Image.{imageLength, headerBroken, assetTable, entryTable, playerTable, entriesFrom, playersFrom, bookAs, bookIn}
+use Rattle.model.proofs.Image.Header.{header-passed}
+use Rattle.image_parse.specs.Versions.{header-least}
+
+-- the version that the bytes name
+abbrev pub version : List ℕ → ℕ
+version s = numberAt bits16 3 s
 
 pub record HeaderStands (s : List ℕ) : Type 0 where
-  pub enough : 11 ≤ length s
+  pub oldest : 1 ≤ version s
+  pub known : version s ≤ newest
+  pub enough : headerSize (version s) ≤ length s
+  pub start : 11 ≤ length s
   pub assets : getD s 5 0 ≤ 64
   pub entries : getD s 6 0 ≤ 64
-  pub whole : length s ≡ 11 + 5 * getD s 5 0 + 51 * getD s 6 0 + 384
+  pub whole : length s
+      ≡ headerSize (version s) + assetSize (version s) * getD s 5 0 + entrySize (version s) * getD s 6 0 + playerSize (version s) * 16
 
 pub header-stands : (s : List ℕ) → headerBroken s ≡ 0 → HeaderStands s
-unfolding assetCountIn entryCountIn imageLength
+unfolding versionIn assetCountIn entryCountIn imageLength
 header-stands s e =
     let p = header-passed s e in
-    record { enough = omega (arith, p .whole); assets = p .assets; entries = p .entries; whole = p .whole }
+    let h = header-least (version s) (p .oldest) (p .known) in
+    record {
+      oldest = p .oldest;
+      known = p .known;
+      enough = omega (arith, p .whole);
+      start = omega (arith, p .whole, h);
+      assets = p .assets;
+      entries = p .entries;
+      whole = p .whole;
+    }
+
+-- ## Where the tables are
+
+-- the version and the three offsets that the reader reckons
+pub record Located (s : List ℕ) (v assets entries players : ℕ) : Type 0 where
+  pub oldest : 1 ≤ v
+  pub known : v ≤ newest
+  pub same : v ≡ version s
+  pub assetsAt : assets ≡ headerSize (version s)
+  pub entriesAt : entries ≡ headerSize (version s) + assetSize (version s) * getD s 5 0
+  pub playersAt : players ≡ headerSize (version s) + assetSize (version s) * getD s 5 0 + entrySize (version s) * getD s 6 0
+  pub assetCount : getD s 5 0 ≤ 64
+  pub entryCount : getD s 6 0 ≤ 64
+  pub assetRoom : assets + assetSize v * getD s 5 0 ≤ length s
+  pub entryRoom : entries + entrySize v * getD s 6 0 ≤ length s
+  pub playerRoom : players + playerSize v * 16 ≤ length s
+
+pub located : (s : List ℕ) → headerBroken s ≡ 0 → (v h n m : ℕ) → v ≡ version s → h ≡ headerSize v → n ≡ assetSize v * getD s 5 0
+    → m ≡ entrySize v * getD s 6 0 → Located s v h (h + n) (h + n + m)
+located s z v h n m e eh en em =
+    let p = header-stands s z in
+    let a : h ≡ headerSize (version s) = eh ∙ ap headerSize e in
+    let b : n ≡ assetSize (version s) * getD s 5 0 = en ∙ ap (λ (k : ℕ). assetSize k * getD s 5 0) e in
+    let d : m ≡ entrySize (version s) * getD s 6 0 = em ∙ ap (λ (k : ℕ). entrySize k * getD s 6 0) e in
+    let w = ap (λ (k : ℕ). playerSize k * 16) e in
+    record {
+      oldest = omega (arith, e, p .oldest);
+      known = omega (arith, e, p .known);
+      same = e;
+      assetsAt = a;
+      entriesAt = omega (arith, a, b);
+      playersAt = omega (arith, a, b, d);
+      assetCount = p .assets;
+      entryCount = p .entries;
+      assetRoom = omega (arith, p .whole, a, b, en);
+      entryRoom = omega (arith, p .whole, a, b, d, em);
+      playerRoom = omega (arith, p .whole, a, b, d, w);
+    }
+
+-- what is read there is the book
+pub read-there : (s : List ℕ) (v o₁ o₂ o₃ time : ℕ) (ats : List Asset) (es : List Entry) (ps : List Player) → Located s v o₁ o₂ o₃
+    → time ≡ numberAt bits32 7 s → ats ≡ assetTable v s o₁ (getD s 5 0) → es ≡ entryTable v s o₂ (getD s 6 0) → ps ≡ playerTable v s o₃
+    → record { time = time; assetcount = getD s 5 0; entrycount = getD s 6 0; assets = ats; entries = es; players = ps } ≡ bookIn s
+unfolding bookIn bookAs timeIn versionIn assetCountIn entryCountIn entriesFrom playersFrom
+read-there s v o₁ o₂ o₃ time ats es ps l t a e p = λ i. record {
+  time = t i;
+  assetcount = getD s 5 0;
+  entrycount = getD s 6 0;
+  assets = (a ∙ ap₂ (λ (k o : ℕ). assetTable k s o (getD s 5 0)) (l .same) (l .assetsAt)) i;
+  entries = (e ∙ ap₂ (λ (k o : ℕ). entryTable k s o (getD s 6 0)) (l .same) (l .entriesAt)) i;
+  players = (p ∙ ap₂ (λ (k o : ℕ). playerTable k s o) (l .same) (l .playersAt)) i;
+}

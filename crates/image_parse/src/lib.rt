@@ -1,13 +1,14 @@
-// The first half of reading an image: the header is checked, and the tables after it are read into a book.
-// The contents of the tables are not checked here.
+// The first half of reading an image: the header is checked, and the tables after it are read into a book, by the layout of the
+// image's version. The contents of the tables are not checked here.
 ghost use mathlib.Core.Path.{_≡_};
 ghost use mathlib.Core.Bool.{cond};
 ghost use Prim.Native.Nat.{_+_, _*_, _<_, _≤_};
 ghost use lib.ListN.{length};
 ghost use lib.Dec.{eqb};
-ghost use Rattle.laws.specs.Fields.{bits16, bits32, numberAt};
+ghost use Rattle.numbers.specs.Fields.{bits8, bits16, bits32, numberAt};
 ghost use Rattle.book.specs.Blank.{noBook};
-ghost use Rattle.model.specs.Image.{assetIn, entryIn, playerIn, assetTable, entryTable, playerTable, bookIn, headerBroken};
+ghost use Rattle.model.specs.Image.{newest, headerSize, assetSize, entrySize, playerSize, imageLength, assetIn, entryIn, playerIn};
+ghost use Rattle.model.specs.Image.{assetTable, entryTable, playerTable, bookIn, headerBroken};
 use book::Answer;
 use book::Asset;
 use book::Book;
@@ -24,40 +25,88 @@ pub struct Parsed {
     pub book: Book,
 }
 
+fn read8(s: &[u8], at: usize) -> u8
+    requires { ⌜ at + 1 ≤ length (now s) ⌝ }
+    ensures { λ r. ⌜ r ≡ numberAt bits8 at (now (s .entry)) ⌝ }
+{
+    s[at]
+}
+
 fn read16(s: &[u8], at: usize) -> u16
     requires { ⌜ at + 2 ≤ length (now s) ⌝ }
     ensures { λ r. ⌜ r ≡ numberAt bits16 at (now (s .entry)) ⌝ }
 {
-    fields::join16(s[at], s[at + 1])
+    numbers::join16(s[at], s[at + 1])
 }
 
 fn read32(s: &[u8], at: usize) -> u32
     requires { ⌜ at + 4 ≤ length (now s) ⌝ }
     ensures { λ r. ⌜ r ≡ numberAt bits32 at (now (s .entry)) ⌝ }
 {
-    fields::join32(s[at], s[at + 1], s[at + 2], s[at + 3])
+    numbers::join32(s[at], s[at + 1], s[at + 2], s[at + 3])
 }
 
-fn asset_in(s: &[u8]) -> Asset
-    requires { ⌜ 5 ≤ length (now s) ⌝ }
-    ensures { λ r. ⌜ r ≡ assetIn (now (s .entry)) ⌝ }
+// The bytes of a header, an asset, an entry and a player, by version.
+fn header_size(v: u16) -> usize
+    ensures { λ r. ⌜ (r ≡ headerSize v) × (r ≤ 200) ⌝ }
+{
+    11
+}
+
+fn asset_size(v: u16) -> usize
+    ensures { λ r. ⌜ (r ≡ assetSize v) × (r ≤ 200) ⌝ }
+{
+    5
+}
+
+fn entry_size(v: u16) -> usize
+    ensures { λ r. ⌜ (r ≡ entrySize v) × (r ≤ 200) ⌝ }
+{
+    51
+}
+
+fn player_size(v: u16) -> usize
+    ensures { λ r. ⌜ (r ≡ playerSize v) × (r ≤ 200) ⌝ }
+{
+    24
+}
+
+// The bytes of n records.
+fn rows(width: usize, n: u8) -> usize
+    requires { ⌜ width ≤ 200 ⌝ }
+    ensures { λ r. ⌜ (r ≡ width * n) × (r ≤ 51000) ⌝ }
+{
+    width * (n as usize)
+}
+
+fn image_length(v: u16, assets: u8, entries: u8) -> usize
+    ensures { λ r. ⌜ r ≡ imageLength v assets entries ⌝ }
+{
+    let tables = rows(asset_size(v), assets) + rows(entry_size(v), entries);
+    header_size(v) + tables + rows(player_size(v), 16)
+}
+
+// A record of version v at the start of the bytes. A field that the version lacks is 0.
+fn asset_in(s: &[u8], v: u16) -> Asset
+    requires { ⌜ (1 ≤ v) × (v ≤ newest) × (5 ≤ length (now s)) × (assetSize v ≤ length (now s)) ⌝ }
+    ensures { λ r. ⌜ r ≡ assetIn v (now (s .entry)) ⌝ }
 {
     Asset {
         number: read16(s, 0),
         inherit: read16(s, 2),
-        key: s[4],
+        key: read8(s, 4),
     }
 }
 
-fn limits_in(s: &[u8]) -> Limits
-    requires { ⌜ 51 ≤ length (now s) ⌝ }
-    ensures { λ r. ⌜ r ≡ entryIn (now (s .entry)) .limits ⌝ }
+fn limits_in(s: &[u8], v: u16) -> Limits
+    requires { ⌜ (1 ≤ v) × (v ≤ newest) × (51 ≤ length (now s)) × (entrySize v ≤ length (now s)) ⌝ }
+    ensures { λ r. ⌜ r ≡ entryIn v (now (s .entry)) .limits ⌝ }
 {
     Limits {
         object: read16(s, 0),
         asset: read16(s, 2),
-        kind: s[4],
-        flags: s[5],
+        kind: read8(s, 4),
+        flags: read8(s, 5),
         count: read32(s, 6),
         timed: read32(s, 10),
         timer: read32(s, 14),
@@ -68,108 +117,115 @@ fn limits_in(s: &[u8]) -> Limits
     }
 }
 
-fn meters_in(s: &[u8]) -> Meters
-    requires { ⌜ 51 ≤ length (now s) ⌝ }
-    ensures { λ r. ⌜ r ≡ entryIn (now (s .entry)) .meters ⌝ }
+fn meters_in(s: &[u8], v: u16) -> Meters
+    requires { ⌜ (1 ≤ v) × (v ≤ newest) × (51 ≤ length (now s)) × (entrySize v ≤ length (now s)) ⌝ }
+    ensures { λ r. ⌜ r ≡ entryIn v (now (s .entry)) .meters ⌝ }
 {
     Meters {
         count: read32(s, 34),
         timed: read32(s, 38),
         first: read32(s, 42),
         seconds: read32(s, 46),
-        started: s[50],
+        started: read8(s, 50),
     }
 }
 
-fn entry_in(s: &[u8]) -> Entry
-    requires { ⌜ 51 ≤ length (now s) ⌝ }
-    ensures { λ r. ⌜ r ≡ entryIn (now (s .entry)) ⌝ }
+fn entry_in(s: &[u8], v: u16) -> Entry
+    requires { ⌜ (1 ≤ v) × (v ≤ newest) × (entrySize v ≤ length (now s)) ⌝ }
+    ensures { λ r. ⌜ r ≡ entryIn v (now (s .entry)) ⌝ }
 {
     Entry {
-        limits: limits_in(s),
-        meters: meters_in(s),
+        limits: limits_in(s, v),
+        meters: meters_in(s, v),
     }
 }
 
-fn last_in(s: &[u8]) -> Last
-    requires { ⌜ 24 ≤ length (now s) ⌝ }
-    ensures { λ r. ⌜ r ≡ playerIn (now (s .entry)) .last ⌝ }
+fn last_in(s: &[u8], v: u16) -> Last
+    requires { ⌜ (1 ≤ v) × (v ≤ newest) × (24 ≤ length (now s)) × (playerSize v ≤ length (now s)) ⌝ }
+    ensures { λ r. ⌜ r ≡ playerIn v (now (s .entry)) .last ⌝ }
 {
     Last {
         number: read32(s, 0),
-        operation: s[4],
+        operation: read8(s, 4),
         asset: read16(s, 5),
-        kind: s[7],
+        kind: read8(s, 7),
         answer: Answer {
-            code: s[8],
-            entry: s[9],
+            code: read8(s, 8),
+            entry: read8(s, 9),
             until: read32(s, 10),
         },
     }
 }
 
-fn open_in(s: &[u8]) -> Open
-    requires { ⌜ 24 ≤ length (now s) ⌝ }
-    ensures { λ r. ⌜ r ≡ playerIn (now (s .entry)) .current ⌝ }
+fn open_in(s: &[u8], v: u16) -> Open
+    requires { ⌜ (1 ≤ v) × (v ≤ newest) × (24 ≤ length (now s)) × (playerSize v ≤ length (now s)) ⌝ }
+    ensures { λ r. ⌜ r ≡ playerIn v (now (s .entry)) .current ⌝ }
 {
     Open {
-        on: s[14],
-        entry: s[15],
+        on: read8(s, 14),
+        entry: read8(s, 15),
         begin: read32(s, 16),
         until: read32(s, 20),
     }
 }
 
-fn player_in(s: &[u8]) -> Player
-    requires { ⌜ 24 ≤ length (now s) ⌝ }
-    ensures { λ r. ⌜ r ≡ playerIn (now (s .entry)) ⌝ }
+fn player_in(s: &[u8], v: u16) -> Player
+    requires { ⌜ (1 ≤ v) × (v ≤ newest) × (playerSize v ≤ length (now s)) ⌝ }
+    ensures { λ r. ⌜ r ≡ playerIn v (now (s .entry)) ⌝ }
 {
     Player {
-        last: last_in(s),
-        current: open_in(s),
+        last: last_in(s, v),
+        current: open_in(s, v),
     }
 }
 
-fn assets_in(s: &[u8], at: usize, n: usize) -> [Asset; 64]
-    requires { ⌜ (n ≤ 64) × (at + 5 * n ≤ length (now s)) ⌝ }
-    ensures { λ r. ⌜ r ≡ assetTable (now (s .entry)) at n ⌝ }
+// The three tables: the records at offset `at`, one after the other by the width of the version, and blank slots after them.
+fn assets_in(s: &[u8], v: u16, at: usize, n: usize) -> [Asset; 64]
+    requires { ⌜ (1 ≤ v) × (v ≤ newest) × (n ≤ 64) × (at + assetSize v * n ≤ length (now s)) ⌝ }
+    ensures { λ r. ⌜ r ≡ assetTable v (now (s .entry)) at n ⌝ }
 {
+    let width = asset_size(v);
     let mut table = [book::blank_asset(); 64];
     let mut i: usize = 0;
+    let mut o = at;
     while i < n {
-        let o = at + 5 * i;
-        let a = asset_in(&s[o..]);
+        let a = asset_in(&s[o..], v);
         table[i] = a;
+        o = o + width;
         i = i + 1;
     }
     table
 }
 
-fn entries_in(s: &[u8], at: usize, n: usize) -> [Entry; 64]
-    requires { ⌜ (n ≤ 64) × (at + 51 * n ≤ length (now s)) ⌝ }
-    ensures { λ r. ⌜ r ≡ entryTable (now (s .entry)) at n ⌝ }
+fn entries_in(s: &[u8], v: u16, at: usize, n: usize) -> [Entry; 64]
+    requires { ⌜ (1 ≤ v) × (v ≤ newest) × (n ≤ 64) × (at + entrySize v * n ≤ length (now s)) ⌝ }
+    ensures { λ r. ⌜ r ≡ entryTable v (now (s .entry)) at n ⌝ }
 {
+    let width = entry_size(v);
     let mut table = [book::blank_entry(); 64];
     let mut i: usize = 0;
+    let mut o = at;
     while i < n {
-        let o = at + 51 * i;
-        let e = entry_in(&s[o..]);
+        let e = entry_in(&s[o..], v);
         table[i] = e;
+        o = o + width;
         i = i + 1;
     }
     table
 }
 
-fn players_in(s: &[u8], at: usize) -> [Player; 16]
-    requires { ⌜ at + 384 ≤ length (now s) ⌝ }
-    ensures { λ r. ⌜ r ≡ playerTable (now (s .entry)) at ⌝ }
+fn players_in(s: &[u8], v: u16, at: usize) -> [Player; 16]
+    requires { ⌜ (1 ≤ v) × (v ≤ newest) × (at + playerSize v * 16 ≤ length (now s)) ⌝ }
+    ensures { λ r. ⌜ r ≡ playerTable v (now (s .entry)) at ⌝ }
 {
+    let width = player_size(v);
     let mut table = [book::blank_player(); 16];
     let mut i: usize = 0;
+    let mut o = at;
     while i < 16 {
-        let o = at + 24 * i;
-        let p = player_in(&s[o..]);
+        let p = player_in(&s[o..], v);
         table[i] = p;
+        o = o + width;
         i = i + 1;
     }
     table
@@ -185,7 +241,8 @@ fn header_broken(s: &[u8]) -> u8
     if !((s[0] == 82) & (s[1] == 66) & (s[2] == 75)) {
         return 21;
     }
-    if read16(s, 3) != 1 {
+    let v = read16(s, 3);
+    if !((1 <= v) & (v <= 1)) {
         return 22;
     }
     let assets = s[5];
@@ -193,7 +250,7 @@ fn header_broken(s: &[u8]) -> u8
     if (64 < assets) | (64 < entries) | (4000000000 < read32(s, 7)) {
         return 23;
     }
-    if s.len() != 11 + 5 * (assets as usize) + 51 * (entries as usize) + 384 {
+    if s.len() != image_length(v, assets, entries) {
         return 20;
     }
     0
@@ -203,17 +260,19 @@ fn book_in(s: &[u8]) -> Book
     requires { ⌜ headerBroken (now s) ≡ 0 ⌝ }
     ensures { λ r. ⌜ r ≡ bookIn (now (s .entry)) ⌝ }
 {
-    let assets = s[5] as usize;
-    let entries = s[6] as usize;
-    let entriesfrom = 11 + 5 * assets;
-    let playersfrom = entriesfrom + 51 * entries;
+    let v = read16(s, 3);
+    let assets = s[5];
+    let entries = s[6];
+    let assetsfrom = header_size(v);
+    let entriesfrom = assetsfrom + rows(asset_size(v), assets);
+    let playersfrom = entriesfrom + rows(entry_size(v), entries);
     Book {
         time: read32(s, 7),
-        assetcount: s[5],
-        entrycount: s[6],
-        assets: assets_in(s, 11, assets),
-        entries: entries_in(s, entriesfrom, entries),
-        players: players_in(s, playersfrom),
+        assetcount: assets,
+        entrycount: entries,
+        assets: assets_in(s, v, assetsfrom, assets as usize),
+        entries: entries_in(s, v, entriesfrom, entries as usize),
+        players: players_in(s, v, playersfrom),
     }
 }
 

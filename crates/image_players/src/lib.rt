@@ -11,6 +11,8 @@ use book::Meters;
 use book::Open;
 use book::Player;
 use book::at_most_64;
+use rules::flags_of;
+use rules::grant_length;
 
 fn pick(w: bool, a: bool, b: bool) -> bool
     ensures { λ r. ⌜ r ≡ cond w a b ⌝ }
@@ -51,7 +53,8 @@ fn inside_dates(o: Open, l: Limits) -> bool
     let until = o.until as u64;
     let end = l.end as u64;
     let past = end + 1;
-    (!(l.flags / 4 % 2 == 1) | (l.start <= o.begin)) & (!(l.flags / 8 % 2 == 1) | (until <= past))
+    let f = flags_of(l);
+    (!f.start | (l.start <= o.begin)) & (!f.end | (until <= past))
 }
 
 fn inside_interval(o: Open, l: Limits, m: Meters) -> bool
@@ -61,18 +64,20 @@ fn inside_interval(o: Open, l: Limits, m: Meters) -> bool
     let first = m.first as u64;
     let interval = l.interval as u64;
     let past = first + interval;
-    !(l.flags / 16 % 2 == 1) | ((m.started == 1) & (m.first <= o.begin) & (until <= past))
+    let f = flags_of(l);
+    !f.interval | ((m.started == 1) & (m.first <= o.begin) & (until <= past))
 }
 
 fn use_legal(time: u32, n: usize, e: Entry, o: Open) -> bool
     ensures { λ r. ⌜ r ≡ useLegal time n e o ⌝ }
 {
     let until = o.until as u64;
-    let t = time as u64;
-    let longest = t + 60;
-    let entry = o.entry as usize;
     let l = e.limits;
     let m = e.meters;
+    let length = grant_length(l.kind) as u64;
+    let t = time as u64;
+    let longest = t + length;
+    let entry = o.entry as usize;
     (o.begin <= time)
         & (time < o.until)
         & (until <= longest)
@@ -95,7 +100,7 @@ fn player_legal(time: u32, n: usize, e: Entry, p: Player) -> bool
     let l = p.last;
     let a = l.answer;
     let o = p.current;
-    let judged = decode::request_legal(l.operation, l.asset, l.kind)
+    let judged = record::request_legal(l.operation, l.asset, l.kind)
         & answer_legal(n, a)
         & open_legal(time, n, e, o);
     pick(l.number == 0, player_blank(p), judged)

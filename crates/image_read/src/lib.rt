@@ -13,6 +13,25 @@ pub struct Loaded {
     pub book: Book,
 }
 
+// Stages 24 to 27 in order: the first rule that the book breaks, 0 if none is.
+fn rule_broken(b: Book) -> u8
+    ensures { λ r. ⌜ r ≡ ruleBroken b ⌝ }
+{
+    if !image_limits::assets_legal(b) {
+        return 24;
+    }
+    if !image_limits::entries_legal(b) {
+        return 25;
+    }
+    if !image_players::players_legal(b) {
+        return 26;
+    }
+    if !image_meters::meters_legal(b) {
+        return 27;
+    }
+    0
+}
+
 // The header is checked first; the book is checked only if the header is valid.
 fn code_of(parsed: Parsed) -> u8
     ensures { λ r. ⌜ r ≡ cond (eqb (parsed .code) 0) (ruleBroken (parsed .book)) (parsed .code) ⌝ }
@@ -20,7 +39,7 @@ fn code_of(parsed: Parsed) -> u8
     if parsed.code != 0 {
         return parsed.code;
     }
-    image_check::rule_broken(parsed.book)
+    rule_broken(parsed.book)
 }
 
 // Rules out: code 0 for bytes that break a rule; a refusal that leaves part of the new book, or a blank one.

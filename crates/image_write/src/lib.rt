@@ -1,13 +1,15 @@
 // Writes the image of a book into a lent buffer: the header, then the assets, the entries and the players, record by record.
 // A buffer that is too short is left untouched.
 ghost use mathlib.Core.Path.{_≡_};
-ghost use Prim.Native.Nat.{_+_, _*_, _≤_};
+ghost use Prim.Native.Nat.{_+_, _*_, _≤_, min};
 ghost use lib.ListN.{length, getD};
-ghost use Rattle.laws.specs.Count.{joined};
-ghost use Rattle.laws.specs.Buffer.{lay};
+ghost use Rattle.numbers.specs.Count.{joined};
+ghost use Rattle.numbers.specs.Buffer.{lay};
 ghost use Rattle.book.specs.Blank.{noEntry};
+ghost use Rattle.image_pieces.specs.Pieces.{startBytes};
 ghost use Rattle.model.specs.Book.{assetAt, playerAt};
-ghost use Rattle.model.specs.Image.{assetBytes, entryBytes, playerBytes, writeAnswer, writeBuffer};
+ghost use Rattle.model.specs.Image.{newest, headerSize, assetSize, entrySize, playerSize, assetBytes, entryBytes, playerBytes, imageLength};
+ghost use Rattle.model.specs.Image.{writeAnswer, writeBuffer};
 use book::Asset;
 use book::Book;
 use book::Entry;
@@ -27,50 +29,99 @@ fn put(buf: &mut [u8], at: usize, src: &[u8]) -> usize
     at + j
 }
 
+// The header, and then one record of each sort: the bytes, and the end offset.
+fn put_header(buf: &mut [u8], assets: u8, entries: u8, time: u32) -> usize
+    requires { ⌜ headerSize newest ≤ length (now buf) ⌝ }
+    ensures { λ r. ⌜ (r ≡ headerSize newest) × (now (buf .exit) ≡ lay (now (buf .entry)) 0 (startBytes assets entries time)) ⌝ }
+{
+    let s = image_pieces::header_bytes(assets, entries, time);
+    put(buf, 0, &s)
+}
+
+fn put_asset(buf: &mut [u8], at: usize, a: Asset) -> usize
+    requires { ⌜ at + assetSize newest ≤ length (now buf) ⌝ }
+    ensures { λ r. ⌜ (r ≡ at + assetSize newest) × (now (buf .exit) ≡ lay (now (buf .entry)) at (assetBytes a)) ⌝ }
+{
+    let s = image_pieces::asset_bytes(a);
+    put(buf, at, &s)
+}
+
+// Piece by piece: a further piece is a further `put`.
+fn put_entry(buf: &mut [u8], at: usize, e: Entry) -> usize
+    requires { ⌜ at + entrySize newest ≤ length (now buf) ⌝ }
+    ensures { λ r. ⌜ (r ≡ at + entrySize newest) × (now (buf .exit) ≡ lay (now (buf .entry)) at (entryBytes e)) ⌝ }
+{
+    let l = e.limits;
+    let m = e.meters;
+    let limits = image_pieces::limits_bytes(l);
+    let meters = image_pieces::meters_bytes(m);
+    let o = put(buf, at, &limits);
+    put(buf, o, &meters)
+}
+
+fn put_player(buf: &mut [u8], at: usize, p: Player) -> usize
+    requires { ⌜ at + playerSize newest ≤ length (now buf) ⌝ }
+    ensures { λ r. ⌜ (r ≡ at + playerSize newest) × (now (buf .exit) ≡ lay (now (buf .entry)) at (playerBytes p)) ⌝ }
+{
+    let l = p.last;
+    let c = p.current;
+    let last = image_pieces::last_bytes(l);
+    let current = image_pieces::open_bytes(c);
+    let o = put(buf, at, &last);
+    put(buf, o, &current)
+}
+
 // The three tables: writes the first n records at offset `at`, and returns the end offset.
 fn put_assets(buf: &mut [u8], at: usize, table: [Asset; 64], n: usize) -> usize
-    requires { ⌜ (n ≤ 64) × (at + 5 * n ≤ length (now buf)) ⌝ }
-    ensures { λ r. ⌜ (r ≡ at + 5 * n) × (now (buf .exit) ≡ lay (now (buf .entry)) at (joined (λ i. assetBytes (assetAt table i)) n)) ⌝ }
+    requires { ⌜ (n ≤ 64) × (at + assetSize newest * n ≤ length (now buf)) ⌝ }
+    ensures { λ r. ⌜ (r ≡ at + assetSize newest * n) × (now (buf .exit) ≡ lay (now (buf .entry)) at (joined (λ i. assetBytes (assetAt table i)) n)) ⌝ }
 {
     let mut i: usize = 0;
     let mut o: usize = at;
     while i < n {
         let a = table[i];
-        let s = image_records::asset_bytes(a);
-        o = put(buf, o, &s);
+        o = put_asset(buf, o, a);
         i = i + 1;
     }
     o
 }
 
 fn put_entries(buf: &mut [u8], at: usize, table: [Entry; 64], n: usize) -> usize
-    requires { ⌜ (n ≤ 64) × (at + 51 * n ≤ length (now buf)) ⌝ }
-    ensures { λ r. ⌜ (r ≡ at + 51 * n) × (now (buf .exit) ≡ lay (now (buf .entry)) at (joined (λ i. entryBytes (getD table i noEntry)) n)) ⌝ }
+    requires { ⌜ (n ≤ 64) × (at + entrySize newest * n ≤ length (now buf)) ⌝ }
+    ensures { λ r. ⌜ (r ≡ at + entrySize newest * n) × (now (buf .exit) ≡ lay (now (buf .entry)) at (joined (λ i. entryBytes (getD table i noEntry)) n)) ⌝ }
 {
     let mut i: usize = 0;
     let mut o: usize = at;
     while i < n {
         let e = table[i];
-        let s = image_entry::entry_bytes(e);
-        o = put(buf, o, &s);
+        o = put_entry(buf, o, e);
         i = i + 1;
     }
     o
 }
 
 fn put_players(buf: &mut [u8], at: usize, table: [Player; 16]) -> usize
-    requires { ⌜ at + 384 ≤ length (now buf) ⌝ }
-    ensures { λ r. ⌜ (r ≡ at + 384) × (now (buf .exit) ≡ lay (now (buf .entry)) at (joined (λ p. playerBytes (playerAt table p)) 16)) ⌝ }
+    requires { ⌜ at + playerSize newest * 16 ≤ length (now buf) ⌝ }
+    ensures { λ r. ⌜ (r ≡ at + playerSize newest * 16) × (now (buf .exit) ≡ lay (now (buf .entry)) at (joined (λ p. playerBytes (playerAt table p)) 16)) ⌝ }
 {
     let mut i: usize = 0;
     let mut o: usize = at;
     while i < 16 {
         let p = table[i];
-        let s = image_records::player_bytes(p);
-        o = put(buf, o, &s);
+        o = put_player(buf, o, p);
         i = i + 1;
     }
     o
+}
+
+// How many bytes the image of a book with so many assets and entries has. The two counts stand for the book, which would be copied.
+// Rules out: the room of a record left out, a count above 64 taken as it is.
+pub fn image_length(assetcount: u8, entrycount: u8) -> usize
+    ensures { λ r. ⌜ r ≡ imageLength newest (min assetcount 64) (min entrycount 64) ⌝ }
+{
+    let a = at_most_64(assetcount);
+    let n = at_most_64(entrycount);
+    11 + 5 * a + 51 * n + 384
 }
 
 // The length of the image, or 30 if the buffer has no room for it. The contract rules out a writer that returns 30 but
@@ -78,14 +129,13 @@ fn put_players(buf: &mut [u8], at: usize, table: [Player; 16]) -> usize
 pub fn write(b: Book, buf: &mut [u8]) -> usize
     ensures { λ r. ⌜ (r ≡ writeAnswer b (length (now (buf .entry)))) × (now (buf .exit) ≡ writeBuffer b (now (buf .entry))) ⌝ }
 {
-    let a = at_most_64(b.assetcount);
-    let n = at_most_64(b.entrycount);
-    let len = 11 + 5 * a + 51 * n + 384;
+    let len = image_length(b.assetcount, b.entrycount);
     if buf.len() < len {
         return 30;
     }
-    let head = image_records::header_bytes(a as u8, n as u8, b.time);
-    let o = put(buf, 0, &head);
+    let a = at_most_64(b.assetcount);
+    let n = at_most_64(b.entrycount);
+    let o = put_header(buf, a as u8, n as u8, b.time);
     let ats = b.assets;
     let o = put_assets(buf, o, ats, a);
     let es = b.entries;

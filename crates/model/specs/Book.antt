@@ -6,7 +6,7 @@ use mathlib.Core.Bool.{Bool, cond, _&&_, _||_, not}
 use mathlib.Core.List.{List}
 use lib.ListN.{length, getD}
 use lib.Dec.{ltb, leb, eqb}
-use Rattle.laws.specs.Count.{all, first, sum, one}
+use Rattle.numbers.specs.Count.{all, first, sum, one}
 use Rattle.book.specs.declared.Asset.{Asset}
 use Rattle.book.specs.declared.Limits.{Limits}
 use Rattle.book.specs.declared.Meters.{Meters}
@@ -55,7 +55,8 @@ unfoldable pub isParent : Asset → Bool
 isParent a = eqb (a .key) 0 && eqb (a .inherit) 0
 
 -- "Key 0 with an inherit is *illegal*: never used and never inherited from." A book may hold such an asset. No rule uses this name:
--- only an asset with key 1 is used and only a parent is inherited from, and an illegal asset is neither (`Proof.Suitable.illegal-never`).
+-- only an asset with key 1 is used and only a parent is inherited from, and an illegal asset is neither
+-- (`illegal-never` in `proofs/Demand3/Suitable`).
 unfoldable pub isIllegal : Asset → Bool
 isIllegal a = eqb (a .key) 0 && not (eqb (a .inherit) 0)
 
@@ -73,6 +74,25 @@ abbrev pub between : ℕ → ℕ → ℕ → Bool
 between a z v = leb a v && leb v z
 
 -- "Flags are a sum, at most 63, of 1 count, 2 timed count with timer, 4 start, 8 end, 16 interval, 32 accumulated."
+abbrev pub countFlag : ℕ
+countFlag = 1
+
+abbrev pub timedFlag : ℕ
+timedFlag = 2
+
+abbrev pub startFlag : ℕ
+startFlag = 4
+
+abbrev pub endFlag : ℕ
+endFlag = 8
+
+abbrev pub intervalFlag : ℕ
+intervalFlag = 16
+
+abbrev pub accumulatedFlag : ℕ
+accumulatedFlag = 32
+
+-- whether that flag is set
 unfoldable pub flagged : ℕ → Limits → Bool
 flagged w l = eqb (l .flags / w % 2) 1
 
@@ -108,13 +128,13 @@ assetsLegal b = all (λ i. assetLegal (b .assets) (assetsIn b) i (assetAt (b .as
 -- start and end are times
 unfoldable pub rangesLegal : Limits → Bool
 rangesLegal l =
-    limit (flagged 1 l) leastLimit 1000000 (l .count)
-    && limit (flagged 2 l) leastLimit 1000000 (l .timed)
-    && limit (flagged 2 l) 0 1000000 (l .timer)
-    && limit (flagged 4 l) 0 latestTime (l .start)
-    && limit (flagged 8 l) 0 latestTime (l .end)
-    && limit (flagged 16 l) leastLimit 100000000 (l .interval)
-    && limit (flagged 32 l) leastLimit 100000000 (l .accumulated)
+    limit (flagged countFlag l) leastLimit 1000000 (l .count)
+    && limit (flagged timedFlag l) leastLimit 1000000 (l .timed)
+    && limit (flagged timedFlag l) 0 1000000 (l .timer)
+    && limit (flagged startFlag l) 0 latestTime (l .start)
+    && limit (flagged endFlag l) 0 latestTime (l .end)
+    && limit (flagged intervalFlag l) leastLimit 100000000 (l .interval)
+    && limit (flagged accumulatedFlag l) leastLimit 100000000 (l .accumulated)
 
 -- "rights object number (1 to 65535), asset (in the book), kind ..., flags, limits"; "start at most end where both are flagged";
 -- momentary: "no accumulated, timer 0". Whether the asset is in the book is passed in.
@@ -125,8 +145,8 @@ limitsLegal known l =
     && between 1 5 (l .kind)
     && leb (l .flags) 63
     && rangesLegal l
-    && (not (flagged 4 l && flagged 8 l) || leb (l .start) (l .end))
-    && (not (momentary (l .kind)) || (not (flagged 32 l) && eqb (l .timer) 0))
+    && (not (flagged startFlag l && flagged endFlag l) || leb (l .start) (l .end))
+    && (not (momentary (l .kind)) || (not (flagged accumulatedFlag l) && eqb (l .timer) 0))
 
 -- all entries of the book
 unfoldable pub entriesLegal : Book → Bool
@@ -170,12 +190,12 @@ answerLegal n a =
 -- "[begin, until) inside its flagged dates and, where flagged, an interval with started 1"
 unfoldable pub insideDates : Open → Limits → Bool
 insideDates o l =
-    (not (flagged 4 l) || leb (l .start) (o .begin))
-    && (not (flagged 8 l) || leb (o .until) (l .end + 1))
+    (not (flagged startFlag l) || leb (l .start) (o .begin))
+    && (not (flagged endFlag l) || leb (o .until) (l .end + 1))
 
 unfoldable pub insideInterval : Open → Limits → Meters → Bool
 insideInterval o l m =
-    not (flagged 16 l)
+    not (flagged intervalFlag l)
     || (eqb (m .started) 1 && leb (m .first) (o .begin) && leb (o .until) (m .first + l .interval))
 
 -- "begin ≤ book time < until ≤ book time + 60, an open entry that is a position of kind 1 to 3, and ..."
@@ -227,7 +247,7 @@ meterLegal flag most used = cond flag (leb used most) (eqb used 0)
 unfoldable pub startLegal : ℕ → Limits → Meters → Bool
 startLegal time l m =
     leb (m .started) 1
-    && (flagged 16 l || eqb (m .started) 0)
+    && (flagged intervalFlag l || eqb (m .started) 0)
     && (eqb (m .started) 1 || eqb (m .first) 0)
     && leb (m .first) time
 
@@ -249,16 +269,16 @@ openSeconds ps i = sum (λ p. cond (opens i (playerAt ps p .current)) (lasts (pl
 -- "Where flagged, used count and used timed are at least the entry's open uses, and used seconds at least their until − begin summed."
 unfoldable pub metersCover : ℕ → ℕ → Limits → Meters → Bool
 metersCover uses seconds l m =
-    (not (flagged 1 l) || leb uses (m .count))
-    && (not (flagged 2 l) || leb uses (m .timed))
-    && (not (flagged 32 l) || leb seconds (m .seconds))
+    (not (flagged countFlag l) || leb uses (m .count))
+    && (not (flagged timedFlag l) || leb uses (m .timed))
+    && (not (flagged accumulatedFlag l) || leb seconds (m .seconds))
 
 -- the meter rules for entry i
 unfoldable pub entryMetersLegal : ℕ → List Player → ℕ → Entry → Bool
 entryMetersLegal time ps i e =
-    meterLegal (flagged 1 (e .limits)) (e .limits .count) (e .meters .count)
-    && meterLegal (flagged 2 (e .limits)) (e .limits .timed) (e .meters .timed)
-    && meterLegal (flagged 32 (e .limits)) (e .limits .accumulated) (e .meters .seconds)
+    meterLegal (flagged countFlag (e .limits)) (e .limits .count) (e .meters .count)
+    && meterLegal (flagged timedFlag (e .limits)) (e .limits .timed) (e .meters .timed)
+    && meterLegal (flagged accumulatedFlag (e .limits)) (e .limits .accumulated) (e .meters .seconds)
     && startLegal time (e .limits) (e .meters)
     && metersCover (openUses ps i) (openSeconds ps i) (e .limits) (e .meters)
 

@@ -1,9 +1,11 @@
 -- Demand 1 as a statement: "Every event and every book image that meets the rules of document 01 is accepted, and gets the answer and
 -- the new book that those rules fix. Everything else is turned away with the number in its table, and the book and every byte lent to
 -- the server are then what they were." Claimed of every book, legal or not, and of every list of numbers as a record. It is proved in
--- `Proof.Demand1`. This file imports no proofs. What a record says and the checks before an event is taken are stated here a second time, in terms of
+-- `proofs/Demand1`. This file imports no proofs. What a record says and the checks before an event is taken are stated here a second
+-- time, in terms of
 -- byte positions and numbers. Of the rules only the step itself and the settling of entries are used.
--- Which of 10 to 15 a taken event gets, which entry a begin gets, until when, and what that entry's meters become, is stated by `Demand3`, in terms of
+-- Which of 10 to 15 a taken event gets, which entry a begin gets, until when, and what that entry's meters become, is stated by
+-- `Demand3`, in terms of
 -- the ledger.
 use mathlib.Core.Path.{_≡_}
 use mathlib.Core.Logic.{_↔_, _⊎_}
@@ -18,8 +20,9 @@ use Rattle.book.specs.declared.Book.{Book}
 use Rattle.book.specs.declared.Outcome.{Outcome}
 use Rattle.book.specs.Blank.{noEntry, closed}
 use Rattle.model.specs.Book.{limitsAt, playerAt, Legal}
-use Rattle.model.specs.Image.{Typed, Bytes, image, readCode}
-use Rattle.model.specs.Events.{settled, stepRecord}
+use Rattle.model.specs.Image.{Typed, Bytes, newest, versionIn, image, readCode}
+use Rattle.model.specs.Meters.{settled}
+use Rattle.model.specs.Step.{stepRecord}
 
 -- ## What a record says
 
@@ -144,7 +147,13 @@ pub record Opens (b : Book) (s : List ℕ) (o : Outcome) : Type 0 where
       → asker (o .book) s .current ≡ record { on = 1; entry = o .answer .entry; begin = askedTime s; until = o .answer .until }
   pub momentary : askedOperation s ≡ 1 → 4 ≤ askedKind s → Settles (askedTime s) (asker b s .current) (asker (o .book) s .current)
   pub continued : askedOperation s ≡ 2
-      → asker (o .book) s .current ≡ record { on = 1; entry = o .answer .entry; begin = asker b s .current .begin; until = o .answer .until }
+      → asker (o .book) s .current ≡ record {
+        on = 1;
+        entry = o .answer .entry;
+        begin = asker b s .current .begin;
+        until = o .answer
+            .until;
+      }
   pub stopped : askedOperation s ≡ 3 → asker (o .book) s .current ≡ closed
 
 -- What a taken event leaves. In the program a book has 16 players by its type; here a list may have any length.
@@ -209,4 +218,6 @@ pub record IsImage (s : List ℕ) : Type 0 where
 pub record Demand1 : Type 0 where
   pub records : (b : Book) (s : List ℕ) → Answered b s
   pub images : (s : List ℕ) → ImageCode (readCode s)
-  pub accepted : (s : List ℕ) → Bytes s → readCode s ≡ 0 ↔ IsImage s
+  -- 22 for any other version
+  pub versions : (s : List ℕ) → readCode s ≡ 0 → (1 ≤ versionIn s) × (versionIn s ≤ newest)
+  pub accepted : (s : List ℕ) → Bytes s → (readCode s ≡ 0) × (versionIn s ≡ newest) ↔ IsImage s

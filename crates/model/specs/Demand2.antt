@@ -1,20 +1,42 @@
 -- Demand 2, on images: "a book written and read back is the same book, and an accepted image writes the same bytes."
--- Statements only, in terms of `Book` and `Image`; the proofs are in `Proof.RoundTrip`.
+-- Statements only, in terms of `Book` and `Image`; proved in `proofs/Image/RoundTrip`.
 use Prim.Native.Nat.{ℕ, _≤_, _<_}
 use mathlib.Core.Path.{_≡_}
-use mathlib.Core.List.{List}
-use lib.ListN.{length, take, drop}
+use mathlib.Core.List.{List, _++_}
+use lib.ListN.{length, getD, take, drop}
+use Rattle.numbers.specs.Count.{joined}
+use Rattle.numbers.specs.Fields.{laidOut}
 use Rattle.book.specs.declared.Book.{Book}
-use Rattle.model.specs.Book.{Legal}
-use Rattle.model.specs.Image.{Typed, Bytes, image, lengthOf, writeAnswer, writeBuffer, readCode, readBook}
+use Rattle.book.specs.Blank.{noEntry}
+use Rattle.model.specs.Book.{assetAt, playerAt, assetsIn, entriesIn, Legal}
+use Rattle.model.specs.Image.{headerWidths, startValues, tailValues, assetWidths, assetValues, entryWidths, entryValues, playerWidths}
+use Rattle.model.specs.Image.{playerValues}
+use Rattle.model.specs.Image.{Typed, Bytes, newest, versionIn, image, lengthOf, writeAnswer, writeBuffer, readCode, readBook}
+
+-- the book laid out by version v: the same numbers in the widths of that version, and none that it lacks
+unfoldable pub imageAs : ℕ → Book → List ℕ
+imageAs v b =
+    laidOut (headerWidths v) (startValues v (assetsIn b) (entriesIn b) (b .time) ++ tailValues b)
+    ++ joined (λ i. laidOut (assetWidths v) (assetValues (assetAt (b .assets) i))) (assetsIn b)
+    ++ joined (λ i. laidOut (entryWidths v) (entryValues (getD (b .entries) i noEntry))) (entriesIn b)
+    ++ joined (λ p. laidOut (playerWidths v) (playerValues (playerAt (b .players) p))) 16
 
 pub record Demand2 : Type 0 where
   -- "a book written and read back is the same book", whatever book was held before
   pub readsBack : (held b : Book) → Legal b → Typed b → (readCode (image b) ≡ 0) × (readBook held (image b) ≡ b)
   -- what is written consists of bytes, so the statements below apply to it too
   pub imageBytes : (b : Book) → Legal b → Typed b → Bytes (image b)
-  -- "an accepted image writes the same bytes"
-  pub writesBack : (held : Book) (s : List ℕ) → Bytes s → readCode s ≡ 0 → image (readBook held s) ≡ s
+  -- what is written has the newest version
+  pub newestWritten : (b : Book) → Legal b → versionIn (image b) ≡ newest
+  -- "an accepted image writes the same bytes"; "equal bytes are wanted of the newest only"
+  pub writesBack : (held : Book) (s : List ℕ) → Bytes s → readCode s ≡ 0 → versionIn s ≡ newest → image (readBook held s) ≡ s
+  -- an accepted image of any version is the book that it reads as, laid out by that version: no number is misread
+  pub laidAgain : (held : Book) (s : List ℕ) → Bytes s → readCode s ≡ 0 → imageAs (versionIn s) (readBook held s) ≡ s
+  -- "Older images .. are written back as the newest version, reading as the same book": true of every accepted image
+  pub olderSame : (held next : Book) (s : List ℕ) → Bytes s → readCode s ≡ 0
+      → (readCode (image (readBook held s)) ≡ 0)
+      × (versionIn (image (readBook held s)) ≡ newest)
+      × (readBook next (image (readBook held s)) ≡ readBook held s)
   -- what is accepted is a legal book, so it can be written and read back in turn
   pub acceptedLegal : (held : Book) (s : List ℕ) → Bytes s → readCode s ≡ 0 → Legal (readBook held s) × Typed (readBook held s)
   -- "20 to 27 | image refused | the book held before, unchanged"

@@ -1,14 +1,15 @@
--- Demand 3 as a statement: what is claimed of every list of events run from a fresh legal book. It is proved in `Proof.Demand3`.
+-- Demand 3 as a statement: what is claimed of every list of events run from a fresh legal book. It is proved in `proofs/Demand3`.
 -- This file imports no proofs. The rules are used here only where document 01 says so ("with the ledger's figures for the meters");
--- the checks before an event is taken, which of 10 to 13 a begin is answered, suitable, the order of the choice, until, and what a continue and
--- a stop are answered are stated a second time, worded separately.
+-- the checks before an event is taken, which of 10 to 13 a begin is answered, suitable, the grounds against an entry, the order of the
+-- choice,
+-- until, and what a continue and a stop are answered are stated a second time, worded separately.
 use mathlib.Core.Path.{_≡_}
 use mathlib.Core.Logic.{_↔_, _⊎_}
 use Prim.Native.Nat.{ℕ, suc, _+_, _-_, _≤_, _<_}
-use mathlib.Core.Bool.{Bool, true, false, _&&_, _||_, cond}
+use mathlib.Core.Bool.{Bool, true, false, _&&_, cond}
 use mathlib.Core.List.{List, [], _∷_, map}
 use mathlib.Core.Option.{Option, none, some}
-use Rattle.laws.specs.Count.{one}
+use Rattle.numbers.specs.Count.{one}
 use Rattle.book.specs.declared.Limits.{Limits}
 use Rattle.book.specs.declared.Meters.{Meters}
 use Rattle.book.specs.declared.Entry.{Entry}
@@ -26,8 +27,15 @@ use Rattle.book.specs.declared.Gate.{Gate}
 use Rattle.book.specs.declared.Gate.the-variants.{Refuse, Resend, Take}
 use Rattle.book.specs.Blank.{noLast, closed}
 use Rattle.model.specs.Book.{assetAt, limitsAt, metersAt, assetsIn, entriesIn, flagged}
-use Rattle.model.specs.Events.{kindNumber, where-flagged, catalogOf, Choice, nobody, chosen, choose, grantUntil, done, refusal, noneGrantable, noted, gate, decoded, step, arrive, stepRecord}
-use Rattle.model.specs.Ledger.{Use, Taken, Account, empty, latestTaken, resent, calledTaken, timeOf, latest, isOpen, spentCount, spentTimed, spentSeconds, countsTimed, sumOf, earliest, spent, outOfDates, noteArrival}
+use Rattle.model.specs.Book.{countFlag, timedFlag, startFlag, endFlag, intervalFlag, accumulatedFlag}
+use Rattle.model.specs.Record.{kindNumber, decoded}
+use Rattle.model.specs.Meters.{where-flagged}
+use Rattle.model.specs.Choice.{catalogOf, Choice, nobody, chosen, asks, choose, grantUntil}
+use Rattle.model.specs.Step.{done, refusal, noneGrantable, noted, step, arrive}
+use Rattle.model.specs.Gate.{gate}
+use Rattle.model.specs.Ledger.{Use, Taken, Account, empty, latestTaken, resent, calledTaken, timeOf, latest, isOpen, spentCount}
+use Rattle.model.specs.Ledger.{spentTimed, spentSeconds, countsTimed, sumOf, earliest, Ground, stands, noteArrival}
+use Rattle.model.specs.History.{answers, final, recordAnswers, recordFinal}
 
 -- ## The run
 
@@ -52,24 +60,6 @@ after s (d ∷ ds) = after (advance s d) ds
 abbrev pub starting : Book → State
 starting b = record { book = b; account = empty }
 
--- the answers to a list of events, and the book after it
-unfoldable pub answers : Book → List Decoded → List Answer
-answers b [] = []
-answers b (d ∷ ds) = arrive b d .answer ∷ answers (arrive b d .book) ds
-
-unfoldable pub final : Book → List Decoded → Book
-final b [] = b
-final b (d ∷ ds) = final (arrive b d .book) ds
-
--- the same for records of bytes
-unfoldable pub recordAnswers : Book → List (List ℕ) → List Answer
-recordAnswers b [] = []
-recordAnswers b (r ∷ rs) = stepRecord b r .answer ∷ recordAnswers (stepRecord b r .book) rs
-
-unfoldable pub recordFinal : Book → List (List ℕ) → Book
-recordFinal b [] = b
-recordFinal b (r ∷ rs) = recordFinal (stepRecord b r .book) rs
-
 -- ## a. The limits
 
 abbrev pub Every : (Use → Type 0) → List Use → Type 0
@@ -83,10 +73,10 @@ startOr t (some c) = c
 
 -- the second x lies in the entry's dates, and in its interval
 pub record Inside (l : Limits) (us : List Use) (i x : ℕ) : Type 0 where
-  pub start : flagged 4 l ≡ true → l .start ≤ x
-  pub end : flagged 8 l ≡ true → x ≤ l .end
-  pub from : flagged 16 l ≡ true → startOr 0 (earliest i us) ≤ x
-  pub until : flagged 16 l ≡ true → x < startOr 0 (earliest i us) + l .interval
+  pub start : flagged startFlag l ≡ true → l .start ≤ x
+  pub end : flagged endFlag l ≡ true → x ≤ l .end
+  pub from : flagged intervalFlag l ≡ true → startOr 0 (earliest i us) ≤ x
+  pub until : flagged intervalFlag l ≡ true → x < startOr 0 (earliest i us) + l .interval
 
 -- "Every second in a use's [begin, until) must lie in its entry's dates and interval; a momentary use has its begin there."
 pub record UseInside (l : Limits) (us : List Use) (u : Use) : Type 0 where
@@ -95,9 +85,9 @@ pub record UseInside (l : Limits) (us : List Use) (u : Use) : Type 0 where
 
 -- "spent count, spent timed and spent seconds are at most their flagged limits"
 pub record Limited (T : ℕ) (us : List Use) (es : List Entry) : Type 0 where
-  pub count : (i : ℕ) → flagged 1 (limitsAt es i) ≡ true → spentCount us i ≤ limitsAt es i .count
-  pub timed : (i : ℕ) → flagged 2 (limitsAt es i) ≡ true → spentTimed T us i (limitsAt es i) ≤ limitsAt es i .timed
-  pub seconds : (i : ℕ) → flagged 32 (limitsAt es i) ≡ true → spentSeconds us i ≤ limitsAt es i .accumulated
+  pub count : (i : ℕ) → flagged countFlag (limitsAt es i) ≡ true → spentCount us i ≤ limitsAt es i .count
+  pub timed : (i : ℕ) → flagged timedFlag (limitsAt es i) ≡ true → spentTimed T us i (limitsAt es i) ≤ limitsAt es i .timed
+  pub seconds : (i : ℕ) → flagged accumulatedFlag (limitsAt es i) ≡ true → spentSeconds us i ≤ limitsAt es i .accumulated
   pub inside : Every (λ u. UseInside (limitsAt es (u .entry)) us u) us
 
 -- ## b. The checks before an event is taken
@@ -131,7 +121,8 @@ OnlyAnswers s e a = step (s .book) e ≡ record { answer = a; book = s .book }
 -- and nothing changes; else 4. Anything but last + 1: 3 ... Then t ...: 5. From here the event is *taken*"
 pub record Checked (s : State) (e : Event) : Type 0 where
   pub no-player : 15 < e .player → OnlyAnswers s e (refusal 2)
-  pub again : e .player ≤ 15 → (x : Taken) → latestTaken (e .player) (s .account .taken) ≡ some x → resent (s .account) e ≡ true → OnlyAnswers s e (x .answer)
+  pub again : e .player ≤ 15 → (x : Taken) → latestTaken (e .player) (s .account .taken) ≡ some x → resent (s .account) e ≡ true →
+      OnlyAnswers s e (x .answer)
   pub unlike : e .player ≤ 15 → resent (s .account) e ≡ false → 0 < numberOf s e → e .number ≡ numberOf s e → OnlyAnswers s e (refusal 4)
   pub out-of-line : e .player ≤ 15 → (0 < numberOf s e → e .number ≡ numberOf s e → ⊥) → (Follows s e → ⊥) → OnlyAnswers s e (refusal 3)
   pub out-of-time : e .player ≤ 15 → Follows s e → (InTime s e → ⊥) → OnlyAnswers s e (refusal 5)
@@ -190,13 +181,22 @@ pub record MayChoose (s : State) (e : Event) (asset kind : ℕ) : Type 0 where
 abbrev pub RefusedWhen : Type 0 → ℕ → Answer → Type 0
 RefusedWhen P code a = (a .code ≡ code → P) × (P → a ≡ refusal code)
 
--- by the ledger, at T
-abbrev pub outOrSpent : ℕ → State → ℕ → Bool
-outOrSpent T s i = outOfDates T (limitsAt (s .book .entries) i) || spent T (s .account .uses) i (limitsAt (s .book .entries) i)
+-- by the ledger, that ground stands against entry i
+abbrev pub against : Event → State → ℕ → Ground → Bool
+against e s i g = stands e (s .account .uses) i (limitsAt (s .book .entries) i) g
+
+-- entry i "is out of its dates or spent": some ground stands
+pub record OutOrSpent (e : Event) (s : State) (i : ℕ) : Type 0 where
+  pub ground : Ground
+  pub holds : against e s i ground ≡ true
+
+-- entry i is neither: no ground stands
+abbrev pub Left : Event → State → ℕ → Type 0
+Left e s i = (g : Ground) → against e s i g ≡ false
 
 -- "every suitable entry is out of its dates or spent"
 abbrev pub NoneLeft : State → Event → ℕ → ℕ → Type 0
-NoneLeft s e asset kind = (i : ℕ) → Suits (s .book) asset kind i → outOrSpent (e .time) s i ≡ true
+NoneLeft s e asset kind = (i : ℕ) → Suits (s .book) asset kind i → OutOrSpent e s i
 
 -- whether the entry's interval has started, by the ledger
 abbrev pub isSome : Option ℕ → Bool
@@ -205,17 +205,17 @@ isSome (some c) = true
 
 -- the same, for an entry with a flagged interval
 abbrev pub running : List Use → ℕ → Limits → Bool
-running us i l = flagged 16 l && isSome (earliest i us)
+running us i l = flagged intervalFlag l && isSome (earliest i us)
 
 -- (i) and (ii) for two entries
 abbrev pub SameFlags : Limits → Limits → Type 0
 SameFlags x y = x .flags ≡ 0 ↔ y .flags ≡ 0
 
 abbrev pub EarlierEnd : Limits → Limits → Type 0
-EarlierEnd x y = (flagged 8 x ≡ true) × ((flagged 8 y ≡ false) ⊎ (x .end < y .end))
+EarlierEnd x y = (flagged endFlag x ≡ true) × ((flagged endFlag y ≡ false) ⊎ (x .end < y .end))
 
 abbrev pub SameEnd : Limits → Limits → Type 0
-SameEnd x y = ((flagged 8 x ≡ false) × (flagged 8 y ≡ false)) ⊎ ((flagged 8 x ≡ true) × (flagged 8 y ≡ true) × (x .end ≡ y .end))
+SameEnd x y = ((flagged endFlag x ≡ false) × (flagged endFlag y ≡ false)) ⊎ ((flagged endFlag x ≡ true) × (flagged endFlag y ≡ true) × (x .end ≡ y .end))
 
 -- Entry i goes before entry j "by: (i) no flags; (ii) earlier end, none last; (iii) interval already started; (iv) own before inherited;
 -- (v) lower position"
@@ -235,9 +235,9 @@ pub data Precedes (es : List Entry) (us : List Use) (asset i j : ℕ) : Type 0 w
 -- for a continue "old until + unused seconds"
 pub data Bound (t from : ℕ) (l : Limits) (us : List Use) (i x : ℕ) : Type 0 where
   near : x ≡ t + 60 → Bound t from l us i x
-  last : flagged 8 l ≡ true → x ≡ l .end + 1 → Bound t from l us i x
-  span : flagged 16 l ≡ true → x ≡ startOr t (earliest i us) + l .interval → Bound t from l us i x
-  unused : flagged 32 l ≡ true → x ≡ from + (l .accumulated - spentSeconds us i) → Bound t from l us i x
+  last : flagged endFlag l ≡ true → x ≡ l .end + 1 → Bound t from l us i x
+  span : flagged intervalFlag l ≡ true → x ≡ startOr t (earliest i us) + l .interval → Bound t from l us i x
+  unused : flagged accumulatedFlag l ≡ true → x ≡ from + (l .accumulated - spentSeconds us i) → Bound t from l us i x
 
 -- u is one of these times, and the least
 pub record IsLeast (t from : ℕ) (l : Limits) (us : List Use) (i u : ℕ) : Type 0 where
@@ -256,18 +256,18 @@ UntilIs Export t l us i u = u ≡ t
 pub record Granted (s : State) (e : Event) (kind : Kind) (asset : ℕ) (a : Answer) : Type 0 where
   pub code : a .code ≡ 0
   pub suits : Suits (s .book) asset (kindNumber kind) (a .entry)
-  pub left : outOrSpent (e .time) s (a .entry) ≡ false
-  pub first : (j : ℕ) → Suits (s .book) asset (kindNumber kind) j → outOrSpent (e .time) s j ≡ false → (j ≡ a .entry → ⊥)
+  pub left : Left e s (a .entry)
+  pub first : (j : ℕ) → Suits (s .book) asset (kindNumber kind) j → Left e s j → (j ≡ a .entry → ⊥)
       → Precedes (s .book .entries) (s .account .uses) asset (a .entry) j
   pub until : UntilIs kind (e .time) (limitsAt (s .book .entries) (a .entry)) (s .account .uses) (a .entry) (a .until)
 
 -- "the ledger's figures for the meters"; `at` is the time at which each player's uses are judged
 unfoldable pub figures : (ℕ → ℕ) → List Use → ℕ → Limits → Meters
 figures at us i l = record {
-  count = where-flagged (flagged 1 l) (spentCount us i);
-  timed = where-flagged (flagged 2 l) (sumOf (countsTimed at (l .timer) i) us);
-  first = where-flagged (flagged 16 l) (startOr 0 (earliest i us));
-  seconds = where-flagged (flagged 32 l) (spentSeconds us i);
+  count = where-flagged (flagged countFlag l) (spentCount us i);
+  timed = where-flagged (flagged timedFlag l) (sumOf (countsTimed at (l .timer) i) us);
+  first = where-flagged (flagged intervalFlag l) (startOr 0 (earliest i us));
+  seconds = where-flagged (flagged accumulatedFlag l) (spentSeconds us i);
   started = one (running us i l);
 }
 
@@ -285,7 +285,8 @@ abbrev pub chosenAnswer : ℕ → List Entry → Choice → Answer
 chosenAnswer t es nobody = refusal noneGrantable
 chosenAnswer t es (chosen i) = record { code = 0; entry = i; until = grantUntil t (limitsAt es i) (metersAt es i) }
 
--- A begin that reaches the choice "is answered "none grantable" exactly when by the ledger every suitable entry is out of its dates or spent,
+-- A begin that reaches the choice "is answered "none grantable" exactly when by the ledger every suitable entry is out of its dates or
+-- spent,
 -- and else is granted": once in words, and once by the rules' own choice "judged by the ledger before it, with T = its t and the
 -- ledger's figures for the meters".
 pub record Chosen (s : State) (e : Event) (kind : Kind) (asset : ℕ) : Type 0 where
@@ -293,7 +294,7 @@ pub record Chosen (s : State) (e : Event) (kind : Kind) (asset : ℕ) : Type 0 w
   pub granted : (step (s .book) e .answer .code ≡ 13 → ⊥) → Granted s e kind asset (step (s .book) e .answer)
   pub answer : step (s .book) e .answer ≡
       chosenAnswer (e .time) (filled (e .time) (s .account .uses) (s .book .entries))
-      (choose (catalogOf (s .book)) (filled (e .time) (s .account .uses) (s .book .entries)) (e .time) asset (kindNumber kind))
+      (choose (catalogOf (s .book)) (filled (e .time) (s .account .uses) (s .book .entries)) (asks e) asset (kindNumber kind))
 
 -- "10 | asset not in book, or key 0": checked after 11, so nothing is open
 pub record Unknown (s : State) (e : Event) (asset : ℕ) : Type 0 where
@@ -385,7 +386,7 @@ unfoldable pub predictBy : Gate → Book → Account → Event → Answer
 predictBy (Refuse code) b a e = refusal code
 predictBy Resend b a e = lastOf (e .player) (a .taken) .answer
 predictBy Take b a e =
-    done (e .request) (catalogOf b) (filled (e .time) (a .uses) (b .entries)) (heldIn (e .time) (e .player) (a .uses)) (e .time) .answer
+    done (e .request) (catalogOf b) (filled (e .time) (a .uses) (b .entries)) (heldIn (e .time) (e .player) (a .uses)) (asks e) .answer
 
 -- the answer from the account; b is read only for what no event changes: assets, limits, counts
 unfoldable pub predict : Book → Account → Decoded → Answer
@@ -401,11 +402,13 @@ predicted b a (d ∷ ds) = predict b a d ∷ predicted b (noteArrival a d (predi
 
 pub record Demand3 (b : Book) : Type 0 where
   pub time : (ds : List Decoded) → after (starting b) ds .book .time ≡ timeOf (after (starting b) ds .account .taken)
-  pub limits : (ds : List Decoded) → Limited (timeOf (after (starting b) ds .account .taken)) (after (starting b) ds .account .uses) (b .entries)
+  pub limits : (ds : List Decoded) → Limited (timeOf (after (starting b) ds .account .taken)) (after (starting b) ds .account .uses)
+      (b .entries)
   pub checked : (ds : List Decoded) (e : Event) → Checked (after (starting b) ds) e
   pub begins : (ds : List Decoded) (e : Event) (kind : Kind) (asset : ℕ) → e .request ≡ Begin kind asset → Takes (after (starting b) ds) e
       → Begins (after (starting b) ds) e kind asset
-  pub continues : (ds : List Decoded) (e : Event) → e .request ≡ Continue → Takes (after (starting b) ds) e → Continues (after (starting b) ds) e
+  pub continues : (ds : List Decoded) (e : Event) → e .request ≡ Continue → Takes (after (starting b) ds) e → Continues
+      (after (starting b) ds) e
   pub stops : (ds : List Decoded) (e : Event) → e .request ≡ Stop → Takes (after (starting b) ds) e → Stops (after (starting b) ds) e
   pub struckAnswers : (ds : List Decoded) → answers b (struck (starting b) ds) ≡ kept (starting b) ds
   pub struckBook : (ds : List Decoded) → final b (struck (starting b) ds) ≡ final b ds

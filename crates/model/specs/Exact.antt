@@ -1,6 +1,6 @@
 -- The definitions of events are total: a subtraction stops at 0, and a continue is answered 15 unless its new until is above the old one.
 -- On a legal book neither bends a rule: no subtraction is cut off at 0, and no new until is below the old one.
--- Every subtraction of `Events`, when it is computed, and the field that says that it is not cut off:
+-- Every subtraction of the rules, when it is computed, and the field that says that it is not cut off:
 --
 --   begun        u - t                        a begin             ExactBegin.until
 --   leastUntil   accumulated - used seconds   a begin             ExactBegin.unused
@@ -12,7 +12,7 @@
 --   ended        used seconds - (u - e)       settling, a stop    ExactEnd.seconds
 --
 -- `Book` has one, until - begin of an open use (`lasts`), which the meter rules sum: Exact.lasts.
--- Statements only; proved in `Proof.KeptExact`.
+-- Statements only; proved in `proofs/Legal/Exact`.
 use Prim.Native.Nat.{ℕ, suc, _-_, _≤_, _<_}
 use mathlib.Core.Path.{_≡_}
 use mathlib.Core.Bool.{true}
@@ -24,8 +24,11 @@ use Rattle.book.specs.declared.Book.{Book}
 use Rattle.book.specs.declared.Event.{Event}
 use Rattle.book.specs.declared.Gate.the-variants.{Take}
 use Rattle.model.specs.Book.{limitsAt, metersAt, flagged, playersLegal, Legal}
-use Rattle.model.specs.Events.{isOn, gate, expired, shut, released, settled, catalogOf, chosen, choose, grantUntil, more}
-use Rattle.model.specs.Events.{lastAt, openAt}
+use Rattle.model.specs.Book.{timedFlag, accumulatedFlag}
+use Rattle.model.specs.Meters.{isOn, expired, shut, released, settled}
+use Rattle.model.specs.Gate.{gate}
+use Rattle.model.specs.Choice.{asks, catalogOf, chosen, choose, grantUntil}
+use Rattle.model.specs.Step.{more, lastAt, openAt}
 
 -- ## What is claimed of a use's end, of a begin, of a continue
 
@@ -33,17 +36,17 @@ use Rattle.model.specs.Events.{lastAt, openAt}
 pub record ExactEnd (e : ℕ) (es : List Entry) (o : Open) : Type 0 where
   pub begun : o .begin ≤ e
   pub counted : e ≤ o .until
-  pub timed : flagged 2 (limitsAt es (o .entry)) ≡ true → 1 ≤ metersAt es (o .entry) .timed
-  pub seconds : flagged 32 (limitsAt es (o .entry)) ≡ true → o .until - e ≤ metersAt es (o .entry) .seconds
+  pub timed : flagged timedFlag (limitsAt es (o .entry)) ≡ true → 1 ≤ metersAt es (o .entry) .timed
+  pub seconds : flagged accumulatedFlag (limitsAt es (o .entry)) ≡ true → o .until - e ≤ metersAt es (o .entry) .seconds
 
 -- entry i is granted at t
 pub record ExactBegin (t : ℕ) (es : List Entry) (i : ℕ) : Type 0 where
-  pub unused : flagged 32 (limitsAt es i) ≡ true → metersAt es i .seconds ≤ limitsAt es i .accumulated
+  pub unused : flagged accumulatedFlag (limitsAt es i) ≡ true → metersAt es i .seconds ≤ limitsAt es i .accumulated
   pub until : t ≤ grantUntil t (limitsAt es i) (metersAt es i)
 
 -- the open use o is continued at t: "Equal to the old: 15. Else used seconds rise by the difference."
 pub record ExactContinue (t : ℕ) (es : List Entry) (o : Open) : Type 0 where
-  pub unused : flagged 32 (limitsAt es (o .entry)) ≡ true → metersAt es (o .entry) .seconds ≤ limitsAt es (o .entry) .accumulated
+  pub unused : flagged accumulatedFlag (limitsAt es (o .entry)) ≡ true → metersAt es (o .entry) .seconds ≤ limitsAt es (o .entry) .accumulated
   pub notBelow : o .until ≤ more es o t
 
 -- ## When they are computed
@@ -75,7 +78,7 @@ pub record Exact : Type 0 where
   pub turns : (b : Book) (e : Event) → Legal b → atTurn 16 b e ≡ atRequest b e
   -- then the request
   pub begin : (b : Book) (e : Event) (asset kind i : ℕ) → Legal b → Taken b e
-      → choose (catalogOf b) (atRequest b e) (e .time) asset kind ≡ chosen i → ExactBegin (e .time) (atRequest b e) i
+      → choose (catalogOf b) (atRequest b e) (asks e) asset kind ≡ chosen i → ExactBegin (e .time) (atRequest b e) i
   pub continue : (b : Book) (e : Event) → Legal b → Taken b e → isOn (asking b e) ≡ true
       → ExactContinue (e .time) (atRequest b e) (asking b e)
   pub stop : (b : Book) (e : Event) → Legal b → Taken b e → isOn (asking b e) ≡ true

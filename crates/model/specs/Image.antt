@@ -1,35 +1,50 @@
 -- The image of a book: document 01, section "Image": the layout, the writer's bytes, the reader's answer for every byte string.
--- "Big-endian." A layout is a list of widths with the values in the same order; a new field is a row in each.
+-- "Big-endian." A layout is a list of widths with the values in the same order. A version adds widths after the others and a value
+-- for each; an image is read by the layout of its own version, and a value that is missing there is 0.
 use Prim.Native.Nat.{ℕ, _+_, _*_, _-_, _<_}
 use mathlib.Core.Bool.{Bool, cond, _&&_, _||_, not}
 use mathlib.Core.List.{List, [], _∷_, _++_}
 use lib.ListN.{length, getD, drop, replicate}
 use lib.Dec.{ltb, leb, eqb}
-use Rattle.laws.specs.Count.{joined, listed}
-use Rattle.laws.specs.Fields.{Width, bits8, bits16, bits32, size, laidOut, valuesAt, Fit}
+use Rattle.numbers.specs.Count.{joined, listed}
+use Rattle.numbers.specs.Fields.{Width, bits8, bits16, bits32, size, laidOut, valuesAt, Fit}
 use Rattle.book.specs.declared.Asset.{Asset}
+use Rattle.book.specs.declared.Limits.{Limits}
+use Rattle.book.specs.declared.Meters.{Meters}
 use Rattle.book.specs.declared.Entry.{Entry}
+use Rattle.book.specs.declared.Last.{Last}
+use Rattle.book.specs.declared.Open.{Open}
 use Rattle.book.specs.declared.Player.{Player}
 use Rattle.book.specs.declared.Book.{Book}
 use Rattle.book.specs.Blank.{noAsset, noEntry}
-use Rattle.model.specs.Book.{assetAt, playerAt, assetsIn, entriesIn, latestTime, ruleBroken}
+use Rattle.model.specs.Book.{assetAt, playerAt, assetsIn, entriesIn, latestTime, between, ruleBroken}
 
--- ## The layout
-
--- "Mark `RBK`, version 16 bits (1), asset and entry numbers (8 each), book time 32."
-abbrev pub headerWidths : List Width
-headerWidths = bits8 ∷ bits8 ∷ bits8 ∷ bits16 ∷ bits8 ∷ bits8 ∷ bits32 ∷ []
+-- ## The layout, by version
 
 -- the version that is written
 abbrev pub newest : ℕ
 newest = 1
 
-abbrev pub headerValues : ℕ → ℕ → ℕ → List ℕ
-headerValues assets entries time = 82 ∷ 66 ∷ 75 ∷ newest ∷ assets ∷ entries ∷ time ∷ []
+-- "Mark `RBK`, version 16 bits (1), asset and entry numbers (8 each), book time 32.": the same in every version
+abbrev pub headerStart : List Width
+headerStart = bits8 ∷ bits8 ∷ bits8 ∷ bits16 ∷ bits8 ∷ bits8 ∷ bits32 ∷ []
+
+-- "What one adds goes behind the other fields of its header, asset, entry or player"
+abbrev pub headerTail : ℕ → List Width
+headerTail v = []
+
+abbrev pub headerWidths : ℕ → List Width
+headerWidths v = headerStart ++ headerTail v
+
+abbrev pub tailValues : Book → List ℕ
+tailValues b = []
+
+abbrev pub startValues : ℕ → ℕ → ℕ → ℕ → List ℕ
+startValues v assets entries time = 82 ∷ 66 ∷ 75 ∷ v ∷ assets ∷ entries ∷ time ∷ []
 
 -- "An asset is 5 bytes: number, inherit, key."
-abbrev pub assetWidths : List Width
-assetWidths = bits16 ∷ bits16 ∷ bits8 ∷ []
+abbrev pub assetWidths : ℕ → List Width
+assetWidths v = bits16 ∷ bits16 ∷ bits8 ∷ []
 
 abbrev pub assetValues : Asset → List ℕ
 assetValues a = a .number ∷ a .inherit ∷ a .key ∷ []
@@ -39,17 +54,28 @@ assetOf vs = record { number = getD vs 0 0; inherit = getD vs 1 0; key = getD vs
 
 -- "An entry is 51: rights object 16, asset 16, kind, flags, then 32 bits each count, timed, timer, start, end, interval,
 -- accumulated, used count, used timed, first, used seconds, then started."
-abbrev pub entryWidths : List Width
-entryWidths =
+-- The pieces are those that the writer lays one after the other.
+abbrev pub limitsWidths : List Width
+limitsWidths =
     bits16 ∷ bits16 ∷ bits8 ∷ bits8
-    ∷ bits32 ∷ bits32 ∷ bits32 ∷ bits32 ∷ bits32 ∷ bits32 ∷ bits32
-    ∷ bits32 ∷ bits32 ∷ bits32 ∷ bits32 ∷ bits8 ∷ []
+    ∷ bits32 ∷ bits32 ∷ bits32 ∷ bits32 ∷ bits32 ∷ bits32 ∷ bits32 ∷ []
+
+abbrev pub limitsValues : Limits → List ℕ
+limitsValues l =
+    l .object ∷ l .asset ∷ l .kind ∷ l .flags
+    ∷ l .count ∷ l .timed ∷ l .timer ∷ l .start ∷ l .end ∷ l .interval ∷ l .accumulated ∷ []
+
+abbrev pub metersWidths : List Width
+metersWidths = bits32 ∷ bits32 ∷ bits32 ∷ bits32 ∷ bits8 ∷ []
+
+abbrev pub metersValues : Meters → List ℕ
+metersValues m = m .count ∷ m .timed ∷ m .first ∷ m .seconds ∷ m .started ∷ []
+
+abbrev pub entryWidths : ℕ → List Width
+entryWidths v = limitsWidths ++ metersWidths
 
 abbrev pub entryValues : Entry → List ℕ
-entryValues e =
-    e .limits .object ∷ e .limits .asset ∷ e .limits .kind ∷ e .limits .flags
-    ∷ e .limits .count ∷ e .limits .timed ∷ e .limits .timer ∷ e .limits .start ∷ e .limits .end ∷ e .limits .interval ∷ e .limits .accumulated
-    ∷ e .meters .count ∷ e .meters .timed ∷ e .meters .first ∷ e .meters .seconds ∷ e .meters .started ∷ []
+entryValues e = limitsValues (e .limits) ++ metersValues (e .meters)
 
 abbrev pub entryOf : List ℕ → Entry
 entryOf vs = record {
@@ -76,17 +102,23 @@ entryOf vs = record {
 }
 
 -- "Sixteen players of 24: number 32, operation, asset 16, kind, answer code, entry, until 32, open, open entry, begin 32, until 32."
-abbrev pub playerWidths : List Width
-playerWidths =
-    bits32 ∷ bits8 ∷ bits16 ∷ bits8
-    ∷ bits8 ∷ bits8 ∷ bits32
-    ∷ bits8 ∷ bits8 ∷ bits32 ∷ bits32 ∷ []
+abbrev pub lastWidths : List Width
+lastWidths = bits32 ∷ bits8 ∷ bits16 ∷ bits8 ∷ bits8 ∷ bits8 ∷ bits32 ∷ []
+
+abbrev pub lastValues : Last → List ℕ
+lastValues l = l .number ∷ l .operation ∷ l .asset ∷ l .kind ∷ l .answer .code ∷ l .answer .entry ∷ l .answer .until ∷ []
+
+abbrev pub openWidths : List Width
+openWidths = bits8 ∷ bits8 ∷ bits32 ∷ bits32 ∷ []
+
+abbrev pub openValues : Open → List ℕ
+openValues o = o .on ∷ o .entry ∷ o .begin ∷ o .until ∷ []
+
+abbrev pub playerWidths : ℕ → List Width
+playerWidths v = lastWidths ++ openWidths
 
 abbrev pub playerValues : Player → List ℕ
-playerValues p =
-    p .last .number ∷ p .last .operation ∷ p .last .asset ∷ p .last .kind
-    ∷ p .last .answer .code ∷ p .last .answer .entry ∷ p .last .answer .until
-    ∷ p .current .on ∷ p .current .entry ∷ p .current .begin ∷ p .current .until ∷ []
+playerValues p = lastValues (p .last) ++ openValues (p .current)
 
 abbrev pub playerOf : List ℕ → Player
 playerOf vs = record {
@@ -100,36 +132,49 @@ playerOf vs = record {
   current = record { on = getD vs 7 0; entry = getD vs 8 0; begin = getD vs 9 0; until = getD vs 10 0 };
 }
 
+-- the number of bytes of each. Unfolded only on request: a product with one is then one number in a proof about offsets.
+unfoldable pub headerSize : ℕ → ℕ
+headerSize v = size (headerWidths v)
+
+unfoldable pub assetSize : ℕ → ℕ
+assetSize v = size (assetWidths v)
+
+unfoldable pub entrySize : ℕ → ℕ
+entrySize v = size (entryWidths v)
+
+unfoldable pub playerSize : ℕ → ℕ
+playerSize v = size (playerWidths v)
+
 -- "Length 11 + 5A + 51P + 384, at most 3,979."
-unfoldable pub imageLength : ℕ → ℕ → ℕ
-imageLength assets entries =
-    size headerWidths + size assetWidths * assets + size entryWidths * entries + size playerWidths * 16
+unfoldable pub imageLength : ℕ → ℕ → ℕ → ℕ
+imageLength v assets entries =
+    headerSize v + assetSize v * assets + entrySize v * entries + playerSize v * 16
 
 -- ## The writer
 
-unfoldable pub headerBytes : ℕ → ℕ → ℕ → List ℕ
-headerBytes assets entries time = laidOut headerWidths (headerValues assets entries time)
+unfoldable pub headerBytes : ℕ → ℕ → Book → List ℕ
+headerBytes assets entries b = laidOut (headerWidths newest) (startValues newest assets entries (b .time) ++ tailValues b)
 
 unfoldable pub assetBytes : Asset → List ℕ
-assetBytes a = laidOut assetWidths (assetValues a)
+assetBytes a = laidOut (assetWidths newest) (assetValues a)
 
 unfoldable pub entryBytes : Entry → List ℕ
-entryBytes e = laidOut entryWidths (entryValues e)
+entryBytes e = laidOut (entryWidths newest) (entryValues e)
 
 unfoldable pub playerBytes : Player → List ℕ
-playerBytes p = laidOut playerWidths (playerValues p)
+playerBytes p = laidOut (playerWidths newest) (playerValues p)
 
 -- all bytes of the image
 unfoldable pub image : Book → List ℕ
 image b =
-    headerBytes (assetsIn b) (entriesIn b) (b .time)
+    headerBytes (assetsIn b) (entriesIn b) b
     ++ joined (λ i. assetBytes (assetAt (b .assets) i)) (assetsIn b)
     ++ joined (λ i. entryBytes (getD (b .entries) i noEntry)) (entriesIn b)
     ++ joined (λ p. playerBytes (playerAt (b .players) p)) 16
 
 -- their number
 unfoldable pub lengthOf : Book → ℕ
-lengthOf b = imageLength (assetsIn b) (entriesIn b)
+lengthOf b = imageLength newest (assetsIn b) (entriesIn b)
 
 -- "The writer fills that many bytes, no more, and returns the length."; "30 | writer's buffer too short | buffer untouched"
 unfoldable pub writeAnswer : Book → ℕ → ℕ
@@ -140,8 +185,9 @@ writeBuffer b old = cond (leb (lengthOf b) (length old)) (image b ++ drop (lengt
 
 -- ## The reader
 
+-- the fields that every version has
 abbrev pub headerField : ℕ → List ℕ → ℕ
-headerField k s = getD (valuesAt headerWidths 0 s) k 0
+headerField k s = getD (valuesAt headerStart 0 s) k 0
 
 -- "Mark `RBK`"
 unfoldable pub markIn : List ℕ → Bool
@@ -159,52 +205,60 @@ entryCountIn s = headerField 5 s
 unfoldable pub timeIn : List ℕ → ℕ
 timeIn s = headerField 6 s
 
-unfoldable pub assetIn : List ℕ → Asset
-assetIn s = assetOf (valuesAt assetWidths 0 s)
+-- those after them in version v
+abbrev pub tailIn : ℕ → List ℕ → List ℕ
+tailIn v s = valuesAt (headerTail v) (size headerStart) s
 
-unfoldable pub entryIn : List ℕ → Entry
-entryIn s = entryOf (valuesAt entryWidths 0 s)
+unfoldable pub assetIn : ℕ → List ℕ → Asset
+assetIn v s = assetOf (valuesAt (assetWidths v) 0 s)
 
-unfoldable pub playerIn : List ℕ → Player
-playerIn s = playerOf (valuesAt playerWidths 0 s)
+unfoldable pub entryIn : ℕ → List ℕ → Entry
+entryIn v s = entryOf (valuesAt (entryWidths v) 0 s)
+
+unfoldable pub playerIn : ℕ → List ℕ → Player
+playerIn v s = playerOf (valuesAt (playerWidths v) 0 s)
 
 -- the n records at an offset, followed by blank slots
-unfoldable pub assetTable : List ℕ → ℕ → ℕ → List Asset
-assetTable s o n = listed (λ i. assetIn (drop (o + size assetWidths * i) s)) n ++ replicate (64 - n) noAsset
+unfoldable pub assetTable : ℕ → List ℕ → ℕ → ℕ → List Asset
+assetTable v s o n = listed (λ i. assetIn v (drop (o + assetSize v * i) s)) n ++ replicate (64 - n) noAsset
 
-unfoldable pub entryTable : List ℕ → ℕ → ℕ → List Entry
-entryTable s o n = listed (λ i. entryIn (drop (o + size entryWidths * i) s)) n ++ replicate (64 - n) noEntry
+unfoldable pub entryTable : ℕ → List ℕ → ℕ → ℕ → List Entry
+entryTable v s o n = listed (λ i. entryIn v (drop (o + entrySize v * i) s)) n ++ replicate (64 - n) noEntry
 
-unfoldable pub playerTable : List ℕ → ℕ → List Player
-playerTable s o = listed (λ p. playerIn (drop (o + size playerWidths * p) s)) 16
+unfoldable pub playerTable : ℕ → List ℕ → ℕ → List Player
+playerTable v s o = listed (λ p. playerIn v (drop (o + playerSize v * p) s)) 16
 
 -- where the entries and the players begin
-unfoldable pub entriesFrom : List ℕ → ℕ
-entriesFrom s = size headerWidths + size assetWidths * assetCountIn s
+unfoldable pub entriesFrom : ℕ → List ℕ → ℕ
+entriesFrom v s = headerSize v + assetSize v * assetCountIn s
 
-unfoldable pub playersFrom : List ℕ → ℕ
-playersFrom s = entriesFrom s + size entryWidths * entryCountIn s
+unfoldable pub playersFrom : ℕ → List ℕ → ℕ
+playersFrom v s = entriesFrom v s + entrySize v * entryCountIn s
 
--- the book in the bytes, unvalidated
-unfoldable pub bookIn : List ℕ → Book
-bookIn s = record {
+-- the book in the bytes by the layout of version v, unvalidated
+unfoldable pub bookAs : ℕ → List ℕ → Book
+bookAs v s = record {
   time = timeIn s;
   assetcount = assetCountIn s;
   entrycount = entryCountIn s;
-  assets = assetTable s (size headerWidths) (assetCountIn s);
-  entries = entryTable s (entriesFrom s) (entryCountIn s);
-  players = playerTable s (playersFrom s);
+  assets = assetTable v s (headerSize v) (assetCountIn s);
+  entries = entryTable v s (entriesFrom v s) (entryCountIn s);
+  players = playerTable v s (playersFrom v s);
 }
+
+-- "Older images have those fields 0": the book by the layout of the image's own version
+unfoldable pub bookIn : List ℕ → Book
+bookIn s = bookAs (versionIn s) s
 
 -- "Order: 20 below 11 bytes, 21 mark, 22 version, 23 a number above 64 or a late time, 20 wrong length, 24 asset rules,
 -- 25 entry rules, 26 players, 27 meters." 0 if none is broken.
 unfoldable pub headerBroken : List ℕ → ℕ
 headerBroken s =
-    cond (ltb (length s) (size headerWidths)) 20
+    cond (ltb (length s) (size headerStart)) 20
     (cond (not (markIn s)) 21
-    (cond (not (eqb (versionIn s) newest)) 22
+    (cond (not (between 1 newest (versionIn s))) 22
     (cond (ltb 64 (assetCountIn s) || ltb 64 (entryCountIn s) || ltb latestTime (timeIn s)) 23
-    (cond (not (eqb (length s) (imageLength (assetCountIn s) (entryCountIn s)))) 20
+    (cond (not (eqb (length s) (imageLength (versionIn s) (assetCountIn s) (entryCountIn s)))) 20
     0))))
 
 -- the reader's answer: 0, or the number of the first stage that is broken
@@ -217,11 +271,12 @@ readBook held s = cond (eqb (readCode s) 0) (bookIn s) held
 
 -- ## What holds of any value of the program's types
 
--- each number of a book fits its type
+-- each number of a book fits its type: its width in the newest layout
 pub record Typed (b : Book) : Type 0 where
-  pub assets : (i : ℕ) → Fit assetWidths (assetValues (assetAt (b .assets) i))
-  pub entries : (i : ℕ) → Fit entryWidths (entryValues (getD (b .entries) i noEntry))
-  pub players : (p : ℕ) → Fit playerWidths (playerValues (playerAt (b .players) p))
+  pub header : Fit (headerTail newest) (tailValues b)
+  pub assets : (i : ℕ) → Fit (assetWidths newest) (assetValues (assetAt (b .assets) i))
+  pub entries : (i : ℕ) → Fit (entryWidths newest) (entryValues (getD (b .entries) i noEntry))
+  pub players : (p : ℕ) → Fit (playerWidths newest) (playerValues (playerAt (b .players) p))
 
 -- each element of a list is a byte
 abbrev pub Bytes : List ℕ → Type 0

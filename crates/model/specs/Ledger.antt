@@ -1,11 +1,12 @@
--- The ledger: document 01, section "The ledger". It is built from events and answers alone; nothing here looks at a book's meters or players.
+-- The ledger: document 01, section "The ledger". It is built from events and answers alone; nothing here looks at a book's meters or
+-- players.
 -- Written from that section, separately from the rules of events. Quotations are that document's.
 use Prim.Native.Nat.{ℕ, _+_, _-_, min}
 use mathlib.Core.Bool.{Bool, true, false, not, _&&_, _||_, cond}
 use mathlib.Core.List.{List, [], _∷_}
 use mathlib.Core.Option.{Option, none, some}
 use lib.Dec.{leb, ltb, eqb}
-use Rattle.laws.specs.Count.{one}
+use Rattle.numbers.specs.Count.{one}
 use Rattle.book.specs.declared.Limits.{Limits}
 use Rattle.book.specs.declared.Answer.{Answer}
 use Rattle.book.specs.declared.Event.{Event}
@@ -14,7 +15,8 @@ use Rattle.book.specs.declared.Request.the-variants.{Begin, Continue, Stop}
 use Rattle.book.specs.declared.Decoded.{Decoded}
 use Rattle.book.specs.declared.Decoded.the-variants.{Invalid, Valid}
 use Rattle.model.specs.Book.{flagged}
-use Rattle.model.specs.Events.{operationNumber, requestAsset, requestKind}
+use Rattle.model.specs.Book.{countFlag, timedFlag, startFlag, endFlag, intervalFlag, accumulatedFlag}
+use Rattle.model.specs.Record.{operationNumber, requestAsset, requestKind}
 
 -- "The ledger is a list of uses (entry, player, begin, until, stopped or not)", newest first
 pub record Use : Type 0 where
@@ -86,7 +88,8 @@ goOn v u = record { entry = u .entry; player = u .player; begin = u .begin; unti
 abbrev pub stopAt : ℕ → Use → Use
 stopAt t u = record { entry = u .entry; player = u .player; begin = u .begin; until = t; stopped = true }
 
--- "A granted begin adds a use; a granted continue replaces until on that player's latest use; a granted stop makes until its time and marks it stopped."
+-- "A granted begin adds a use; a granted continue replaces until on that player's latest use; a granted stop makes until its time and
+-- marks it stopped."
 unfoldable pub posted : Request → Event → Answer → List Use → List Use
 posted (Begin kind asset) e r us =
     record { entry = r .entry; player = e .player; begin = e .time; until = r .until; stopped = false } ∷ us
@@ -161,14 +164,24 @@ abbrev pub over : ℕ → ℕ → Option ℕ → Bool
 over T interval none = false
 over T interval (some c) = leb (c + interval) T
 
--- "An entry is *spent* at T if, of what is flagged, spent count, spent timed or spent seconds has reached its limit, or T ≥ interval start + interval."
-unfoldable pub spent : ℕ → List Use → ℕ → Limits → Bool
-spent T us i l =
-    flagged 1 l && leb (l .count) (spentCount us i)
-    || flagged 2 l && leb (l .timed) (spentTimed T us i l)
-    || flagged 32 l && leb (l .accumulated) (spentSeconds us i)
-    || flagged 16 l && over T (l .interval) (earliest i us)
+-- ## What stands against an entry
 
--- "It is *out of its dates* at T if, where flagged, T < start or T > end."
-unfoldable pub outOfDates : ℕ → Limits → Bool
-outOfDates T l = flagged 4 l && ltb T (l .start) || flagged 8 l && ltb (l .end) T
+-- the grounds by name
+pub data Ground : Type 0 where
+  count-spent : Ground
+  timed-spent : Ground
+  seconds-spent : Ground
+  interval-over : Ground
+  before-start : Ground
+  after-end : Ground
+
+-- at the event's time T, whether that ground stands against entry i:
+-- "An entry is *spent* at T if, of what is flagged, spent count, spent timed or spent seconds has reached its limit, or
+-- T ≥ interval start + interval. It is *out of its dates* at T if, where flagged, T < start or T > end."
+unfoldable pub stands : Event → List Use → ℕ → Limits → Ground → Bool
+stands e us i l count-spent = flagged countFlag l && leb (l .count) (spentCount us i)
+stands e us i l timed-spent = flagged timedFlag l && leb (l .timed) (spentTimed (e .time) us i l)
+stands e us i l seconds-spent = flagged accumulatedFlag l && leb (l .accumulated) (spentSeconds us i)
+stands e us i l interval-over = flagged intervalFlag l && over (e .time) (l .interval) (earliest i us)
+stands e us i l before-start = flagged startFlag l && ltb (e .time) (l .start)
+stands e us i l after-end = flagged endFlag l && ltb (l .end) (e .time)

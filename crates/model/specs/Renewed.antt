@@ -1,6 +1,6 @@
 -- Demand 3 requires the first book to be `Fresh`. If few books were, that theorem would be nearly empty, so:
 -- every legal book with its time, meters and players blanked is fresh and legal, and every fresh and legal book arises this way.
--- Statements only; proved in `Proof.Renewed`.
+-- Statements only; proved in `proofs/Legal/Renewed`.
 use Prim.Native.Nat.{ℕ}
 use mathlib.Core.Path.{_≡_}
 use mathlib.Core.List.{map}
@@ -8,6 +8,7 @@ use lib.ListN.{replicate}
 use Rattle.book.specs.declared.Entry.{Entry}
 use Rattle.book.specs.declared.Book.{Book}
 use Rattle.book.specs.Blank.{noMeters, noPlayer}
+use Rattle.book.specs.Changed.{changed}
 use Rattle.model.specs.Book.{Legal, Fresh}
 use Rattle.model.specs.Image.{Typed}
 use Rattle.model.specs.Demand3.{Demand3}
@@ -18,14 +19,7 @@ unused e = record { limits = e .limits; meters = noMeters }
 
 -- the book as it was before its first event: "the time, all meters, all player records ... are 0", everything else is kept
 unfoldable pub renewed : Book → Book
-renewed b = record {
-  time = 0;
-  assetcount = b .assetcount;
-  entrycount = b .entrycount;
-  assets = b .assets;
-  entries = map unused (b .entries);
-  players = replicate 16 noPlayer;
-}
+renewed b = changed b 0 (map unused (b .entries)) (replicate 16 noPlayer)
 
 pub record Renewed : Type 0 where
   pub fresh : (b : Book) → Legal b → Fresh (renewed b)

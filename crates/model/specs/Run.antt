@@ -1,13 +1,14 @@
 -- The run program's text: document 01, section "Image", last part. Quotations are that document's.
-use Prim.Native.Nat.{ℕ, zero, suc, _+_, _*_, _/_, _%_}
+use Prim.Native.Nat.{ℕ, zero, suc, _+_, _*_, _/_, _%_, _-_}
 use mathlib.Core.Bool.{cond}
 use mathlib.Core.List.{List, [], _∷_, _++_}
 use lib.ListN.{length, take, drop}
 use lib.Dec.{ltb}
-use Rattle.laws.specs.Count.{listed}
+use Rattle.numbers.specs.Count.{listed}
 use Rattle.book.specs.declared.Answer.{Answer}
 use Rattle.book.specs.declared.Book.{Book}
-use Rattle.model.specs.Demand3.{recordAnswers, recordFinal}
+use Rattle.model.specs.Record.{recordSize}
+use Rattle.model.specs.History.{recordAnswers, recordFinal}
 
 -- a number below 10 to the k in decimal digits, with no leading zeros
 unfoldable pub decimalIn : ℕ → ℕ → List ℕ
@@ -29,11 +30,11 @@ lines (a ∷ as′) = line a ++ lines as′
 
 -- "13-byte events ... from standard input": how many there are in some bytes, the last perhaps cut short
 unfoldable pub recordCount : List ℕ → ℕ
-recordCount s = (length s + 12) / 13
+recordCount s = (length s + (recordSize - 1)) / recordSize
 
 -- record i; "a last record cut short" is shorter than 13
 unfoldable pub recordAt : List ℕ → ℕ → List ℕ
-recordAt s i = take 13 (drop (13 * i) s)
+recordAt s i = take recordSize (drop (recordSize * i) s)
 
 unfoldable pub recordsIn : List ℕ → List (List ℕ)
 recordsIn s = listed (recordAt s) (recordCount s)

@@ -1,5 +1,5 @@
 -- "Saving and reading back between any two events is allowed": every event leaves a legal book, so it can be written at any time,
--- and going on from what is read back gives the same answers and the same book. Statements only; proved in `Proof.Kept`.
+-- and going on from what is read back gives the same answers and the same book. Statements only; proved in `proofs/Legal/Step`.
 use Prim.Native.Nat.{ℕ, _<_}
 use mathlib.Core.Path.{_≡_}
 use mathlib.Core.List.{List, [], _∷_, map}
@@ -11,8 +11,9 @@ use Rattle.book.specs.declared.Decoded.{Decoded}
 use Rattle.book.specs.declared.Decoded.the-variants.{Invalid, Valid}
 use Rattle.model.specs.Book.{Legal}
 use Rattle.model.specs.Image.{Typed, Bytes, image, readCode, readBook}
-use Rattle.model.specs.Events.{requestAsset, decoded, step, arrive, stepRecord}
-use Rattle.model.specs.Demand3.{answers, final}
+use Rattle.model.specs.Record.{requestAsset, decoded}
+use Rattle.model.specs.Step.{step, arrive, stepRecord}
+use Rattle.model.specs.History.{answers, final}
 
 -- ## What is claimed of a book
 

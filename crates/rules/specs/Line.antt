@@ -9,8 +9,8 @@ use Rattle.book.specs.declared.Last.{Last}
 use Rattle.book.specs.declared.Event.{Event}
 use Rattle.book.specs.declared.Gate.{Gate}
 use Rattle.book.specs.declared.Gate.the-variants.{Refuse, Resend}
-use Rattle.model.specs.Events.{lastNumber, sameNumber, sameRequest, inLine}
-use Rattle.laws.specs.Tests.{on-test, and-right}
+use Rattle.model.specs.Gate.{lastNumber, sameNumber, sameRequest, inLine}
+use Rattle.numbers.proofs.Tests.{on-test, and-right}
 
 -- "Equal to the player's last number (not 0): a *resend* if operation, asset and kind are equal. ... else 4. Anything but last + 1: 3"
 unfoldable pub outOfLine : Last → Event → Gate

@@ -1,22 +1,35 @@
 // The rules of document 01 for one entry and one player: the checks on an event's number and time, which entry is suitable and grantable,
-// which of two comes first, and the least until. Everything is read from the limits and meters of one entry, so no function here takes a book.
+// which of two comes first, and the least until. Everything is read from the limits and meters of one entry, so no function here takes
+// a book.
 // Every function is total, and its contract gives its whole result.
 ghost use mathlib.Core.Path.{_≡_};
-ghost use mathlib.Core.Bool.{cond};
-ghost use Prim.Native.Nat.{_-_, min};
-ghost use Rattle.laws.specs.Count.{one};
+ghost use Prim.Native.Nat.{_-_};
 ghost use Rattle.model.specs.Book.{grantLength, momentary};
-ghost use Rattle.model.specs.Events.{kindNumber, sameRequest, gate, noted, grantable, rankOf, ranksBefore, cap, leastUntil, where-flagged};
+ghost use Rattle.model.specs.Record.{kindNumber};
+ghost use Rattle.model.specs.Gate.{sameRequest, gate};
+ghost use Rattle.model.specs.Step.{noted};
+ghost use Rattle.model.specs.Choice.{groundsOf, grantable, rankOf, ranksBefore, cap, leastUntil};
+ghost use Rattle.model.specs.Meters.{where-flagged};
 ghost use Rattle.rules.specs.Line.{outOfLine};
-ghost use Rattle.rules.specs.Rules.{wireOf, flagsOf, asRank};
+ghost use Rattle.rules.specs.Rules.{wireOf, flagsOf};
 use book::Answer;
+use book::Ask;
 use book::Event;
 use book::Gate;
+use book::Grounds;
 use book::Kind;
+use book::LATEST_TIME;
 use book::Last;
 use book::Limits;
 use book::Meters;
+use book::NO_END;
+use book::Rank;
 use book::Request;
+use numbers::min_wide;
+use numbers::one;
+use numbers::pick32;
+use numbers::pick64;
+use numbers::saturating_sub;
 
 // The three numbers of a request, as event records and images have them.
 pub struct Wire {
@@ -35,60 +48,12 @@ pub struct Flags {
     pub accumulated: bool,
 }
 
-// What entries are ordered by, field by field: the smaller number comes first.
-pub struct Rank {
-    pub flags: u8,
-    pub end: u64,
-    pub fresh: u8,
-    pub inherited: u8,
-}
-
-// Rules out: the two swapped, the first whatever the test.
-pub fn pick32(w: bool, a: u32, b: u32) -> u32
-    ensures { λ r. ⌜ r ≡ cond w a b ⌝ }
-{
-    if w { a } else { b }
-}
-
 // The number if the test passes, otherwise 0.
 // Rules out: the number if the test fails, 1 for the number.
 pub fn when(w: bool, v: u32) -> u32
     ensures { λ r. ⌜ r ≡ where-flagged w v ⌝ }
 {
     if w { v } else { 0 }
-}
-
-// Rules out: the two swapped, the first whatever the test.
-pub fn pick64(w: bool, a: u64, b: u64) -> u64
-    ensures { λ r. ⌜ r ≡ cond w a b ⌝ }
-{
-    if w { a } else { b }
-}
-
-// 1 if the test passes, 0 if it fails.
-// Rules out: 0 and 1 swapped, always 1.
-pub fn one(w: bool) -> u8
-    ensures { λ r. ⌜ r ≡ one w ⌝ }
-{
-    if w { 1 } else { 0 }
-}
-
-// The difference, or 0 if it would be negative.
-// Rules out: a difference that wraps, the operands swapped.
-pub fn less(a: u32, b: u32) -> u32
-    ensures { λ r. ⌜ r ≡ a - b ⌝ }
-{
-    if a < b {
-        return 0;
-    }
-    a - b
-}
-
-// Rules out: the larger of the two, the first whatever the second.
-pub fn least(a: u64, b: u64) -> u64
-    ensures { λ r. ⌜ r ≡ min a b ⌝ }
-{
-    if a < b { a } else { b }
 }
 
 // Rules out: two kinds with the same number, numbers from 0.
@@ -105,7 +70,7 @@ pub fn kind_number(k: Kind) -> u8
 }
 
 // Rules out: a kind or an asset for a continue or a stop, two operations with the same number.
-pub fn wire_of(q: Request) -> Wire
+fn wire_of(q: Request) -> Wire
     ensures { λ r. ⌜ r ≡ wireOf q ⌝ }
 {
     match q {
@@ -128,7 +93,7 @@ pub fn wire_of(q: Request) -> Wire
 }
 
 // Rules out: taking a begin of another asset or kind for the same request.
-pub fn same_request(last: Last, q: Request) -> bool
+fn same_request(last: Last, q: Request) -> bool
     ensures { λ r. ⌜ r ≡ sameRequest last q ⌝ }
 {
     let w = wire_of(q);
@@ -167,7 +132,7 @@ pub fn gate_of(now: u32, last: Last, e: Event) -> Gate
     if e.time < now {
         return Gate::Refuse(5);
     }
-    if 4000000000 < e.time {
+    if LATEST_TIME < e.time {
         return Gate::Refuse(5);
     }
     Gate::Take
@@ -217,31 +182,44 @@ pub fn momentary(kind: u8) -> bool
     (4 <= kind) & (kind <= 5)
 }
 
+// What stands against granting an entry to who asks.
 // Rules out: end taken as excluded, a limit tested without its flag, a sum that wraps.
-pub fn grantable(l: Limits, m: Meters, t: u32) -> bool
-    ensures { λ r. ⌜ r ≡ grantable t l m ⌝ }
+pub fn grounds_of(l: Limits, m: Meters, ask: Ask) -> Grounds
+    ensures { λ r. ⌜ r ≡ groundsOf ask l m ⌝ }
 {
+    let t = ask.time;
     let first = m.first as u64;
     let interval = l.interval as u64;
     let due = first + interval;
     let now = t as u64;
     let f = flags_of(l);
-    (!f.count | (m.count < l.count))
-        & (!f.timed | (m.timed < l.timed))
-        & ((!f.start | (l.start <= t)) & (!f.end | (t <= l.end)))
-        & (!f.interval | (!(m.started == 1) | (now < due)))
-        & (!f.accumulated | (m.seconds < l.accumulated))
+    Grounds {
+        countspent: f.count & !(m.count < l.count),
+        timedspent: f.timed & !(m.timed < l.timed),
+        beforestart: f.start & !(l.start <= t),
+        afterend: f.end & !(t <= l.end),
+        intervalover: f.interval & !(!(m.started == 1) | (now < due)),
+        secondsspent: f.accumulated & !(m.seconds < l.accumulated),
+    }
+}
+
+// Rules out: a ground left out, an entry granted because only one ground stands.
+pub fn grantable(l: Limits, m: Meters, ask: Ask) -> bool
+    ensures { λ r. ⌜ r ≡ grantable ask l m ⌝ }
+{
+    let g = grounds_of(l, m, ask);
+    !g.countspent & !g.timedspent & !g.beforestart & !g.afterend & !g.intervalover & !g.secondsspent
 }
 
 // Rules out: an end that is not flagged, fresh and inherited swapped.
 pub fn rank_of(l: Limits, m: Meters, asset: u16) -> Rank
-    ensures { λ r. ⌜ asRank r ≡ rankOf asset l m ⌝ }
+    ensures { λ r. ⌜ r ≡ rankOf asset l m ⌝ }
 {
     let f = flags_of(l);
     let end = l.end as u64;
     Rank {
         flags: one(!(l.flags == 0)),
-        end: pick64(f.end, end, 4294967296),
+        end: pick64(f.end, end, NO_END),
         fresh: one(!(m.started == 1)),
         inherited: one(!(l.asset == asset)),
     }
@@ -249,7 +227,7 @@ pub fn rank_of(l: Limits, m: Meters, asset: u16) -> Rank
 
 // Rules out: own after inherited, a later end first, fields compared in another order.
 pub fn ranks_before(a: Rank, b: Rank) -> bool
-    ensures { λ r. ⌜ r ≡ ranksBefore (asRank a) (asRank b) ⌝ }
+    ensures { λ r. ⌜ r ≡ ranksBefore a b ⌝ }
 {
     (a.flags < b.flags)
         | (a.flags == b.flags)
@@ -259,11 +237,11 @@ pub fn ranks_before(a: Rank, b: Rank) -> bool
 }
 
 // Rules out: a cap applied without its flag, the larger of the two.
-pub fn capped(w: bool, v: u64, x: u64) -> u64
+fn capped(w: bool, v: u64, x: u64) -> u64
     ensures { λ r. ⌜ r ≡ cap w v x ⌝ }
 {
     if w {
-        return least(v, x);
+        return min_wide(v, x);
     }
     x
 }
@@ -276,7 +254,7 @@ pub fn least_until(t: u32, from: u32, l: Limits, m: Meters) -> u64
     let now = t as u64;
     let length = grant_length(l.kind) as u64;
     let granted = now + length;
-    let unused = less(l.accumulated, m.seconds) as u64;
+    let unused = saturating_sub(l.accumulated, m.seconds) as u64;
     let paid = from as u64 + unused;
     let first = pick32(m.started == 1, m.first, t) as u64;
     let interval = l.interval as u64;

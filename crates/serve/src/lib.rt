@@ -1,5 +1,6 @@
 // The run program: the book from rights.rbk, event records from standard input, a line for each answer on standard output.
-// This crate only reads and writes: crate `turn` does the work between two reads, and the crates below it define what images and records mean.
+// This crate only reads and writes: crate `turn` does the work between two reads, and the crates below it define what images and
+// records mean.
 // The bytes of one read are answered in one write before the next read, so that a player at a pipe need not wait for others.
 ghost use Prim.Native.Nat.{_≤_};
 ghost use lib.ListN.{length};
@@ -53,7 +54,8 @@ fn filled(s: &[u8], from: usize, got: isize) -> usize
     from + io::count(got, &s[from..])
 }
 
-// Reads the file to the start of image until the file ends or image is full, and returns how many bytes. An unreadable file counts as empty.
+// Reads the file to the start of image until the file ends or image is full, and returns how many bytes. An unreadable file counts as
+// empty.
 fn read_file(fd: i32, image: &mut [u8]) -> usize
     ensures { λ r. ⌜ r ≤ length (now (image .exit)) ⌝ }
 {

@@ -1,4 +1,5 @@
--- Laws of decimal digits: how many a number has, one or two digits fewer, and digits written into a buffer, one by one from last to first, or two at a time.
+-- Laws of decimal digits: how many a number has, one or two digits fewer, and digits written into a buffer, one by one from last to
+-- first, or two at a time.
 use Prim.Native.Nat.{ℕ, zero, suc, _+_, _-_, _*_, _/_, _%_, _<_, _≤_, _^_, zero-le, suc-le-suc}
 use mathlib.Core.Path.{_≡_, refl, sym, ap, ap₂, _∙_}
 use mathlib.Core.Bool.{true, _&&_}
@@ -11,8 +12,9 @@ use lib.ListN.{length, getD, set, take, drop, length-append, length-take, length
 use lib.Dec.{eqb}
 use lib.Seq.{length-take-le, set-at, set-split, append-snoc, drop-cons, take-suc, take-length, drop-length}
 use borrow.Author.Tests.{lt-ltb, le-ltb, eqb-true}
-use Rattle.model.specs.Proof.Facts.{and-left, and-right}
-use Rattle.laws.specs.Buffer.{lay, lay-nil, lay-lay}
+use Rattle.model.proofs.Ledger.Facts.{and-left, and-right}
+use Rattle.numbers.specs.Buffer.{lay}
+use Rattle.numbers.proofs.BufferLaws.{lay-nil, lay-lay}
 use Rattle.book.specs.declared.Answer.{Answer}
 use Rattle.model.specs.Run.{decimalIn, decimal, line}
 use Rattle.text.specs.Lines.{refusedEnd}
@@ -70,7 +72,8 @@ snoc-same (x ∷ xs) (y ∷ ys) a b e =
     (cc, r .1)
 
 -- when only the last digit is left
-last-digit : (j x : ℕ) (d : List ℕ) → j < length d → x < 10 → ([] ≡ take j d) × (48 + x ≡ getD d j 0) → (decimalIn j (x / 10) ≡ take j d) × (48 + x % 10 ≡ getD d j 0)
+last-digit : (j x : ℕ) (d : List ℕ) → j < length d → x < 10 → ([] ≡ take j d) × (48 + x ≡ getD d j 0) →
+    (decimalIn j (x / 10) ≡ take j d) × (48 + x % 10 ≡ getD d j 0)
 unfolding decimalIn
 last-digit zero x d h one p = (p .0, ap (λ (v : ℕ). 48 + v) (omega arith) ∙ p .1)
 last-digit (suc k) x d h one p =
@@ -78,7 +81,8 @@ last-digit (suc k) x d h one p =
     let z : 0 ≡ suc k = ap length (p .0) ∙ length-take-le (suc k) d le in absurd (omega arith)
 
 -- one digit fewer: the turn of a loop that takes the last of the j + 1 digits left of the list d
-pub digits-turn : (j x : ℕ) (d : List ℕ) → j < length d → decimalIn (suc j) x ≡ take (suc j) d → (decimalIn j (x / 10) ≡ take j d) × (48 + x % 10 ≡ getD d j 0)
+pub digits-turn : (j x : ℕ) (d : List ℕ) → j < length d → decimalIn (suc j) x ≡ take (suc j) d → (decimalIn j (x / 10) ≡ take j d) ×
+    (48 + x % 10 ≡ getD d j 0)
 digits-turn j x d h e =
     let s : take (suc j) d ≡ take j d ++ (getD d j 0 ∷ []) = take-suc d j 0 h in
     ⊎-elim (λ one. last-digit j x d h one (snoc-same [] (take j d) (48 + x) (getD d j 0) (sym (digit-one j x one) ∙ e ∙ s)))
@@ -102,7 +106,8 @@ in-length (suc k) n h =
     (λ one. ap (λ (s : List ℕ). decimalIn (length s) n) (digit-one (suc k) n one) ∙ digit-one zero n one ∙ sym (digit-one (suc k) n one))
     (λ more.
     let m : length (decimalIn (suc (suc k)) n) ≡ suc (length (decimalIn (suc k) (n / 10))) =
-    ap length (digit-more (suc k) n more) ∙ length-append (decimalIn (suc k) (n / 10)) ((48 + n % 10) ∷ []) ∙ add-one (length (decimalIn (suc k) (n / 10))) in
+    ap length (digit-more (suc k) n more) ∙ length-append (decimalIn (suc k) (n / 10)) ((48 + n % 10) ∷ []) ∙ add-one
+    (length (decimalIn (suc k) (n / 10))) in
     ap (λ (l : ℕ). decimalIn l n) m
     ∙ digit-more (length (decimalIn (suc k) (n / 10))) n more
     ∙ ap (λ (s : List ℕ). s ++ ((48 + n % 10) ∷ [])) (in-length k (n / 10) (tenth k n h))
@@ -110,16 +115,21 @@ in-length (suc k) n h =
     (below n 10)
 
 -- the first turn: all digits are left, and none is written
-pub digits-start : (n : ℕ) (l : List ℕ) (at count : ℕ) → n < 4294967296 → count ≡ length (decimal n) → (decimalIn count n ≡ take count (decimal n)) × (l ≡ lay l (at + count) (drop count (decimal n)))
+pub digits-start : (n : ℕ) (l : List ℕ) (at count : ℕ) → n < 4294967296 → count ≡ length (decimal n) →
+    (decimalIn count n ≡ take count (decimal n)) × (l ≡ lay l (at + count) (drop count (decimal n)))
 unfolding decimal
 digits-start n l at count h e =
     rw e (
       in-length 9 n (omega arith) ∙ sym (take-length (decimalIn 10 n)),
-      sym (ap (λ (s : List ℕ). lay l (at + length (decimalIn 10 n)) s) (drop-length (decimalIn 10 n)) ∙ lay-nil l (at + length (decimalIn 10 n))),
+      sym (ap (λ (s : List ℕ). lay l (at + length (decimalIn 10 n)) s) (drop-length (decimalIn 10 n)) ∙ lay-nil l
+          (at + length (decimalIn 10 n))),
     )
 
 -- the turn of the loop: left + 1 digits were left
-pub digits-laid : (n : ℕ) (l out : List ℕ) (at left rest : ℕ) → left < length (decimal n) → at + length (decimal n) ≤ length l → decimalIn (left + 1) rest ≡ take (left + 1) (decimal n) → out ≡ lay l (at + (left + 1)) (drop (left + 1) (decimal n)) → (decimalIn left (rest / 10) ≡ take left (decimal n)) × (set out (at + left) (48 + rest % 10) ≡ lay l (at + left) (drop left (decimal n)))
+pub digits-laid : (n : ℕ) (l out : List ℕ) (at left rest : ℕ) → left < length (decimal n) → at + length (decimal n) ≤ length l →
+    decimalIn (left + 1) rest ≡ take (left + 1) (decimal n) → out ≡ lay l (at + (left + 1)) (drop (left + 1) (decimal n)) →
+    (decimalIn left (rest / 10) ≡ take left (decimal n)) ×
+    (set out (at + left) (48 + rest % 10) ≡ lay l (at + left) (drop left (decimal n)))
 digits-laid n l out at left rest h room e o =
     let d = decimal n in
     let t = digits-turn left rest d h (rw add-one at e) in
@@ -142,7 +152,8 @@ length-most : (k n : ℕ) → length (decimalIn k n) ≤ k
 unfolding decimalIn
 length-most zero n = zero-le
 length-most (suc k) n =
-    ⊎-elim (λ one. rw (digit-one k n one) (omega arith)) (λ more. rw (digit-more k n more, length-append) (omega (arith, length-most k (n / 10)))) (below n 10)
+    ⊎-elim (λ one. rw (digit-one k n one) (omega arith)) (λ more. rw (digit-more k n more, length-append)
+    (omega (arith, length-most k (n / 10)))) (below n 10)
 
 -- a byte has at most 3 digits, and no number here has more than 10
 pub byte-places : (n : ℕ) → n < 256 → length (decimal n) ≤ 3
@@ -176,13 +187,17 @@ lay-end l at s n v e h =
     lay-one (lay l at s) n v h′ ∙ lay-lay l at s (v ∷ []) n e (omega arith)
 
 -- digits and a byte after them, put after what is already written
-pub lay-word : (l : List ℕ) (at : ℕ) (s w : List ℕ) (n m v : ℕ) → n ≡ at + length s → m ≡ n + length w → m < length l → set (lay (lay l at s) n w) m v ≡ lay l at (s ++ w ++ (v ∷ []))
+pub lay-word : (l : List ℕ) (at : ℕ) (s w : List ℕ) (n m v : ℕ) → n ≡ at + length s → m ≡ n + length w → m < length l → set
+    (lay (lay l at s) n w) m v ≡ lay l at (s ++ w ++ (v ∷ []))
 lay-word l at s w n m v e e′ h =
     ap (λ (x : List ℕ). set x m v) (lay-lay l at s w n (sym e) (omega arith))
     ∙ lay-end l at (s ++ w) m v (rw (length-append) (omega arith)) h
 
 -- three numbers, each with the byte after it, are the line of an answer
-pub line-laid : (a : Answer) (l o₁ o₂ o₃ : List ℕ) (at f s t : ℕ) → at + 19 ≤ length l → a .code < 256 → a .entry < 256 → f ≡ at + length (decimal (a .code)) → o₁ ≡ lay l at (decimal (a .code)) → s ≡ f + 1 + length (decimal (a .entry)) → o₂ ≡ lay (set o₁ f 32) (f + 1) (decimal (a .entry)) → t ≡ s + 1 + length (decimal (a .until)) → o₃ ≡ lay (set o₂ s 32) (s + 1) (decimal (a .until)) → (t + 1 ≡ at + length (line a)) × (set o₃ t 10 ≡ lay l at (line a))
+pub line-laid : (a : Answer) (l o₁ o₂ o₃ : List ℕ) (at f s t : ℕ) → at + 19 ≤ length l → a .code < 256 → a .entry < 256 → f ≡ at +
+    length (decimal (a .code)) → o₁ ≡ lay l at (decimal (a .code)) → s ≡ f + 1 + length (decimal (a .entry)) → o₂ ≡ lay (set o₁ f 32)
+    (f + 1) (decimal (a .entry)) → t ≡ s + 1 + length (decimal (a .until)) → o₃ ≡ lay (set o₂ s 32) (s + 1) (decimal (a .until)) →
+    (t + 1 ≡ at + length (line a)) × (set o₃ t 10 ≡ lay l at (line a))
 unfolding line
 line-laid a l o₁ o₂ o₃ at f s t room c e ef e₁ es e₂ et e₃ =
     let x = byte-places (a .code) c in
@@ -221,7 +236,8 @@ two-more k n lo =
     (append-assoc (decimalIn k (n / 100)) ((48 + n % 100 / 10) ∷ []) ((48 + n % 100 % 10) ∷ []))
 
 -- the last four
-four-more : (k n : ℕ) → 10000 ≤ n → decimalIn (suc (suc (suc (suc k)))) n ≡ decimalIn k (n / 10000) ++ two (n % 10000 / 100) ++ two (n % 10000 % 100)
+four-more : (k n : ℕ) → 10000 ≤ n → decimalIn (suc (suc (suc (suc k)))) n ≡ decimalIn k (n / 10000) ++ two (n % 10000 / 100) ++ two
+    (n % 10000 % 100)
 four-more k n lo =
     let a : n / 100 / 100 ≡ n / 10000 = omega arith in
     let b : n / 100 % 100 ≡ n % 10000 / 100 = omega arith in
@@ -233,7 +249,8 @@ written : List ℕ → ℕ → ℕ → List ℕ → List ℕ
 written l at k [] = l
 written l at k (v ∷ s) = written (set l (at + k) v) at (suc k) s
 
-written-laid : (l : List ℕ) (at k : ℕ) (w s : List ℕ) → length w ≡ k → at + k + length s ≤ length l → written (lay l at w) at k s ≡ lay l at (w ++ s)
+written-laid : (l : List ℕ) (at k : ℕ) (w s : List ℕ) → length w ≡ k → at + k + length s ≤ length l → written (lay l at w) at k s ≡ lay
+    l at (w ++ s)
 unfolding written
 written-laid l at k w [] e h = ap (lay l at) (sym (append-nil w))
 written-laid l at k w (v ∷ s) e h =
@@ -251,7 +268,9 @@ pub two-laid : (l : List ℕ) (at n : ℕ) → at + 2 ≤ length l → set (set 
 unfolding two written
 two-laid l at n h = bytes-laid l at (48 + n / 10) ((48 + n % 10) ∷ []) (omega arith)
 
-pub refused-laid : (l : List ℕ) (at : ℕ) → at + 7 ≤ length l → set (set (set (set (set (set (set l at 32) (at + 1) 50) (at + 2) 53) (at + 3) 53) (at + 4) 32) (at + 5) 48) (at + 6) 10 ≡ lay l at refusedEnd
+pub refused-laid : (l : List ℕ) (at : ℕ) → at + 7 ≤ length l → set
+    (set (set (set (set (set (set l at 32) (at + 1) 50) (at + 2) 53) (at + 3) 53) (at + 4) 32) (at + 5) 48) (at + 6) 10 ≡ lay l at
+    refusedEnd
 unfolding refusedEnd decimal decimalIn written
 refused-laid l at h = bytes-laid l at 32 (50 ∷ 53 ∷ 53 ∷ 32 ∷ 48 ∷ 10 ∷ []) (omega arith)
 
@@ -264,13 +283,16 @@ pub two-digits : (n : ℕ) → 10 ≤ n → n < 100 → two n ≡ decimal n
 unfolding decimal
 two-digits n lo hi = sym (two-only 8 n lo hi)
 
-pub three-laid : (l : List ℕ) (at n : ℕ) → 100 ≤ n → n < 1000 → at + 3 ≤ length l → lay (set l at (48 + n / 100)) (at + 1) (two (n % 100)) ≡ lay l at (decimal n)
+pub three-laid : (l : List ℕ) (at n : ℕ) → 100 ≤ n → n < 1000 → at + 3 ≤ length l → lay (set l at (48 + n / 100)) (at + 1)
+    (two (n % 100)) ≡ lay l at (decimal n)
 unfolding decimal two
 three-laid l at n lo hi room =
     rw (two-more 8 n lo, digit-one 7 (n / 100) (omega arith), lay-one l at (48 + n / 100) (omega arith))
     (lay-lay l at ((48 + n / 100) ∷ []) (two (n % 100)) (at + 1) refl (omega arith))
 
-pub ten-laid : (l : List ℕ) (at n : ℕ) → 1000000000 ≤ n → n < 4294967296 → at + 10 ≤ length l → lay (lay (lay (lay (lay l at (two (n / 10000 / 10000))) (at + 2) (two (n / 10000 % 10000 / 100))) (at + 4) (two (n / 10000 % 10000 % 100))) (at + 6) (two (n % 10000 / 100))) (at + 8) (two (n % 10000 % 100)) ≡ lay l at (decimal n)
+pub ten-laid : (l : List ℕ) (at n : ℕ) → 1000000000 ≤ n → n < 4294967296 → at + 10 ≤ length l → lay
+    (lay (lay (lay (lay l at (two (n / 10000 / 10000))) (at + 2) (two (n / 10000 % 10000 / 100))) (at + 4)
+    (two (n / 10000 % 10000 % 100))) (at + 6) (two (n % 10000 / 100))) (at + 8) (two (n % 10000 % 100)) ≡ lay l at (decimal n)
 unfolding decimal two
 ten-laid l at n lo hi room =
     let a = two (n / 10000 / 10000) in
@@ -278,7 +300,16 @@ ten-laid l at n lo hi room =
     let c = two (n / 10000 % 10000 % 100) in
     let d = two (n % 10000 / 100) in
     let e = two (n % 10000 % 100) in
-    rw (lay-lay l at a b (at + 2) refl (omega arith), lay-lay l at (a ++ b) c (at + 4) refl (omega arith), lay-lay l at (a ++ b ++ c) d (at + 6) refl (omega arith), lay-lay l at (a ++ b ++ c ++ d) e (at + 8) refl (omega arith), four-more 6 n (omega arith), four-more 2 (n / 10000) (omega arith), two-only 0 (n / 10000 / 10000) (omega arith) (omega arith))
+    rw (
+      lay-lay l at a b (at + 2) refl (omega arith),
+      lay-lay l at (a ++ b) c (at + 4) refl (omega arith),
+      lay-lay l at (a ++ b ++ c) d
+          (at + 6) refl (omega arith),
+      lay-lay l at (a ++ b ++ c ++ d) e (at + 8) refl (omega arith),
+      four-more 6 n (omega arith),
+      four-more 2 (n / 10000) (omega arith),
+      two-only 0 (n / 10000 / 10000) (omega arith) (omega arith),
+    )
     refl
 
 refused-length : length refusedEnd ≡ 7
@@ -289,7 +320,9 @@ refused-parts : (d s e u t : List ℕ) → d ++ s ++ e ++ s ++ u ++ t ≡ d ++ (
 refused-parts d s e u t = simp append-assoc
 
 -- a code and what follows it in a refusal are the line of that answer
-pub refused-line : (a : Answer) (l o : List ℕ) (at f : ℕ) → at + 19 ≤ length l → a .code < 256 → (eqb (a .entry) 255 && eqb (a .until) 0) ≡ true → f ≡ at + length (decimal (a .code)) → o ≡ lay l at (decimal (a .code)) → (f + 7 ≡ at + length (line a)) × (lay o f refusedEnd ≡ lay l at (line a))
+pub refused-line : (a : Answer) (l o : List ℕ) (at f : ℕ) → at + 19 ≤ length l → a .code < 256 →
+    (eqb (a .entry) 255 && eqb (a .until) 0) ≡ true → f ≡ at + length (decimal (a .code)) → o ≡ lay l at (decimal (a .code)) →
+    (f + 7 ≡ at + length (line a)) × (lay o f refusedEnd ≡ lay l at (line a))
 unfolding line refusedEnd
 refused-line a l o at f room c t ef e =
     let d = decimal (a .code) in
@@ -298,5 +331,8 @@ refused-line a l o at f room c t ef e =
     let u : a .until ≡ 0 = eqb-true (a .until) 0 (and-right (eqb (a .entry) 255) (eqb (a .until) 0) t) in
     let w : line a ≡ d ++ refusedEnd =
     ap₂ (λ (x y : ℕ). d ++ sp ++ decimal x ++ sp ++ decimal y ++ (10 ∷ [])) n u ∙ refused-parts d sp (decimal 255) (decimal 0) (10 ∷ []) in
-    let k : length (line a) ≡ length d + 7 = ap length w ∙ length-append d refusedEnd ∙ ap (λ (x : ℕ). length d + x) refused-length in
-    (omega arith, ap (λ (x : List ℕ). lay x f refusedEnd) e ∙ lay-lay l at d refusedEnd f (sym ef) (omega (arith, byte-places (a .code) c, refused-length)) ∙ ap (lay l at) (sym w))
+    let k : length (line a) ≡ length d + 7 = ap length w ∙ length-append d refusedEnd ∙ ap (λ (x : ℕ). length d + x) refused-length in (
+      omega arith,
+      ap (λ (x : List ℕ). lay x f refusedEnd) e ∙ lay-lay l at d refusedEnd f (sym ef)
+          (omega (arith, byte-places (a .code) c, refused-length)) ∙ ap (lay l at) (sym w),
+    )

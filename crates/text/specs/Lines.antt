@@ -4,7 +4,7 @@ use mathlib.Core.Bool.{cond}
 use mathlib.Core.List.{List, [], _∷_, _++_}
 use lib.ListN.{length}
 use lib.Dec.{leb}
-use Rattle.laws.specs.Buffer.{lay}
+use Rattle.numbers.specs.Buffer.{lay}
 use Rattle.book.specs.declared.Answer.{Answer}
 use Rattle.model.specs.Run.{decimal, line}
 

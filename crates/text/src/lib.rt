@@ -3,7 +3,7 @@
 ghost use mathlib.Core.Path.{_≡_};
 ghost use Prim.Native.Nat.{_+_, _<_, _≤_};
 ghost use lib.ListN.{length};
-ghost use Rattle.laws.specs.Buffer.{lay};
+ghost use Rattle.numbers.specs.Buffer.{lay};
 ghost use Rattle.model.specs.Run.{decimal};
 ghost use Rattle.text.specs.Digits.{two};
 ghost use Rattle.text.specs.Lines.{lineEnd, lineBuffer, refusedEnd};
@@ -121,7 +121,8 @@ fn put_refused(out: &mut [u8], at: usize)
     out[at + 6] = 10;
 }
 
-// Rules out: a digit, a space or the line's end left out, leading zeros, a byte touched past the line, and a line begun where it may not fit.
+// Rules out: a digit, a space or the line's end left out, leading zeros, a byte touched past the line, and a line begun where it may
+// not fit.
 pub fn put_line(out: &mut [u8], at: usize, a: Answer) -> usize
     ensures { λ r. ⌜ (r ≡ lineEnd a at (length (now (out .entry)))) × (now (out .exit) ≡ lineBuffer a at (now (out .entry))) × (r ≤ at + 19) ⌝ }
 {

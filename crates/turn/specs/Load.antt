@@ -1,4 +1,5 @@
--- A file longer than the longest image is refused with the same number from its first 3,980 bytes as from all of them, so no more need be read.
+-- A file longer than the longest image is refused with the same number from its first 3,980 bytes as from all of them, so no more need
+-- be read.
 use Prim.Native.Nat.{ℕ, _+_, _*_, _≤_}
 use mathlib.Core.Path.{_≡_, refl, sym, ap, ap₂, _∙_}
 use mathlib.Core.Bool.{Bool, true, false, cond, _&&_, _||_, not}
@@ -8,13 +9,14 @@ use lib.ListN.{length, take, getD}
 use lib.Seq.{take-all, getD-take, length-take-le}
 use lib.Dec.{ltb, eqb}
 use borrow.Author.Tests.{ltb-false, le-ltb, ne-eqb}
-use Rattle.laws.specs.Fields.{Width, bits8, bits16, bits32, bytes, size, numberAt, valuesAt}
-use Rattle.laws.specs.TableLaws.{below-or-not}
-use Rattle.laws.specs.Tests.{neither, cond-off, passed}
+use Rattle.numbers.specs.Fields.{Width, bits8, bits16, bits32, bytes, size, numberAt, valuesAt}
+use Rattle.numbers.proofs.TableLaws.{below-or-not}
+use Rattle.numbers.proofs.Tests.{neither, cond-off, passed}
 use Rattle.book.specs.declared.Book.{Book}
-use Rattle.model.specs.Book.{latestTime, ruleBroken}
-use Rattle.model.specs.Image.{headerWidths, newest, imageLength, markIn, versionIn, assetCountIn, entryCountIn, timeIn, bookIn, headerBroken, readCode, readBook}
-use Rattle.model.specs.Proof.Header.{refused-book}
+use Rattle.model.specs.Book.{latestTime, between, ruleBroken}
+use Rattle.model.specs.Image.{headerStart, newest, imageLength, markIn, versionIn, assetCountIn, entryCountIn, timeIn, bookIn, headerBroken}
+use Rattle.model.specs.Image.{readCode, readBook}
+use Rattle.model.proofs.Image.Header.{known-version, longest, refused-book}
 
 -- ## The numbers of a header are in the first bytes
 
@@ -23,8 +25,13 @@ module _ (m : ℕ) (s : List ℕ) where
   number-cut bits8 o h = getD-take m s o 0 (omega arith)
   number-cut bits16 o h = rw (getD-take m s o 0 (omega arith), getD-take m s (o + 1) 0 (omega arith))
   number-cut bits32 o h =
-      rw
-      (getD-take m s o 0 (omega arith), getD-take m s (o + 1) 0 (omega arith), getD-take m s (o + 2) 0 (omega arith), getD-take m s (o + 3) 0 (omega arith))
+      rw (
+        getD-take m s o 0 (omega arith),
+        getD-take m s (o + 1) 0 (omega arith),
+        getD-take m s (o + 2) 0 (omega arith),
+        getD-take m s
+            (o + 3) 0 (omega arith),
+      )
 
   values-cut : (ws : List Width) (o : ℕ) → o + size ws ≤ m → valuesAt ws o (take m s) ≡ valuesAt ws o s
   values-cut [] o h = refl
@@ -35,14 +42,14 @@ module _ (m : ℕ) (s : List ℕ) where
 longStages : List ℕ → ℕ
 longStages vs =
     cond (not (eqb (getD vs 0 0) 82 && eqb (getD vs 1 0) 66 && eqb (getD vs 2 0) 75)) 21
-    (cond (not (eqb (getD vs 3 0) newest)) 22
+    (cond (not (between 1 newest (getD vs 3 0))) 22
     (cond (ltb 64 (getD vs 4 0) || ltb 64 (getD vs 5 0) || ltb latestTime (getD vs 6 0)) 23 20))
 
 never-passed : (vs : List ℕ) → longStages vs ≡ 0 → ⊥
 unfolding longStages
 never-passed vs e =
     let mark = passed (not (eqb (getD vs 0 0) 82 && eqb (getD vs 1 0) 66 && eqb (getD vs 2 0) 75)) 20 _ e in
-    let version = passed (not (eqb (getD vs 3 0) newest)) 21 _ (mark .1) in
+    let version = passed (not (between 1 newest (getD vs 3 0))) 21 _ (mark .1) in
     let large = passed (ltb 64 (getD vs 4 0) || ltb 64 (getD vs 5 0) || ltb latestTime (getD vs 6 0)) 22 20 (version .1) in
     let z : _≡_ {A = ℕ} 20 0 = large .1 in
     omega arith
@@ -52,26 +59,29 @@ unless true c x y f = refl
 unless false c x y f = f refl
 
 -- "Length 11 + 5A + 51P + 384, at most 3,979."
-wrong-length : (n a p : ℕ) (late : Bool) → 3980 ≤ n
-    → cond {A = ℕ} (ltb 64 a || ltb 64 p || late) 23 (cond (not (eqb n (imageLength a p))) 20 0) ≡ cond (ltb 64 a || ltb 64 p || late) 23 20
-unfolding imageLength
-wrong-length n a p late h =
+wrong-length : (n v a p : ℕ) (late : Bool) → 1 ≤ v → v ≤ newest → 3980 ≤ n
+    → cond {A = ℕ} (ltb 64 a || ltb 64 p || late) 23 (cond (not (eqb n (imageLength v a p))) 20 0) ≡ cond (ltb 64 a || ltb 64 p || late)
+    23 20
+wrong-length n v a p late oldest known h =
     unless (ltb 64 a || ltb 64 p || late) 23 _ _ (λ q.
     let two = neither (ltb 64 a) (ltb 64 p) (neither (ltb 64 a || ltb 64 p) late q .0) in
     let la : a ≤ 64 = ltb-false 64 a (two .0) in
     let lp : p ≤ 64 = ltb-false 64 p (two .1) in
-    ap (λ (t : Bool). cond {A = ℕ} (not t) 20 0) (ne-eqb n (imageLength a p) (λ e. omega arith)))
+    ap (λ (t : Bool). cond {A = ℕ} (not t) 20 0) (ne-eqb n (imageLength v a p)
+    (λ e. let m = longest v a p oldest known la lp in omega (arith, e, m))))
 
 module _ (s : List ℕ) (long : 3980 ≤ length s) where
-  long-header : headerBroken s ≡ longStages (valuesAt headerWidths 0 s)
+  long-header : headerBroken s ≡ longStages (valuesAt headerStart 0 s)
   unfolding headerBroken markIn versionIn assetCountIn entryCountIn timeIn longStages
   long-header =
-      cond-off (ltb (length s) (size headerWidths)) _ _ (le-ltb (length s) (size headerWidths) (omega arith))
+      cond-off (ltb (length s) (size headerStart)) _ _ (le-ltb (length s) (size headerStart) (omega arith))
       ∙ ap
-      (λ (x : ℕ). cond (not (markIn s)) 21 (cond (not (eqb (versionIn s) newest)) 22 x))
-      (wrong-length (length s) (assetCountIn s) (entryCountIn s) (ltb latestTime (timeIn s)) long)
+      (λ (x : ℕ). cond (not (markIn s)) 21 x)
+      (unless (not (between 1 newest (versionIn s))) 22 _ _ (λ q.
+      let k = known-version (versionIn s) q in
+      wrong-length (length s) (versionIn s) (assetCountIn s) (entryCountIn s) (ltb latestTime (timeIn s)) (k .0) (k .1) long))
 
-  long-code : readCode s ≡ longStages (valuesAt headerWidths 0 s)
+  long-code : readCode s ≡ longStages (valuesAt headerStart 0 s)
   unfolding readCode
   long-code =
       let broken : eqb (headerBroken s) 0 ≡ false = ne-eqb (headerBroken s) 0 (λ e. never-passed _ (sym long-header ∙ e)) in
@@ -88,7 +98,7 @@ module _ (m : ℕ) (enough : 3980 ≤ m) (s : List ℕ) where
       below-or-not m (length s)
       (λ h.
       let l : 3980 ≤ length (take m s) = rw (length-take-le m s (omega arith)) enough in
-      long-code (take m s) l ∙ ap longStages (values-cut m s headerWidths 0 (omega arith)) ∙ sym (long-code s (omega arith)))
+      long-code (take m s) l ∙ ap longStages (values-cut m s headerStart 0 (omega arith)) ∙ sym (long-code s (omega arith)))
       (λ h. ap readCode (take-all m s h))
 
   pub cut-book : (held : Book) → readBook held (take m s) ≡ readBook held s

@@ -12,7 +12,8 @@ use borrow.Author.Tests.{le-leb}
 use Rattle.book.specs.declared.Book.{Book}
 use Rattle.model.specs.Run.{runText, runBook}
 use Rattle.blocks.specs.Blocks.{block-book, block-text}
-use Rattle.turn.specs.Turn.{keptCount, answeredOf, keptOf, inside, bookAfter, textAfter, writtenAfter, outAfter, keptAfter, inputAfter}
+use Rattle.turn.specs.Turn.{keptCount, answeredOf, keptOf, inside, bookAfter, textAfter, writtenAfter, outAfter, keptAfter}
+use Rattle.turn.specs.Turn.{inputAfter}
 use Rattle.turn.specs.Kept.{kept-less, length-kept}
 
 -- ## Definitions
@@ -109,12 +110,14 @@ module _ (s t : List ℕ) where
 
   split : s ++ t ≡ answeredOf false s ++ (keptOf false s ++ t)
   unfolding answeredOf keptOf
-  split = ap (λ (x : List ℕ). x ++ t) (sym (take-append-drop (length s - keptCount false (length s)) s)) ∙ append-assoc (answeredOf false s) (keptOf false s) t
+  split = ap (λ (x : List ℕ). x ++ t) (sym (take-append-drop (length s - keptCount false (length s)) s)) ∙ append-assoc
+      (answeredOf false s) (keptOf false s) t
 
   split-book : (b : Book) → runBook b (s ++ t) ≡ runBook (runBook b (answeredOf false s)) (keptOf false s ++ t)
   split-book b = ap (runBook b) split ∙ block-book (answeredOf false s) (keptOf false s ++ t) (length s / 13) whole b
 
-  split-text : (b : Book) → runText b (s ++ t) ≡ runText b (answeredOf false s) ++ runText (runBook b (answeredOf false s)) (keptOf false s ++ t)
+  split-text : (b : Book) → runText b (s ++ t) ≡ runText b (answeredOf false s) ++ runText (runBook b (answeredOf false s))
+      (keptOf false s ++ t)
   split-text b = ap (runText b) split ∙ block-text (answeredOf false s) (keptOf false s ++ t) (length s / 13) whole b
 
 all-answered : (s : List ℕ) → answeredOf true s ≡ s
@@ -123,7 +126,8 @@ all-answered s = take-all (length s - 0) s (omega arith)
 
 -- ## All turns
 
-from-book : (l : Between) (rs : List Read) (last : Read) → AllDelivered l rs last → turnsOn l rs last .book ≡ runBook (l .book) (held l ++ input l rs last)
+from-book : (l : Between) (rs : List Read) (last : Read) → AllDelivered l rs last → turnsOn l rs last .book ≡ runBook (l .book)
+    (held l ++ input l rs last)
 unfolding turnsOn input AllDelivered
 from-book l [] last h = next-book true l last h ∙ ap (runBook (l .book)) (all-answered (held l ++ came l last))
 from-book l (r ∷ rs) last (h, hs) =
@@ -135,7 +139,8 @@ from-book l (r ∷ rs) last (h, hs) =
     ∙ sym (split-book s t (l .book))
     ∙ ap (runBook (l .book)) (append-assoc (held l) (came l r) t)
 
-from-text : (l : Between) (rs : List Read) (last : Read) → AllDelivered l rs last → turnsOn l rs last .text ≡ l .text ++ runText (l .book) (held l ++ input l rs last)
+from-text : (l : Between) (rs : List Read) (last : Read) → AllDelivered l rs last → turnsOn l rs last .text ≡ l .text ++ runText
+    (l .book) (held l ++ input l rs last)
 unfolding turnsOn input AllDelivered
 from-text l [] last h = next-text true l last h ∙ ap (λ (s : List ℕ). l .text ++ runText (l .book) s) (all-answered (held l ++ came l last))
 from-text l (r ∷ rs) last (h, hs) =
@@ -144,7 +149,8 @@ from-text l (r ∷ rs) last (h, hs) =
     let t : List ℕ = input n rs last in
     let now : List ℕ = runText (l .book) (answeredOf false s) in
     from-text n rs last hs
-    ∙ ap₂ (λ (x y : List ℕ). x ++ y) (next-text false l r h) (ap₂ (λ (b : Book) (k : List ℕ). runText b (k ++ t)) (next-book false l r h) (next-held false l r h))
+    ∙ ap₂ (λ (x y : List ℕ). x ++ y) (next-text false l r h) (ap₂ (λ (b : Book) (k : List ℕ). runText b (k ++ t))
+    (next-book false l r h) (next-held false l r h))
     ∙ append-assoc (l .text) now _
     ∙ ap (λ (x : List ℕ). l .text ++ x) (sym (split-text s t (l .book)) ∙ ap (runText (l .book)) (append-assoc (held l) (came l r) t))
 
@@ -175,5 +181,6 @@ module _ (l : Between) (piece : List ℕ) (room : l .kept + length piece ≤ len
 
   pub brings : came l (bringing l piece) ≡ piece
   brings =
-      ap (take (length piece)) (drop-at (take (l .kept) (l .input)) (piece ++ drop (l .kept + length piece) (l .input)) (l .kept) kept-length)
+      ap (take (length piece)) (drop-at (take (l .kept) (l .input)) (piece ++ drop (l .kept + length piece) (l .input)) (l .kept)
+      kept-length)
       ∙ take-append-seam piece (drop (l .kept + length piece) (l .input))

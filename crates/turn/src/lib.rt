@@ -3,15 +3,17 @@
 ghost use mathlib.Core.Path.{_≡_};
 ghost use mathlib.Core.Bool.{cond};
 ghost use mathlib.Core.List.{List, _++_};
-ghost use Prim.Native.Nat.{ℕ, _+_, _≤_, min};
+ghost use Prim.Native.Nat.{ℕ, _+_, _≤_};
 ghost use lib.ListN.{length, take, drop};
 ghost use Rattle.book.specs.Blank.{noBook};
 ghost use Rattle.model.specs.Image.{readCode, readBook};
-ghost use Rattle.runner.specs.Block.{blockBook, blockWritten, blockBuffer};
+ghost use Rattle.batch.specs.Block.{blockBook, blockWritten, blockBuffer};
 ghost use Rattle.turn.specs.Turn.{inside, bookAfter, writtenAfter, outAfter, keptAfter, inputAfter};
+use batch::Block;
 use book::Book;
+use book::RECORD_SIZE;
 use image_read::Loaded;
-use runner::Block;
+use numbers::min_size;
 
 // The input buffer's size: 5,041 records, and what is kept of one more.
 pub const INPUT: usize = 65545;
@@ -29,12 +31,6 @@ pub struct Turned {
     pub book: Book,
     pub written: usize,
     pub kept: usize,
-}
-
-fn lesser(a: usize, b: usize) -> usize
-    ensures { λ r. ⌜ r ≡ min a b ⌝ }
-{
-    if a < b { a } else { b }
 }
 
 fn pick(w: bool, a: usize, b: usize) -> usize
@@ -57,7 +53,7 @@ fn answer_first(b: Book, input: &[u8], n: usize, out: &mut [u8]) -> Block
     ensures { λ r. ⌜ r .written ≡ blockWritten b (take n (now (input .entry))) (length (now (out .entry))) ⌝ }
     ensures { λ _. ⌜ now (out .exit) ≡ blockBuffer b (take n (now (input .entry))) (now (out .entry)) ⌝ }
 {
-    runner::answer_block(b, &input[..n], out)
+    batch::answer_block(b, &input[..n], out)
 }
 
 // Reads the book in the first n bytes.
@@ -99,7 +95,7 @@ pub fn turn(b: Book, input: &mut [u8; INPUT], n: usize, ended: bool, out: &mut [
             kept: 0,
         };
     }
-    let kept = pick(ended, 0, n % 13);
+    let kept = pick(ended, 0, n % RECORD_SIZE);
     let whole = n - kept;
     let block = answer_first(b, input, whole, out);
     let next = block.book;
@@ -119,5 +115,5 @@ pub fn turn(b: Book, input: &mut [u8; INPUT], n: usize, ended: bool, out: &mut [
 pub fn load(image: &[u8; IMAGE], n: usize) -> Loaded
     ensures { λ r. ⌜ ((f : List ℕ) → take (length (now (image .entry))) f ≡ take n (now (image .entry)) → (r .code ≡ readCode f) × (r .book ≡ readBook noBook f)) ⌝ }
 {
-    read_first(image, lesser(n, IMAGE))
+    read_first(image, min_size(n, IMAGE))
 }

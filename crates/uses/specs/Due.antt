@@ -6,12 +6,13 @@ use mathlib.Core.List.{List, [], _∷_, map}
 use lib.ListN.{length}
 use native.Mathlib.Omega.{arith}
 use native.Mathlib.Numerals.{add-one}
-use Rattle.laws.specs.Tests.{neither}
+use Rattle.numbers.proofs.Tests.{neither}
 use Rattle.book.specs.declared.Entry.{Entry}
 use Rattle.book.specs.declared.Player.{Player}
 use Rattle.book.specs.declared.Open.{Open}
 use Rattle.model.specs.Book.{playerAt}
-use Rattle.model.specs.Events.{anyOf, expired, shut, released, settled}
+use Rattle.model.specs.Choice.{anyOf}
+use Rattle.model.specs.Meters.{expired, shut, released, settled}
 
 unfoldable pub dueAt : ℕ → List Player → ℕ → Bool
 dueAt t ps i = expired t (playerAt ps i .current)

@@ -2,16 +2,17 @@
 use Prim.Native.Nat.{ℕ, _+_, _-_, _<_, _≤_}
 use mathlib.Core.Path.{_≡_, refl}
 use mathlib.Core.Bool.{Bool, true, false, cond}
-use mathlib.Core.List.{[], _∷_}
 use lib.Dec.{ltb}
 use native.Mathlib.Omega.{arith}
-use borrow.Author.Tests.{ltb-true}
-use Rattle.laws.specs.Tests.{row-passed}
+use borrow.Author.Tests.{ltb-true, not-false}
+use Rattle.numbers.proofs.Tests.{none-pass}
+use Rattle.book.specs.declared.Ask.{Ask}
 use Rattle.book.specs.declared.Limits.{Limits}
 use Rattle.book.specs.declared.Meters.{Meters}
 use Rattle.model.specs.Book.{latestTime, grantLength, flagged, momentary}
-use Rattle.model.specs.Events.{asked, where-flagged, cap, intervalFrom, leastUntil, grantUntil, grantable, countLeft, timedLeft, inDates, intervalLeft, secondsLeft}
-use Rattle.model.specs.Proof.Facts.{cap-le, cap-at}
+use Rattle.model.specs.Meters.{where-flagged, intervalFrom}
+use Rattle.model.specs.Choice.{cap, leastUntil, grantUntil, fails, groundsOf, groundList, grantable}
+use Rattle.model.proofs.Ledger.Facts.{cap-le, cap-at}
 
 -- what begun adds, for a begin at t until u, fits
 pub record Room (t u : ℕ) (l : Limits) (m : Meters) : Type 0 where
@@ -37,14 +38,26 @@ unfolding leastUntil grantLength
 least-length t from l m =
     let paid = cap (flagged 32 l) (from + (l .accumulated - m .seconds)) (t + 60) in
     let due = cap (flagged 16 l) (intervalFrom t m + l .interval) paid in
-    omega (arith, cap-le (flagged 8 l) (l .end + 1) due, cap-le (flagged 16 l) (intervalFrom t m + l .interval) paid, cap-le (flagged 32 l) (from + (l .accumulated - m .seconds)) (t + 60))
+    omega (
+      arith,
+      cap-le (flagged 8 l) (l .end + 1) due,
+      cap-le (flagged 16 l) (intervalFrom t m + l .interval) paid,
+      cap-le
+          (flagged 32 l) (from + (l .accumulated - m .seconds)) (t + 60),
+    )
 
 least-paid : (t from : ℕ) (l : Limits) (m : Meters) → flagged 32 l ≡ true → leastUntil t from l m ≤ from + (l .accumulated - m .seconds)
 unfolding leastUntil grantLength
 least-paid t from l m h =
     let paid = cap (flagged 32 l) (from + (l .accumulated - m .seconds)) (t + 60) in
     let due = cap (flagged 16 l) (intervalFrom t m + l .interval) paid in
-    omega (arith, cap-le (flagged 8 l) (l .end + 1) due, cap-le (flagged 16 l) (intervalFrom t m + l .interval) paid, cap-at (flagged 32 l) (from + (l .accumulated - m .seconds)) (t + 60) h)
+    omega (
+      arith,
+      cap-le (flagged 8 l) (l .end + 1) due,
+      cap-le (flagged 16 l) (intervalFrom t m + l .interval) paid,
+      cap-at
+          (flagged 32 l) (from + (l .accumulated - m .seconds)) (t + 60) h,
+    )
 
 -- a continue's until, at a time that an event may have
 pub more-fits : (t from : ℕ) (l : Limits) (m : Meters) → t ≤ latestTime → leastUntil t from l m < 4294967296
@@ -67,8 +80,8 @@ seconds-room :
 seconds-room true s a v u n h p q = omega (arith, h refl)
 seconds-room false s a v u n h p q = omega arith
 
-count-room : (w : Bool) (a b n : ℕ) → asked w (ltb a b) ≡ true → a < n → b < n → a + where-flagged w 1 < n
-count-room true a b n h p q = omega (arith, ltb-true a b h)
+count-room : (w : Bool) (a b n : ℕ) → fails w (ltb a b) ≡ false → a < n → b < n → a + where-flagged w 1 < n
+count-room true a b n h p q = omega (arith, ltb-true a b (not-false (ltb a b) h))
 count-room false a b n h p q = omega arith
 
 pub more-room :
@@ -77,20 +90,24 @@ pub more-room :
     MoreRoom from (leastUntil t from l m) l m
 more-room t from l m n = record {
   seconds =
-      seconds-room (flagged 32 l) (m .seconds) (l .accumulated) (leastUntil t from l m) from 4294967296 (least-paid t from l m) (n .seconds) (n .secondsLimit);
+      seconds-room (flagged 32 l) (m .seconds) (l .accumulated) (leastUntil t from l m) from 4294967296 (least-paid t from l m)
+      (n .seconds) (n .secondsLimit);
 }
 
 momentary-paid : (w : Bool) (t v x : ℕ) → v ≤ t + x → cond w t v ≤ t + x
 momentary-paid true t v x h = omega arith
 momentary-paid false t v x h = h
 
-pub grant-room : (t : ℕ) (l : Limits) (m : Meters) → grantable t l m ≡ true → Narrow l m → Room t (grantUntil t l m) l m
-unfolding grantable countLeft timedLeft grantUntil
-grant-room t l m g n =
-    let tests = row-passed (countLeft l m) (timedLeft l m ∷ inDates t l ∷ intervalLeft t l m ∷ secondsLeft l m ∷ []) g in
+pub grant-room : (ask : Ask) (l : Limits) (m : Meters) → grantable ask l m ≡ true → Narrow l m → Room (ask .time)
+    (grantUntil (ask .time) l m) l m
+unfolding groundsOf grantable grantUntil
+grant-room ask l m g n =
+    let tests = none-pass (groundList (groundsOf ask l m)) g in
     record {
       count = count-room (flagged 1 l) (m .count) (l .count) 4294967296 (tests .0) (n .count) (n .countLimit);
       timed = count-room (flagged 2 l) (m .timed) (l .timed) 4294967296 (tests .1 .0) (n .timed) (n .timedLimit);
-      seconds = seconds-room (flagged 32 l) (m .seconds) (l .accumulated) (cond (momentary (l .kind)) t (leastUntil t t l m)) t 4294967296
-          (λ h. momentary-paid (momentary (l .kind)) t (leastUntil t t l m) (l .accumulated - m .seconds) (least-paid t t l m h)) (n .seconds) (n .secondsLimit);
+      seconds = seconds-room (flagged 32 l) (m .seconds) (l .accumulated)
+          (cond (momentary (l .kind)) (ask .time) (leastUntil (ask .time) (ask .time) l m)) (ask .time) 4294967296
+          (λ h. momentary-paid (momentary (l .kind)) (ask .time) (leastUntil (ask .time) (ask .time) l m) (l .accumulated - m .seconds)
+          (least-paid (ask .time) (ask .time) l m h)) (n .seconds) (n .secondsLimit);
     }

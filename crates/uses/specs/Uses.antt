@@ -8,35 +8,39 @@ use lib.ListN.{set}
 use lib.Seq.{set-getD}
 use lib.Dec.{leb}
 use borrow.Author.Tests.{le-leb}
+use Rattle.book.specs.declared.Ask.{Ask}
 use Rattle.book.specs.declared.Limits.{Limits}
 use Rattle.book.specs.declared.Meters.{Meters}
 use Rattle.book.specs.declared.Entry.{Entry}
 use Rattle.book.specs.declared.Open.{Open}
 use Rattle.book.specs.Blank.{noEntry, closed}
 use Rattle.model.specs.Book.{limitsAt, metersAt, latestTime, momentary}
-use Rattle.model.specs.Events.{Done, chosen, refusal, noneGrantable, unchanged, granted, doContinue, more, doStop, isOn, grantable, grantUntil, moreUntil, begun, continued, ended, amend, expired, released}
-use Rattle.uses.specs.declared.Part.{Part}
+use Rattle.model.specs.Step.{Done, refusal, noneGrantable, unchanged, granted, doContinue, more, doStop}
+use Rattle.model.specs.Choice.{chosen, grantable, grantUntil, moreUntil}
+use Rattle.model.specs.Meters.{isOn, begun, continued, ended, amend, expired, released}
+use Rattle.uses.specs.declared.Effect.{Effect}
 
 -- a refusal that leaves both as they are
-abbrev pub kept : ℕ → Meters → Open → Part
+abbrev pub kept : ℕ → Meters → Open → Effect
 kept code m o = record { answer = refusal code; meters = m; current = o }
 
--- a begin on entry i at t
-unfoldable pub beginOn : ℕ → ℕ → Limits → Meters → Open → Part
-beginOn i t l m o =
-    cond (grantable t l m && leb t latestTime)
-    (record {
-      answer = record { code = 0; entry = i; until = grantUntil t l m };
-      meters = begun t (grantUntil t l m) l m;
-      current = cond (momentary (l .kind)) o (record { on = 1; entry = i; begin = t; until = grantUntil t l m });
-    })
-    (kept noneGrantable m o)
+-- what a begin at t leaves of entry i
+abbrev pub begunOn : ℕ → ℕ → Limits → Meters → Open → Effect
+begunOn i t l m o = record {
+  answer = record { code = 0; entry = i; until = grantUntil t l m };
+  meters = begun t (grantUntil t l m) l m;
+  current = cond (momentary (l .kind)) o (record { on = 1; entry = i; begin = t; until = grantUntil t l m });
+}
+
+-- a begin on entry i
+unfoldable pub beginOn : ℕ → Ask → Limits → Meters → Open → Effect
+beginOn i ask l m o = cond (grantable ask l m && leb (ask .time) latestTime) (begunOn i (ask .time) l m o) (kept noneGrantable m o)
 
 -- whether a continue at t gets more time
 abbrev pub lengthens : ℕ → Limits → Meters → Open → Bool
 lengthens t l m o = leb t latestTime && not (leb (moreUntil t (o .until) l m) (o .until))
 
-unfoldable pub continueOn : ℕ → Limits → Meters → Open → Part
+unfoldable pub continueOn : ℕ → Limits → Meters → Open → Effect
 continueOn t l m o =
     cond (not (isOn o)) (kept 14 m o)
     (cond (not (lengthens t l m o)) (kept 15 m o)
@@ -46,7 +50,7 @@ continueOn t l m o =
       current = record { on = 1; entry = o .entry; begin = o .begin; until = moreUntil t (o .until) l m };
     }))
 
-unfoldable pub stopOn : ℕ → Limits → Meters → Open → Part
+unfoldable pub stopOn : ℕ → Limits → Meters → Open → Effect
 stopOn t l m o =
     cond (not (isOn o)) (kept 14 m o)
     (record {
@@ -66,7 +70,7 @@ unfoldable pub stored : ℕ → Meters → List Entry → List Entry
 stored i m es = set es i (record { limits = limitsAt es i; meters = m })
 
 -- what an operation on entry i leaves
-unfoldable pub placed : ℕ → Part → List Entry → Done
+unfoldable pub placed : ℕ → Effect → List Entry → Done
 placed i p es = record { answer = p .answer; entries = stored i (p .meters) es; current = p .current }
 
 pub stored-same : (i : ℕ) (es : List Entry) → stored i (metersAt es i) es ≡ es
@@ -79,25 +83,20 @@ kept-placed i code es o = ap (λ (x : List Entry). unchanged code x o) (stored-s
 
 -- a grantable entry, at a time that an event may have
 pub begin-on-granted :
-    (i t : ℕ) (l : Limits) (m : Meters) (o : Open) →
-    grantable t l m ≡ true →
-    t ≤ latestTime →
-    beginOn i t l m o
-    ≡ record {
-      answer = record { code = 0; entry = i; until = grantUntil t l m };
-      meters = begun t (grantUntil t l m) l m;
-      current = cond (momentary (l .kind)) o (record { on = 1; entry = i; begin = t; until = grantUntil t l m });
-    }
+    (i : ℕ) (ask : Ask) (l : Limits) (m : Meters) (o : Open) →
+    grantable ask l m ≡ true →
+    ask .time ≤ latestTime →
+    beginOn i ask l m o ≡ begunOn i (ask .time) l m o
 unfolding beginOn
-begin-on-granted i t l m o g h = rw (g, le-leb t latestTime h)
+begin-on-granted i ask l m o g h = rw (g, le-leb (ask .time) latestTime h)
 
 pub begin-placed :
-    (i t : ℕ) (es : List Entry) (o : Open) →
-    grantable t (limitsAt es i) (metersAt es i) ≡ true →
-    t ≤ latestTime →
-    placed i (beginOn i t (limitsAt es i) (metersAt es i) o) es ≡ granted t es o (chosen i)
+    (i : ℕ) (ask : Ask) (es : List Entry) (o : Open) →
+    grantable ask (limitsAt es i) (metersAt es i) ≡ true →
+    ask .time ≤ latestTime →
+    placed i (beginOn i ask (limitsAt es i) (metersAt es i) o) es ≡ granted (ask .time) es o (chosen i)
 unfolding placed stored amend
-begin-placed i t es o g h = rw (begin-on-granted i t (limitsAt es i) (metersAt es i) o g h)
+begin-placed i ask es o g h = rw (begin-on-granted i ask (limitsAt es i) (metersAt es i) o g h)
 
 continue-cases :
     (on some : Bool) (t : ℕ) (es : List Entry) (o : Open) →
@@ -157,7 +156,8 @@ stop-placed t es o = stop-cases (isOn o) t es o
 
 release-cases :
     (w : Bool) (t : ℕ) (es : List Entry) (o : Open) →
-    stored (o .entry) (cond w (ended (o .begin) (o .until) (o .until) (limitsAt es (o .entry)) (metersAt es (o .entry))) (metersAt es (o .entry))) es
+    stored (o .entry) (cond w (ended (o .begin) (o .until) (o .until) (limitsAt es (o .entry)) (metersAt es (o .entry)))
+    (metersAt es (o .entry))) es
     ≡ cond w (amend (o .entry) (ended (o .begin) (o .until) (o .until)) es) es
 unfolding stored amend
 release-cases true t es o = refl

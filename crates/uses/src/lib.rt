@@ -1,44 +1,50 @@
-// A use of one entry: begin, continue and stop on the entry's limits and meters and the asking player's open use, and the settling of a use.
+// A use of one entry: begin, continue and stop on the entry's limits and meters and the asking player's open use, and the settling
+// of a use.
 // Every function is total. A time that no event has (above 4000000000) grants nothing, so no sum passes 32 bits.
 ghost use mathlib.Core.Path.{_≡_};
 ghost use mathlib.Core.Bool.{cond};
-ghost use Prim.Native.Nat.{_-_, _≤_};
-ghost use Rattle.book.specs.Blank.{closed};
+ghost use Prim.Native.Nat.{_≤_};
 ghost use Rattle.model.specs.Book.{latestTime};
-ghost use Rattle.model.specs.Events.{expired, shut, begun, continued, ended, grantUntil, moreUntil};
+ghost use Rattle.model.specs.Meters.{expired, shut, begun, continued, ended};
+ghost use Rattle.model.specs.Choice.{grantUntil, moreUntil};
 ghost use Rattle.uses.specs.Uses.{kept, beginOn, continueOn, stopOn, releasedOn};
 ghost use Rattle.uses.specs.Room.{Room, MoreRoom};
 ghost use Rattle.uses.specs.Due.{anyDue};
 use book::Answer;
+use book::Ask;
+use book::LATEST_TIME;
 use book::Limits;
 use book::Meters;
+use book::NONE_GRANTABLE;
 use book::Open;
 use book::Player;
+use book::closed_use;
+use book::refusal;
+use numbers::one;
+use numbers::pick32;
+use numbers::saturating_sub;
 use rules::flags_of;
 use rules::grantable;
 use rules::least_until;
-use rules::less;
 use rules::momentary;
-use rules::one;
-use rules::pick32;
 use rules::when;
 
 // What an operation leaves: the answer, the entry's meters, and the asking player's use.
-pub struct Part {
+pub struct Effect {
     pub answer: Answer,
     pub meters: Meters,
     pub current: Open,
 }
 
 // Rules out: the two swapped, the first whatever the test.
-pub fn pick_open(w: bool, a: Open, b: Open) -> Open
+fn pick_open(w: bool, a: Open, b: Open) -> Open
     ensures { λ r. ⌜ r ≡ cond w a b ⌝ }
 {
     if w { a } else { b }
 }
 
 // Rules out: the two swapped, the first whatever the test.
-pub fn pick_meters(w: bool, a: Meters, b: Meters) -> Meters
+fn pick_meters(w: bool, a: Meters, b: Meters) -> Meters
     ensures { λ r. ⌜ r ≡ cond w a b ⌝ }
 {
     if w { a } else { b }
@@ -46,15 +52,11 @@ pub fn pick_meters(w: bool, a: Meters, b: Meters) -> Meters
 
 // A refusal that leaves meters and use as they are.
 // Rules out: an entry other than 255, meters or a use changed.
-pub fn kept(code: u8, m: Meters, o: Open) -> Part
+pub fn kept(code: u8, m: Meters, o: Open) -> Effect
     ensures { λ r. ⌜ r ≡ kept code m o ⌝ }
 {
-    Part {
-        answer: Answer {
-            code: code,
-            entry: 255,
-            until: 0,
-        },
+    Effect {
+        answer: refusal(code),
         meters: m,
         current: o,
     }
@@ -86,7 +88,7 @@ fn begun_meters(l: Limits, m: Meters, t: u32, until: u32) -> Meters
         count: m.count + when(f.count, 1),
         timed: m.timed + when(f.timed, 1),
         first: when(f.interval, first),
-        seconds: m.seconds + when(f.accumulated, less(until, t)),
+        seconds: m.seconds + when(f.accumulated, saturating_sub(until, t)),
         started: one(f.interval),
     }
 }
@@ -97,7 +99,7 @@ fn continued_meters(l: Limits, m: Meters, old: u32, until: u32) -> Meters
 {
     let f = flags_of(l);
     let mut n = m;
-    n.seconds = m.seconds + when(f.accumulated, less(until, old));
+    n.seconds = m.seconds + when(f.accumulated, saturating_sub(until, old));
     n
 }
 
@@ -106,25 +108,26 @@ pub fn ended_meters(l: Limits, m: Meters, begin: u32, until: u32, end: u32) -> M
     ensures { λ r. ⌜ r ≡ ended begin until end l m ⌝ }
 {
     let f = flags_of(l);
-    let short = less(end, begin) < l.timer;
+    let short = saturating_sub(end, begin) < l.timer;
     Meters {
         count: m.count,
-        timed: less(m.timed, when(f.timed & short, 1)),
+        timed: saturating_sub(m.timed, when(f.timed & short, 1)),
         first: m.first,
-        seconds: less(m.seconds, when(f.accumulated, less(until, end))),
+        seconds: saturating_sub(m.seconds, when(f.accumulated, saturating_sub(until, end))),
         started: m.started,
     }
 }
 
 // Rules out: an until past end + 1, a momentary use that opens, a grant that is not metered.
-pub fn begin_on(l: Limits, m: Meters, o: Open, i: u8, t: u32) -> Part
-    ensures { λ r. ⌜ r ≡ beginOn i t l m o ⌝ }
+pub fn begin_on(l: Limits, m: Meters, o: Open, i: u8, ask: Ask) -> Effect
+    ensures { λ r. ⌜ r ≡ beginOn i ask l m o ⌝ }
 {
-    if !grantable(l, m, t) {
-        return kept(13, m, o);
+    let t = ask.time;
+    if !grantable(l, m, ask) {
+        return kept(NONE_GRANTABLE, m, o);
     }
-    if 4000000000 < t {
-        return kept(13, m, o);
+    if LATEST_TIME < t {
+        return kept(NONE_GRANTABLE, m, o);
     }
     let until = grant_until(l, m, t);
     let begun = begun_meters(l, m, t, until);
@@ -134,7 +137,7 @@ pub fn begin_on(l: Limits, m: Meters, o: Open, i: u8, t: u32) -> Part
         begin: t,
         until: until,
     };
-    Part {
+    Effect {
         answer: Answer {
             code: 0,
             entry: i,
@@ -146,13 +149,13 @@ pub fn begin_on(l: Limits, m: Meters, o: Open, i: u8, t: u32) -> Part
 }
 
 // Rules out: 15 with time unspent, a begin time that moves, seconds counted twice.
-pub fn continue_on(l: Limits, m: Meters, o: Open, t: u32) -> Part
+pub fn continue_on(l: Limits, m: Meters, o: Open, t: u32) -> Effect
     ensures { λ r. ⌜ r ≡ continueOn t l m o ⌝ }
 {
     if !(o.on == 1) {
         return kept(14, m, o);
     }
-    if 4000000000 < t {
+    if LATEST_TIME < t {
         return kept(15, m, o);
     }
     let until = more_until(l, m, o.until, t);
@@ -160,7 +163,7 @@ pub fn continue_on(l: Limits, m: Meters, o: Open, t: u32) -> Part
         return kept(15, m, o);
     }
     let meters = continued_meters(l, m, o.until, until);
-    Part {
+    Effect {
         answer: Answer {
             code: 0,
             entry: o.entry,
@@ -177,31 +180,26 @@ pub fn continue_on(l: Limits, m: Meters, o: Open, t: u32) -> Part
 }
 
 // Rules out: a use that stays open, the old until in the answer.
-pub fn stop_on(l: Limits, m: Meters, o: Open, t: u32) -> Part
+pub fn stop_on(l: Limits, m: Meters, o: Open, t: u32) -> Effect
     ensures { λ r. ⌜ r ≡ stopOn t l m o ⌝ }
 {
     if !(o.on == 1) {
         return kept(14, m, o);
     }
     let meters = ended_meters(l, m, o.begin, o.until, t);
-    Part {
+    Effect {
         answer: Answer {
             code: 0,
             entry: o.entry,
             until: t,
         },
         meters: meters,
-        current: Open {
-            on: 0,
-            entry: 0,
-            begin: 0,
-            until: 0,
-        },
+        current: closed_use(),
     }
 }
 
 // Rules out: until taken as included, a use that is not open.
-pub fn due(o: Open, t: u32) -> bool
+fn due(o: Open, t: u32) -> bool
     ensures { λ r. ⌜ r ≡ expired t o ⌝ }
 {
     (o.on == 1) & (o.until <= t)
@@ -213,12 +211,7 @@ pub fn shut_player(p: Player, t: u32) -> Player
 {
     let o = p.current;
     let last = p.last;
-    let closed = Open {
-        on: 0,
-        entry: 0,
-        begin: 0,
-        until: 0,
-    };
+    let closed = closed_use();
     Player {
         last: last,
         current: pick_open(due(o, t), closed, o),

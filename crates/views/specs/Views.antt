@@ -2,13 +2,14 @@
 -- player are in image order (`assetValues`, `entryValues`, `playerValues` of `Image`); here is what is in no image.
 use Prim.Native.Nat.{ℕ, _-_}
 use mathlib.Core.Bool.{Bool, cond}
-use mathlib.Core.List.{List, [], _∷_}
+use mathlib.Core.List.{List, [], _∷_, map}
 use lib.Dec.{ltb}
-use Rattle.laws.specs.Count.{one}
+use Rattle.numbers.specs.Count.{one}
+use Rattle.book.specs.declared.Ask.{Ask}
 use Rattle.book.specs.declared.Entry.{Entry}
 use Rattle.book.specs.declared.Book.{Book}
 use Rattle.model.specs.Book.{assetsIn, entriesIn, flagged}
-use Rattle.model.specs.Events.{grantable}
+use Rattle.model.specs.Choice.{groundsOf, groundList, grantable}
 
 -- how many assets and entries there are, and the book's time
 unfoldable pub bookValues : Book → List ℕ
@@ -25,12 +26,20 @@ unlimited = 4294967295
 abbrev pub left : Bool → ℕ → ℕ → ℕ
 left flag most used = cond flag (most - used) unlimited
 
+-- a view asks for no player; no limit of an entry reads who asks
+abbrev pub viewAsk : ℕ → Ask
+viewAsk t = record { player = 0; time = t }
+
 -- for an entry at t: whether it is "**Grantable** at t" by its own limits (1 or 0), and what is left of its count, its timed
 -- count and its seconds
 unfoldable pub leftValues : ℕ → Entry → List ℕ
 leftValues t e =
-    one (grantable t (e .limits) (e .meters))
+    one (grantable (viewAsk t) (e .limits) (e .meters))
     ∷ left (flagged 1 (e .limits)) (e .limits .count) (e .meters .count)
     ∷ left (flagged 2 (e .limits)) (e .limits .timed) (e .meters .timed)
     ∷ left (flagged 32 (e .limits)) (e .limits .accumulated) (e .meters .seconds)
     ∷ []
+
+-- the grounds against an entry, for who asks and when, in the order of document 01's words: 1 for one that stands, otherwise 0
+unfoldable pub groundValues : Ask → Entry → List ℕ
+groundValues ask e = map one (groundList (groundsOf ask (e .limits) (e .meters)))

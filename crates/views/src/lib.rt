@@ -1,18 +1,24 @@
-// The contents of a book as plain numbers, for callers that do not have its structs: the fields in image order, and
-// what is left of an entry.
+// The contents of a book as plain numbers, for callers that do not have its structs: the fields in image order,
+// what is left of an entry, and what stands against granting it.
 ghost use mathlib.Core.Path.{_≡_};
+ghost use Rattle.numbers.specs.Count.{one};
 ghost use Rattle.model.specs.Image.{assetValues, entryValues, playerValues};
-ghost use Rattle.views.specs.Views.{bookValues, left, leftValues, viewTime};
+ghost use Rattle.views.specs.Views.{bookValues, groundValues, left, leftValues, viewTime};
+use book::Ask;
 use book::Asset;
 use book::Book;
 use book::Entry;
 use book::Player;
 use book::at_most_64;
+use numbers::one;
+use numbers::pick32;
+use numbers::saturating_sub;
 use rules::flags_of;
 use rules::grantable;
-use rules::less;
-use rules::one;
-use rules::pick32;
+use rules::grounds_of;
+
+// What is left where there is no limit.
+const UNLIMITED: u32 = 4294967295;
 
 // How many assets and entries, and the time.
 // Rules out: the two counts swapped.
@@ -87,11 +93,18 @@ pub fn view_time(now: u32, time: u32) -> u32
     pick32(time < now, now, time)
 }
 
+// 1 if the test passes, 0 if it fails.
+fn number(w: bool) -> u32
+    ensures { λ r. ⌜ r ≡ one w ⌝ }
+{
+    one(w) as u32
+}
+
 // Rules out: a difference where there is no limit, one that wraps.
 fn left_of(flag: bool, most: u32, used: u32) -> u32
     ensures { λ r. ⌜ r ≡ left flag most used ⌝ }
 {
-    pick32(flag, less(most, used), 4294967295)
+    pick32(flag, saturating_sub(most, used), UNLIMITED)
 }
 
 // What is left of an entry at a time when no use is due any more.
@@ -102,10 +115,34 @@ pub fn left_values(e: Entry, time: u32) -> [u32; 4]
     let l = e.limits;
     let m = e.meters;
     let f = flags_of(l);
+    let ask = Ask {
+        player: 0,
+        time: time,
+    };
+    let able = number(grantable(l, m, ask));
     [
-        one(grantable(l, m, time)) as u32,
+        able,
         left_of(f.count, l.count, m.count),
         left_of(f.timed, l.timed, m.timed),
         left_of(f.accumulated, l.accumulated, m.seconds),
+    ]
+}
+
+// What stands against granting an entry to who asks, at a time when no use is due any more: 1 for a ground that stands, otherwise 0,
+// in the order of document 01's words.
+// Rules out: two grounds swapped, a ground that is reported only where no other stands.
+pub fn ground_values(e: Entry, ask: Ask) -> [u32; 6]
+    ensures { λ r. ⌜ r ≡ groundValues ask e ⌝ }
+{
+    let l = e.limits;
+    let m = e.meters;
+    let g = grounds_of(l, m, ask);
+    [
+        number(g.countspent),
+        number(g.timedspent),
+        number(g.beforestart),
+        number(g.afterend),
+        number(g.intervalover),
+        number(g.secondsspent),
     ]
 }

@@ -1,24 +1,28 @@
--- `embed::rights_answer_one` meets its contract: both exits leave what `One` says.
+-- `embed::rights_answer_one` meets its contract: each of its three exits leaves what `One` says.
 use mathlib.Core.Path.{_≡_, sym, ap₂, _∙_}
 use denote.Ref.{now}
 use Rattle.model.specs.Image.{readCode}
-use Rattle.model.specs.Events.{stepRecord}
+use Rattle.model.specs.Step.{stepRecord}
 use Rattle.encode.specs.Record.{recordBytes, record-shut}
-use Rattle.embed.specs.One.{oneStep, one-refused, one-answered}
+use Rattle.image_write.specs.Laid.{counted}
+use Rattle.embed.specs.Calls.{imageIn}
+use Rattle.embed.specs.One.{oneStep}
+use Rattle.embed.proofs.OneLeft.{one-refused, one-unwritten, one-answered}
 use borrow.Author.Needs.{needs}
 use Rattle.embed.proofs.rights_answer_one.Statement.{statement}
 use Rattle.embed.proofs.rights_answer_one.Tie as tie
 
-load-requires : tie.Need-load-requires
-load-requires c κs = search needs
+load-from-requires : tie.Need-load-from-requires
+load-from-requires c κs = search needs
 
 same-length : tie.Need-same-length
 same-length c = search needs
 
 returns : tie.Need-returns
 returns c =
-    let a = c .before .before .before .before .args in
-    one-refused (now (a .image)) _ (now (a .code)) (now (a .entry)) (now (a .until)) _ (c .before .load .ensures .0) (c .if1 .taken)
+    let a = c .before .before .before .before .before .before .args in
+    one-refused (now (a .image)) (now (a .size)) _ (now (a .code)) (now (a .entry)) (now (a .until))
+    _ (c .before .before .load-from .ensures .0) (c .if1 .taken)
 
 record-bytes-requires : tie.Need-record-bytes-requires
 record-bytes-requires c κs = search needs
@@ -29,8 +33,8 @@ slice-aggregate-step-record c = search needs
 step-record-requires : tie.Need-step-record-requires
 step-record-requires c κs = search needs
 
-write-requires : tie.Need-write-requires
-write-requires c κs = search needs
+image-length-requires : tie.Need-image-length-requires
+image-length-requires c κs = search needs
 
 same-length-2 : tie.Need-same-length-2
 same-length-2 c = search needs
@@ -38,35 +42,67 @@ same-length-2 c = search needs
 returns-2 : tie.Need-returns-2
 unfolding oneStep
 returns-2 c =
-    let at-write = c .before .before .before in
-    let at-step = at-write .before .before .before in
-    let at-bytes = at-step .before .before .before in
+    let at-length = c .before in
+    let at-step = at-length .before in
+    let at-bytes = at-step .before .before in
     let at-test = at-bytes .before in
-    let at-load = at-test .before in
-    let at-start = at-load .before .before .before in
-    let a = at-start .args in
-    let s = now (a .image) in
-    let load = at-load .load in
+    let at-load = at-test .before .before in
+    let a = at-load .before .before .before .before .args in
+    let load = at-load .load-from in
     let bytes =
     at-bytes .record-bytes .ensures
     ∙ record-shut (a .player) (a .number) (a .operation) (a .asset) (a .kind) (a .time) in
     let step = at-step .step-record in
-    let write = at-write .write in
-    let accepted : readCode s ≡ 0 = sym (load .ensures .0) ∙ at-test .if1 .left in
-    let same : step .result ≡ oneStep s (recordBytes (a .player) (a .number) (a .operation) (a .asset) (a .kind) (a .time)) =
+    let accepted : readCode (imageIn (now (a .image)) (now (a .size))) ≡ 0 = sym (load .ensures .0) ∙ at-test .if1 .left in
+    let same : step .result ≡ oneStep (now (a .image)) (now (a .size))
+    (recordBytes (a .player) (a .number) (a .operation) (a .asset) (a .kind) (a .time)) =
     step .ensures ∙ ap₂ stepRecord (load .ensures .1) bytes in
-    one-answered s _ (now (a .code)) (now (a .entry)) (now (a .until)) (step .result) _ accepted same (write .ensures .1)
+    one-unwritten (now (a .image)) (now (a .size)) _ (now (a .code)) (now (a .entry)) (now (a .until))
+    (step .result) _ accepted same (at-length .image-length .ensures ∙ counted (step .result .book)) (c .if2 .taken)
+
+write-requires : tie.Need-write-requires
+write-requires c κs = search needs
+
+same-length-3 : tie.Need-same-length-3
+same-length-3 c = search needs
+
+returns-3 : tie.Need-returns-3
+unfolding oneStep
+returns-3 c =
+    let at-write = c .before .before in
+    let at-room = at-write .before .before in
+    let at-length = at-room .before in
+    let at-step = at-length .before in
+    let at-bytes = at-step .before .before in
+    let at-test = at-bytes .before in
+    let at-load = at-test .before .before in
+    let a = at-load .before .before .before .before .args in
+    let load = at-load .load-from in
+    let bytes =
+    at-bytes .record-bytes .ensures
+    ∙ record-shut (a .player) (a .number) (a .operation) (a .asset) (a .kind) (a .time) in
+    let step = at-step .step-record in
+    let accepted : readCode (imageIn (now (a .image)) (now (a .size))) ≡ 0 = sym (load .ensures .0) ∙ at-test .if1 .left in
+    let same : step .result ≡ oneStep (now (a .image)) (now (a .size))
+    (recordBytes (a .player) (a .number) (a .operation) (a .asset) (a .kind) (a .time)) =
+    step .ensures ∙ ap₂ stepRecord (load .ensures .1) bytes in
+    one-answered (now (a .image)) (now (a .size)) _ (now (a .code)) (now (a .entry)) (now (a .until))
+    (step .result) _ accepted same (at-length .image-length .ensures ∙ counted (step .result .book))
+    _ (at-room .if2 .left) (at-write .write .ensures .1)
 
 pub rights-answer-one-spec : {M : Type 1} → statement M
 rights-answer-one-spec =
     tie.close
     (tie.spec
-    load-requires
+    load-from-requires
     same-length
     returns
     record-bytes-requires
     slice-aggregate-step-record
     step-record-requires
-    write-requires
+    image-length-requires
     same-length-2
-    returns-2)
+    returns-2
+    write-requires
+    same-length-3
+    returns-3)

@@ -5,7 +5,8 @@ use borrow.Author.Tests.{lt-ltb, le-ltb}
 use Rattle.book.specs.declared.Book.{Book}
 use Rattle.model.specs.Book.{assetAt}
 use Rattle.model.specs.Image.{assetValues}
-use Rattle.embed.specs.Seen.{hasAsset, assetSeen, asset-there, seen-refused, seen-absent, seen-given}
+use Rattle.embed.specs.Seen.{hasAsset, assetSeen}
+use Rattle.embed.proofs.SeenLeft.{asset-there, seen-refused, seen-absent, seen-given}
 use borrow.Author.Needs.{needs}
 use Rattle.embed.proofs.rights_asset.Statement.{statement}
 use Rattle.embed.proofs.rights_asset.Tie as tie
@@ -15,10 +16,10 @@ load-requires c κs = search needs
 
 returns : tie.Need-returns
 returns c =
-    let a = c .before .before .before .before .args in
+    let a = c .before .before .before .before .before .args in
     let s = now (a .image) in
     seen-refused s (hasAsset s (a .position)) (assetSeen s (a .position)) (now (a .out))
-    _ (c .before .load .ensures .0) (c .if1 .taken)
+    _ (c .before .before .load .ensures .0) (c .if1 .taken)
 
 at-most-64-requires : tie.Need-at-most-64-requires
 at-most-64-requires c κs = search needs
@@ -29,14 +30,14 @@ returns-2 c =
     let s = now (a .image) in
     let load = c .before .before .before .before .load .ensures in
     seen-absent s (hasAsset s (a .position)) (assetSeen s (a .position)) (now (a .out))
-    (sym (load .0) ∙ c .before .before .before .if1 .left)
+    (sym (load .0) ∙ c .before .before .if1 .left)
     (asset-there s _ _ (a .position) (load .1) (c .before .at-most-64 .ensures) ∙ le-ltb _ _ (c .if2 .taken))
 
-mul-asset : tie.Need-mul-asset
-mul-asset c = search needs
+mul-asset-values : tie.Need-mul-asset-values
+mul-asset-values c = search needs
 
-element-copy-out-asset : tie.Need-element-copy-out-asset
-element-copy-out-asset c = search needs
+array-copy-out-asset-values : tie.Need-array-copy-out-asset-values
+array-copy-out-asset-values c = search needs
 
 asset-values-requires : tie.Need-asset-values-requires
 asset-values-requires c κs = search needs
@@ -54,10 +55,10 @@ returns-3 : tie.Need-returns-3
 unfolding assetSeen
 returns-3 c =
     let at-values = c .before .before .before .before .before in
-    let at-end = at-values .before .before in
+    let at-end = at-values .before .before .before in
     let at-count = at-end .before in
-    let at-test = at-count .before .before in
-    let at-load = at-test .before in
+    let at-test = at-count .before in
+    let at-load = at-test .before .before in
     let at-start = at-load .before .before .before in
     let a = at-start .args in
     let s = now (a .image) in
@@ -76,8 +77,8 @@ rights-asset-spec =
     returns
     at-most-64-requires
     returns-2
-    mul-asset
-    element-copy-out-asset
+    mul-asset-values
+    array-copy-out-asset-values
     asset-values-requires
     slice-aggregate-fill32
     fill32-requires

@@ -3,7 +3,8 @@ use mathlib.Core.Path.{refl, sym, ap, _∙_}
 use mathlib.Core.Bool.{true}
 use denote.Ref.{now}
 use Rattle.views.specs.Views.{bookValues}
-use Rattle.embed.specs.Seen.{bookSeen, seen-refused, seen-given}
+use Rattle.embed.specs.Seen.{bookSeen}
+use Rattle.embed.proofs.SeenLeft.{seen-refused, seen-given}
 use borrow.Author.Needs.{needs}
 use Rattle.embed.proofs.rights_book.Statement.{statement}
 use Rattle.embed.proofs.rights_book.Tie as tie
@@ -13,9 +14,9 @@ load-requires c κs = search needs
 
 returns : tie.Need-returns
 returns c =
-    let a = c .before .before .before .before .args in
+    let a = c .before .before .before .before .before .args in
     let s = now (a .image) in
-    seen-refused s true (bookSeen s) (now (a .out)) _ (c .before .load .ensures .0) (c .if1 .taken)
+    seen-refused s true (bookSeen s) (now (a .out)) _ (c .before .before .load .ensures .0) (c .if1 .taken)
 
 book-values-requires : tie.Need-book-values-requires
 book-values-requires c κs = search needs
@@ -33,8 +34,8 @@ returns-2 : tie.Need-returns-2
 unfolding bookSeen
 returns-2 c =
     let at-values = c .before .before .before .before .before in
-    let at-test = at-values .before .before in
-    let at-load = at-test .before in
+    let at-test = at-values .before in
+    let at-load = at-test .before .before in
     let at-start = at-load .before .before .before in
     let a = at-start .args in
     let s = now (a .image) in

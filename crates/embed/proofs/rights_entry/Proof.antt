@@ -6,7 +6,8 @@ use borrow.Author.Tests.{lt-ltb, le-ltb}
 use Rattle.book.specs.declared.Book.{Book}
 use Rattle.book.specs.Blank.{noEntry}
 use Rattle.model.specs.Image.{entryValues}
-use Rattle.embed.specs.Seen.{hasEntry, entrySeen, entry-there, seen-refused, seen-absent, seen-given}
+use Rattle.embed.specs.Seen.{hasEntry, entrySeen}
+use Rattle.embed.proofs.SeenLeft.{entry-there, seen-refused, seen-absent, seen-given}
 use borrow.Author.Needs.{needs}
 use Rattle.embed.proofs.rights_entry.Statement.{statement}
 use Rattle.embed.proofs.rights_entry.Tie as tie
@@ -16,10 +17,10 @@ load-requires c κs = search needs
 
 returns : tie.Need-returns
 returns c =
-    let a = c .before .before .before .before .args in
+    let a = c .before .before .before .before .before .args in
     let s = now (a .image) in
     seen-refused s (hasEntry s (a .position)) (entrySeen s (a .position)) (now (a .out))
-    _ (c .before .load .ensures .0) (c .if1 .taken)
+    _ (c .before .before .load .ensures .0) (c .if1 .taken)
 
 at-most-64-requires : tie.Need-at-most-64-requires
 at-most-64-requires c κs = search needs
@@ -30,7 +31,7 @@ returns-2 c =
     let s = now (a .image) in
     let load = c .before .before .before .before .load .ensures in
     seen-absent s (hasEntry s (a .position)) (entrySeen s (a .position)) (now (a .out))
-    (sym (load .0) ∙ c .before .before .before .if1 .left)
+    (sym (load .0) ∙ c .before .before .if1 .left)
     (entry-there s _ _ (a .position) (load .1) (c .before .at-most-64 .ensures) ∙ le-ltb _ _ (c .if2 .taken))
 
 entry-at-requires : tie.Need-entry-at-requires
@@ -55,8 +56,8 @@ returns-3 c =
     let at-entry = at-values .before in
     let at-end = at-entry .before .before in
     let at-count = at-end .before in
-    let at-test = at-count .before .before in
-    let at-load = at-test .before in
+    let at-test = at-count .before in
+    let at-load = at-test .before .before in
     let at-start = at-load .before .before .before in
     let a = at-start .args in
     let s = now (a .image) in

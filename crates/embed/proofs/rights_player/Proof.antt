@@ -5,7 +5,8 @@ use borrow.Author.Tests.{lt-ltb, le-ltb}
 use Rattle.book.specs.declared.Book.{Book}
 use Rattle.model.specs.Book.{playerAt}
 use Rattle.model.specs.Image.{playerValues}
-use Rattle.embed.specs.Seen.{hasPlayer, playerSeen, seen-refused, seen-absent, seen-given}
+use Rattle.embed.specs.Seen.{hasPlayer, playerSeen}
+use Rattle.embed.proofs.SeenLeft.{seen-refused, seen-absent, seen-given}
 use borrow.Author.Needs.{needs}
 use Rattle.embed.proofs.rights_player.Statement.{statement}
 use Rattle.embed.proofs.rights_player.Tie as tie
@@ -15,10 +16,10 @@ load-requires c κs = search needs
 
 returns : tie.Need-returns
 returns c =
-    let a = c .before .before .before .before .args in
+    let a = c .before .before .before .before .before .args in
     let s = now (a .image) in
     seen-refused s (hasPlayer (a .player)) (playerSeen s (a .player)) (now (a .out))
-    _ (c .before .load .ensures .0) (c .if1 .taken)
+    _ (c .before .before .load .ensures .0) (c .if1 .taken)
 
 returns-2 : tie.Need-returns-2
 unfolding hasPlayer
@@ -27,14 +28,14 @@ returns-2 c =
     let s = now (a .image) in
     let load = c .before .before .before .load .ensures in
     seen-absent s (hasPlayer (a .player)) (playerSeen s (a .player)) (now (a .out))
-    (sym (load .0) ∙ c .before .before .if1 .left)
+    (sym (load .0) ∙ c .before .if1 .left)
     (le-ltb _ _ (c .if2 .taken))
 
-mul-found : tie.Need-mul-found
-mul-found c = search needs
+mul-player-values : tie.Need-mul-player-values
+mul-player-values c = search needs
 
-element-copy-out-found : tie.Need-element-copy-out-found
-element-copy-out-found c = search needs
+array-copy-out-player-values : tie.Need-array-copy-out-player-values
+array-copy-out-player-values c = search needs
 
 player-values-requires : tie.Need-player-values-requires
 player-values-requires c κs = search needs
@@ -52,9 +53,9 @@ returns-3 : tie.Need-returns-3
 unfolding hasPlayer playerSeen
 returns-3 c =
     let at-values = c .before .before .before .before .before in
-    let at-end = at-values .before .before in
-    let at-test = at-end .before .before in
-    let at-load = at-test .before in
+    let at-end = at-values .before .before .before in
+    let at-test = at-end .before in
+    let at-load = at-test .before .before in
     let at-start = at-load .before .before .before in
     let a = at-start .args in
     let s = now (a .image) in
@@ -72,8 +73,8 @@ rights-player-spec =
     load-requires
     returns
     returns-2
-    mul-found
-    element-copy-out-found
+    mul-player-values
+    array-copy-out-player-values
     player-values-requires
     slice-aggregate-fill32
     fill32-requires

@@ -4,7 +4,8 @@ use Prim.Native.Nat.{_-_, _<_, _≤_}
 use native.Mathlib.Omega.{arith}
 use denote.Ref.{now}
 use lib.ListN.{length, take, length-set}
-use Rattle.laws.specs.Buffer.{lay, lay-nil}
+use Rattle.numbers.specs.Buffer.{lay}
+use Rattle.numbers.proofs.BufferLaws.{lay-nil}
 use Rattle.fill.specs.Fill.{fill-next, fill-short, fill-done}
 use Rattle.fill.proofs.fill32.Statement.{statement}
 use Rattle.fill.proofs.fill32.Tie as tie

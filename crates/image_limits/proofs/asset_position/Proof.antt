@@ -6,8 +6,8 @@ use Prim.Native.Nat.{ℕ, _-_, _≤_}
 use native.Mathlib.Omega.{arith}
 use lib.Dec.{eqb}
 use borrow.Author.Tests.{eq-eqb, ne-eqb}
-use Rattle.laws.specs.Count.{first}
-use Rattle.laws.specs.Loops.{first-on, first-found}
+use Rattle.numbers.specs.Count.{first}
+use Rattle.numbers.proofs.Loops.{first-on, first-found}
 use Rattle.book.specs.declared.Asset.{Asset}
 use Rattle.model.specs.Book.{assetAt, assetPosition}
 use Rattle.image_limits.proofs.asset_position.Statement.{statement}
@@ -38,7 +38,8 @@ unfolding assetPosition
 returns c =
     let a = c .before .before .before .before .before .args in
     let l = c .before .before .before .before .loop in
-    sym (first-found (numbered (a .t1) (a .number)) (l .i) (a .n) (c .before .before .before .loop-test .taken) (l .inv .1) (eq-eqb _ _ (c .if1 .taken)))
+    sym (first-found (numbered (a .t1) (a .number)) (l .i) (a .n) (c .before .before .before .loop-test .taken) (l .inv .1)
+    (eq-eqb _ _ (c .if1 .taken)))
 
 add-i : tie.Need-add-i Inv-loop μ-loop
 add-i c = omega arith

@@ -4,8 +4,8 @@ use mathlib.Core.Bool.{Bool, _&&_}
 use mathlib.Core.List.{List}
 use Prim.Native.Nat.{ℕ, _-_, _≤_}
 use native.Mathlib.Omega.{arith}
-use Rattle.laws.specs.Count.{all}
-use Rattle.laws.specs.Loops.{all-turn}
+use Rattle.numbers.specs.Count.{all}
+use Rattle.numbers.proofs.Loops.{all-turn}
 use Rattle.book.specs.declared.Asset.{Asset}
 use Rattle.model.specs.Book.{assetAt, assetsIn, assetLegal, assetsLegal}
 use borrow.Author.Needs.{needs}
@@ -46,8 +46,11 @@ loop-less c = omega arith
 loop-again : tie.Need-loop-again Inv-loop μ-loop
 loop-again c =
     let n = c .before .before .before .before .at-most-64 .result in
-    let l = c .before .before .before .loop in
-    (omega arith, ap₂ _&&_ (l .inv .1) (c .asset-legal .ensures) ∙ sym (all-turn (judged (c .before .before .before .before .before .before .args .b .assets) n) (l .i)))
+    let l = c .before .before .before .loop in (
+      omega arith,
+      ap₂ _&&_ (l .inv .1) (c .asset-legal .ensures) ∙ sym
+          (all-turn (judged (c .before .before .before .before .before .before .args .b .assets) n) (l .i)),
+    )
 
 returns : tie.Need-returns Inv-loop μ-loop
 unfolding assetsLegal assetsIn

@@ -4,8 +4,8 @@ use mathlib.Core.Bool.{Bool, _&&_}
 use mathlib.Core.List.{List}
 use Prim.Native.Nat.{ℕ, _-_, _≤_}
 use native.Mathlib.Omega.{arith}
-use Rattle.laws.specs.Count.{all}
-use Rattle.laws.specs.Loops.{all-turn}
+use Rattle.numbers.specs.Count.{all}
+use Rattle.numbers.proofs.Loops.{all-turn}
 use lib.Dec.{ltb}
 use Rattle.book.specs.declared.Asset.{Asset}
 use Rattle.book.specs.declared.Entry.{Entry}

@@ -1,15 +1,28 @@
 -- `image_limits::limits_legal` meets its contract: its tests are the definition's.
-use Rattle.model.specs.Book.{flagged, momentary, limitsLegal}
+use Rattle.model.specs.Book.{limitsLegal}
+use Rattle.rules.specs.Rules.{flagsOf}
 use borrow.Author.Needs.{needs}
 use Rattle.image_limits.proofs.limits_legal.Statement.{statement}
 use Rattle.image_limits.proofs.limits_legal.Tie as tie
+
+flags-of-requires : tie.Need-flags-of-requires
+flags-of-requires c κs = search needs
+
+momentary-requires : tie.Need-momentary-requires
+momentary-requires c κs = search needs
 
 ranges-legal-requires : tie.Need-ranges-legal-requires
 ranges-legal-requires c κs = search needs
 
 returns : tie.Need-returns
-unfolding limitsLegal flagged momentary
-returns c = rw (c .before .before .ranges-legal .ensures)
+unfolding limitsLegal flagsOf
+returns c = rw (
+  c .before .before .before .before .ranges-legal .ensures,
+  c .before .before .before .before .before .before .before
+      .before .before .before .momentary .ensures,
+  c .before .before .before .before .before .before .before .before .before .before
+      .before .flags-of .ensures,
+)
 
 pub limits-legal-spec : {M : Type 1} → statement M
-limits-legal-spec = tie.close (tie.spec ranges-legal-requires returns)
+limits-legal-spec = tie.close (tie.spec flags-of-requires momentary-requires ranges-legal-requires returns)

@@ -1,9 +1,12 @@
--- `image_meters::entry_meters_legal` meets its contract: its tests are the definition's, and flag 1 is read without dividing by 1.
-use native.Mathlib.Nat.{div-one}
-use Rattle.model.specs.Book.{flagged, entryMetersLegal}
+-- `image_meters::entry_meters_legal` meets its contract: its tests are the definition's.
+use Rattle.model.specs.Book.{entryMetersLegal}
+use Rattle.rules.specs.Rules.{flagsOf}
 use borrow.Author.Needs.{needs}
 use Rattle.image_meters.proofs.entry_meters_legal.Statement.{statement}
 use Rattle.image_meters.proofs.entry_meters_legal.Tie as tie
+
+flags-of-requires : tie.Need-flags-of-requires
+flags-of-requires c κs = search needs
 
 open-uses-requires : tie.Need-open-uses-requires
 open-uses-requires c κs = search needs
@@ -27,28 +30,21 @@ meters-cover-requires : tie.Need-meters-cover-requires
 meters-cover-requires c κs = search needs
 
 returns : tie.Need-returns
-unfolding entryMetersLegal flagged
-returns c =
-    rw (
-      div-one,
-      c .before .before .before .before .before .before .meter-legal .ensures,
-      c .before .before .before .before .meter-legal2 .ensures,
-      c .before .before .meter-legal3 .ensures,
-      c .before .start-legal .ensures,
-      c .meters-cover .ensures,
-      c .before .before .before .before .before .before .before .before .before .open-uses .ensures,
-      c .before .before .before .before .before .before .before .before .open-seconds .ensures,
-    )
+unfolding entryMetersLegal flagsOf
+returns c = rw (
+  c .meters-cover .ensures,
+  c .before .start-legal .ensures,
+  c .before .before .meter-legal3 .ensures,
+  c .before .before
+      .before .meter-legal2 .ensures,
+  c .before .before .before .before .meter-legal .ensures,
+  c .before .before .before .before .before
+      .open-seconds .ensures,
+  c .before .before .before .before .before .before .open-uses .ensures,
+  c .before .before .before .before
+      .before .before .before .flags-of .ensures,
+)
 
 pub entry-meters-legal-spec : {M : Type 1} → statement M
-entry-meters-legal-spec =
-    tie.close
-    (tie.spec
-    open-uses-requires
-    open-seconds-requires
-    meter-legal-requires
-    meter-legal-requires-2
-    meter-legal-requires-3
-    start-legal-requires
-    meters-cover-requires
-    returns)
+entry-meters-legal-spec = tie.close (tie.spec flags-of-requires open-uses-requires open-seconds-requires meter-legal-requires
+    meter-legal-requires-2 meter-legal-requires-3 start-legal-requires meters-cover-requires returns)

@@ -1,6 +1,6 @@
--- `image_meters::meters_cover` meets its contract: its tests are the definition's, and flag 1 is read without dividing by 1.
-use native.Mathlib.Nat.{div-one}
-use Rattle.model.specs.Book.{flagged, metersCover}
+-- `image_meters::meters_cover` meets its contract: its tests are the definition's.
+use Rattle.model.specs.Book.{metersCover}
+use Rattle.rules.specs.Rules.{flagsOf}
 use borrow.Author.Needs.{needs}
 use Rattle.image_meters.proofs.meters_cover.Statement.{statement}
 use Rattle.image_meters.proofs.meters_cover.Tie as tie
@@ -14,9 +14,12 @@ cast-timed c = search needs
 cast-used : tie.Need-cast-used
 cast-used c = search needs
 
+flags-of-requires : tie.Need-flags-of-requires
+flags-of-requires c κs = search needs
+
 returns : tie.Need-returns
-unfolding metersCover flagged
-returns c = rw div-one
+unfolding metersCover flagsOf
+returns c = rw (c .before .before .before .flags-of .ensures)
 
 pub meters-cover-spec : {M : Type 1} → statement M
-meters-cover-spec = tie.close (tie.spec cast-count cast-timed cast-used returns)
+meters-cover-spec = tie.close (tie.spec cast-count cast-timed cast-used flags-of-requires returns)

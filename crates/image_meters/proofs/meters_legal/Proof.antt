@@ -4,8 +4,8 @@ use mathlib.Core.Bool.{Bool, _&&_}
 use mathlib.Core.List.{List}
 use Prim.Native.Nat.{ℕ, _-_, _≤_}
 use native.Mathlib.Omega.{arith}
-use Rattle.laws.specs.Count.{all}
-use Rattle.laws.specs.Loops.{all-turn}
+use Rattle.numbers.specs.Count.{all}
+use Rattle.numbers.proofs.Loops.{all-turn}
 use lib.ListN.{getD}
 use Rattle.book.specs.declared.Entry.{Entry}
 use Rattle.book.specs.declared.Player.{Player}
@@ -49,8 +49,11 @@ loop-less c = omega arith
 loop-again : tie.Need-loop-again Inv-loop μ-loop
 loop-again c =
     let b = c .before .before .before .before .before .before .before .args .b in
-    let l = c .before .before .before .loop in
-    (omega arith, ap₂ _&&_ (l .inv .1) (c .entry-meters-legal .ensures) ∙ sym (all-turn (judged (b .time) (b .players) (b .entries)) (l .i)))
+    let l = c .before .before .before .loop in (
+      omega arith,
+      ap₂ _&&_ (l .inv .1) (c .entry-meters-legal .ensures) ∙ sym
+          (all-turn (judged (b .time) (b .players) (b .entries)) (l .i)),
+    )
 
 returns : tie.Need-returns Inv-loop μ-loop
 unfolding metersLegal entriesIn

@@ -1,12 +1,13 @@
--- `image_meters::open_seconds` meets its contract. The invariant: `seconds` is the sum over the first p players; each adds less than 2^32, so it fits.
+-- `image_meters::open_seconds` meets its contract. The invariant: `seconds` is the sum over the first p players; each adds less than
+-- 2^32, so it fits.
 use mathlib.Core.Path.{_≡_, refl, sym, ap, ap₂, _∙_}
 use mathlib.Core.Bool.{Bool, cond}
 use mathlib.Core.List.{List}
 use Prim.Native.Nat.{ℕ, _+_, _*_, _-_, _≤_}
 use native.Mathlib.Omega.{arith}
-use Rattle.laws.specs.Loops.{sum-turn}
+use Rattle.numbers.proofs.Loops.{sum-turn}
 use Rattle.book.specs.declared.Player.{Player}
-use Rattle.laws.specs.Count.{sum}
+use Rattle.numbers.specs.Count.{sum}
 use Rattle.model.specs.Book.{playerAt, opens, lasts, openSeconds}
 use borrow.Author.Needs.{needs}
 use Rattle.image_meters.proofs.open_seconds.Statement.{statement}
@@ -56,7 +57,8 @@ loop-again : tie.Need-loop-again Inv-loop μ-loop
 loop-again c =
     let a = c .before .before .before .before .before .before .before .args in
     let l = c .before .before .before .before .before .before .loop in
-    let turn = c .counted .ensures ∙ ap₂ (λ (w : Bool) (d : ℕ). cond w d 0) (c .before .before .opens-entry .ensures) (c .before .length-of .ensures) in
+    let turn = c .counted .ensures ∙ ap₂ (λ (w : Bool) (d : ℕ). cond w d 0) (c .before .before .opens-entry .ensures)
+    (c .before .length-of .ensures) in
     (omega arith, omega arith, ap₂ _+_ (l .inv .2) turn ∙ sym (sum-turn (spent (a .i) (a .t1)) (l .p)))
 
 returns : tie.Need-returns Inv-loop μ-loop

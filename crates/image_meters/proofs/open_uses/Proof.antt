@@ -3,9 +3,9 @@ use mathlib.Core.Path.{_≡_, refl, sym, ap, ap₂, _∙_}
 use mathlib.Core.List.{List}
 use Prim.Native.Nat.{ℕ, _+_, _-_, _≤_}
 use native.Mathlib.Omega.{arith}
-use Rattle.laws.specs.Loops.{sum-turn}
+use Rattle.numbers.proofs.Loops.{sum-turn}
 use Rattle.book.specs.declared.Player.{Player}
-use Rattle.laws.specs.Count.{sum, one}
+use Rattle.numbers.specs.Count.{sum, one}
 use Rattle.model.specs.Book.{playerAt, opens, openUses}
 use borrow.Author.Needs.{needs}
 use Rattle.image_meters.proofs.open_uses.Statement.{statement}

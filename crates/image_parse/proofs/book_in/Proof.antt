@@ -1,86 +1,88 @@
--- `image_parse::book_in` meets its contract: each table is read where the counts of the header put it.
+-- `image_parse::book_in` meets its contract: each table is read where the sizes of the version and the counts of the header put it.
+use mathlib.Core.Path.{ap, _∙_}
+use Prim.Native.Nat.{ℕ, _+_, _*_}
 use native.Mathlib.Omega.{arith}
 use lib.ListN.{getD}
 use denote.Ref.{now}
-use Rattle.model.specs.Image.{bookIn, timeIn, assetCountIn, entryCountIn, entriesFrom, playersFrom}
-use Rattle.image_parse.specs.Header.{HeaderStands, header-stands}
+use Rattle.image_parse.specs.Header.{HeaderStands, header-stands, Located, located, read-there}
+use borrow.Author.Needs.{needs}
 use Rattle.image_parse.proofs.book_in.Statement.{statement}
 use Rattle.image_parse.proofs.book_in.Tie as tie
 
 stands : (c : tie.Start) → HeaderStands (now (c .args .s))
 stands c = header-stands (now (c .args .s)) (c .pre)
 
-shared-slice-read-assets : tie.Need-shared-slice-read-assets
-shared-slice-read-assets c = let h = stands (c .before .before) in omega arith
+read16-requires : tie.Need-read16-requires
+read16-requires c κs = let h = stands (c .before) in omega (arith, h .start)
 
-cast-assets : tie.Need-cast-assets
-cast-assets c = let h = stands (c .before .before) in omega arith
+shared-slice-read-assets : tie.Need-shared-slice-read-assets
+shared-slice-read-assets c = let h = stands (c .before .before .before) in omega (arith, h .start)
 
 shared-slice-read-entries : tie.Need-shared-slice-read-entries
-shared-slice-read-entries c = let h = stands (c .before .before .before) in omega arith
+shared-slice-read-entries c = let h = stands (c .before .before .before .before) in omega (arith, h .start)
 
-cast-entries : tie.Need-cast-entries
-cast-entries c = let h = stands (c .before .before .before) in omega arith
+header-size-requires : tie.Need-header-size-requires
+header-size-requires c κs = search needs
 
-mul-entriesfrom : tie.Need-mul-entriesfrom
-mul-entriesfrom c = let h = stands (c .before .before .before) in omega arith
+asset-size-requires : tie.Need-asset-size-requires
+asset-size-requires c κs = search needs
+
+rows-requires : tie.Need-rows-requires
+rows-requires c κs = search needs
 
 add-entriesfrom : tie.Need-add-entriesfrom
-add-entriesfrom c = let h = stands (c .before .before .before) in omega arith
+add-entriesfrom c = omega (arith, c .before .before .header-size .ensures .1, c .rows .ensures .1)
 
-mul-playersfrom : tie.Need-mul-playersfrom
-mul-playersfrom c = let h = stands (c .before .before .before) in omega arith
+entry-size-requires : tie.Need-entry-size-requires
+entry-size-requires c κs = search needs
+
+rows-requires-2 : tie.Need-rows-requires-2
+rows-requires-2 c κs = search needs
 
 add-playersfrom : tie.Need-add-playersfrom
-add-playersfrom c = let h = stands (c .before .before .before) in omega arith
+add-playersfrom c =
+    omega (arith, c .before .before .before .before .header-size .ensures .1, c .before .before .rows .ensures .1, c .rows2 .ensures .1)
+
+-- the offsets, once all are reckoned
+places : (c : tie.After-rows2) → Located (now (c .before .before .before .before .before .before .before .before .before .args .s))
+    (c .before .before .before .before .before .before .before .read16 .result) (c .before .before .before .before .header-size .result)
+    (c .before .before .before .before .header-size .result + c .before .before .rows .result)
+    (c .before .before .before .before .header-size .result + c .before .before .rows .result + c .rows2 .result)
+places c =
+    let s = now (c .before .before .before .before .before .before .before .before .before .args .s) in
+    located s (c .before .before .before .before .before .before .before .before .before .pre) _ _ _ _
+    (c .before .before .before .before .before .before .before .read16 .ensures)
+    (c .before .before .before .before .header-size .ensures .0)
+    (c .before .before .rows .ensures .0 ∙ ap (λ (k : ℕ). k * getD s 5 0) (c .before .before .before .asset-size .ensures .0))
+    (c .rows2 .ensures .0 ∙ ap (λ (k : ℕ). k * getD s 6 0) (c .before .entry-size .ensures .0))
 
 read32-requires : tie.Need-read32-requires
-read32-requires c κs = let h = stands (c .before .before .before) in omega arith
+read32-requires c κs = let h = stands (c .before .before .before .before .before .before .before .before .before) in omega (arith, h .start)
 
-shared-slice-read-t7 : tie.Need-shared-slice-read-t7
-shared-slice-read-t7 c = let h = stands (c .before .before .before .before .before) in omega arith
-
-shared-slice-read-t13 : tie.Need-shared-slice-read-t13
-shared-slice-read-t13 c = let h = stands (c .before .before .before .before .before .before) in omega arith
+cast-assets-in : tie.Need-cast-assets-in
+cast-assets-in c = let l = places (c .before) in omega (arith, l .assetCount)
 
 assets-in-requires : tie.Need-assets-in-requires
-assets-in-requires c κs = let h = stands (c .before .before .before .before .before .before) in omega arith
+assets-in-requires c κs = let l = places (c .before) in (l .oldest, l .known, l .assetCount, l .assetRoom)
+
+cast-entries-in : tie.Need-cast-entries-in
+cast-entries-in c = let l = places (c .before .before) in omega (arith, l .entryCount)
 
 entries-in-requires : tie.Need-entries-in-requires
-entries-in-requires c κs = let h = stands (c .before .before .before .before .before .before .before) in omega arith
+entries-in-requires c κs = let l = places (c .before .before) in (l .oldest, l .known, l .entryCount, l .entryRoom)
 
 players-in-requires : tie.Need-players-in-requires
-players-in-requires c κs =
-    let h = stands (c .before .before .before .before .before .before .before .before) in omega arith
+players-in-requires c κs = let l = places (c .before .before .before) in (l .oldest, l .known, l .playerRoom)
 
 returns : tie.Need-returns
-unfolding bookIn timeIn assetCountIn entryCountIn entriesFrom playersFrom
 returns c =
-    λ i. record {
-      time = c .before .before .before .before .before .read32 .ensures i;
-      assetcount = getD (now (c .before .before .before .before .before .before .before .before .before .args .s)) 5 0;
-      entrycount = getD (now (c .before .before .before .before .before .before .before .before .before .args .s)) 6 0;
-      assets = c .before .before .assets-in .ensures i;
-      entries = c .before .entries-in .ensures i;
-      players = c .players-in .ensures i;
-    }
+    read-there _ _ _ _ _ _ _ _ _ (places (c .before .before .before .before))
+    (c .before .before .before .read32 .ensures) (c .before .before .assets-in .ensures) (c .before .entries-in .ensures)
+    (c .players-in .ensures)
 
 pub book-in-spec : {M : Type 1} → statement M
 book-in-spec =
     tie.close
-    (tie.spec
-    shared-slice-read-assets
-    cast-assets
-    shared-slice-read-entries
-    cast-entries
-    mul-entriesfrom
-    add-entriesfrom
-    mul-playersfrom
-    add-playersfrom
-    read32-requires
-    shared-slice-read-t7
-    shared-slice-read-t13
-    assets-in-requires
-    entries-in-requires
-    players-in-requires
-    returns)
+    (tie.spec read16-requires shared-slice-read-assets shared-slice-read-entries header-size-requires asset-size-requires rows-requires
+    add-entriesfrom entry-size-requires rows-requires-2 add-playersfrom read32-requires cast-assets-in assets-in-requires
+    cast-entries-in entries-in-requires players-in-requires returns)

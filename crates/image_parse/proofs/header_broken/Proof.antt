@@ -1,19 +1,19 @@
 -- `image_parse::header_broken` meets its contract: at each return the stages before it have passed.
 use mathlib.Core.Path.{_≡_, sym, ap, _∙_}
-use mathlib.Core.Bool.{true, false, _||_}
+use mathlib.Core.Bool.{true, false, not, _||_}
 use Prim.Native.Nat.{ℕ}
-use native.Mathlib.Omega.{arith}
 use lib.ListN.{length}
 use lib.Dec.{ltb, eqb}
 use denote.Ref.{now}
 use borrow.Author.Tests.{lt-ltb, le-ltb, eq-eqb, ne-eqb, not-false}
-use Rattle.model.specs.Image.{markIn, versionIn, assetCountIn, entryCountIn, timeIn, imageLength, headerBroken}
+use Rattle.model.specs.Book.{between}
+use Rattle.model.specs.Image.{newest, markIn, versionIn, assetCountIn, entryCountIn, timeIn, imageLength, headerBroken}
 use borrow.Author.Needs.{needs}
 use Rattle.image_parse.proofs.header_broken.Statement.{statement}
 use Rattle.image_parse.proofs.header_broken.Tie as tie
 
 returns : tie.Need-returns
-unfolding headerBroken markIn versionIn assetCountIn entryCountIn timeIn imageLength
+unfolding headerBroken markIn versionIn assetCountIn entryCountIn timeIn
 returns c = rw (lt-ltb _ _ (c .if1 .taken))
 
 shared-slice-read-if2 : tie.Need-shared-slice-read-if2
@@ -26,7 +26,7 @@ shared-slice-read-if2-3 : tie.Need-shared-slice-read-if2-3
 shared-slice-read-if2-3 c = search needs
 
 returns-2 : tie.Need-returns-2
-unfolding headerBroken markIn versionIn assetCountIn entryCountIn timeIn imageLength
+unfolding headerBroken markIn versionIn assetCountIn entryCountIn timeIn
 returns-2 c =
     let s = now (c .before .before .before .before .before .before .args .s) in
     let long : ltb (length s) 11 ≡ false = le-ltb (length s) 11 (c .before .before .before .before .if1 .left) in
@@ -36,12 +36,13 @@ read16-requires : tie.Need-read16-requires
 read16-requires c κs = search needs
 
 returns-3 : tie.Need-returns-3
-unfolding headerBroken markIn versionIn assetCountIn entryCountIn timeIn imageLength
+unfolding headerBroken markIn versionIn assetCountIn entryCountIn timeIn
 returns-3 c =
     let s = now (c .before .before .before .before .before .before .before .before .args .s) in
     let long : ltb (length s) 11 ≡ false = le-ltb (length s) 11 (c .before .before .before .before .before .before .if1 .left) in
     let mark : markIn s ≡ true = not-false _ (c .before .before .if2 .left) in
-    let version : eqb (versionIn s) 1 ≡ false = ne-eqb _ _ (λ e. c .if3 .taken (c .before .read16 .ensures ∙ e)) in
+    let version : not (between 1 newest (versionIn s)) ≡ true = ap (λ (v : ℕ). not (between 1 newest v))
+    (sym (c .before .read16 .ensures)) ∙ c .if3 .taken in
     rw (long, mark, version)
 
 shared-slice-read-assets : tie.Need-shared-slice-read-assets
@@ -54,58 +55,59 @@ read32-requires : tie.Need-read32-requires
 read32-requires c κs = search needs
 
 returns-4 : tie.Need-returns-4
-unfolding headerBroken markIn versionIn assetCountIn entryCountIn timeIn imageLength
+unfolding headerBroken markIn versionIn assetCountIn entryCountIn timeIn
 returns-4 c =
     let s = now (c .before .before .before .before .before .before .before .before .before .before .before .before .args .s) in
-    let long : ltb (length s) 11 ≡ false = le-ltb (length s) 11 (c .before .before .before .before .before .before .before .before .before .before .if1 .left) in
+    let long : ltb (length s) 11 ≡ false = le-ltb (length s) 11
+    (c .before .before .before .before .before .before .before .before .before .before .if1 .left) in
     let mark : markIn s ≡ true = not-false _ (c .before .before .before .before .before .before .if2 .left) in
-    let version : eqb (versionIn s) 1 ≡ true = eq-eqb _ _ (sym (c .before .before .before .before .before .read16 .ensures) ∙ c .before .before .before .before .if3 .left) in
+    let version : not (between 1 newest (versionIn s)) ≡ false = ap (λ (v : ℕ). not (between 1 newest v))
+    (sym (c .before .before .before .before .before .read16 .ensures)) ∙ c .before .before .before .before .if3 .left in
     let few : (ltb 64 (assetCountIn s) || ltb 64 (entryCountIn s) || ltb 4000000000 (timeIn s)) ≡ true =
-    ap (λ (t : ℕ). ltb 64 (assetCountIn s) || ltb 64 (entryCountIn s) || ltb 4000000000 t) (sym (c .before .read32 .ensures)) ∙ c .if4 .taken in
+    ap (λ (t : ℕ). ltb 64 (assetCountIn s) || ltb 64 (entryCountIn s) || ltb 4000000000 t) (sym (c .before .read32 .ensures)) ∙ c .if4
+    .taken in
     rw (long, mark, version, few)
 
-cast-if5 : tie.Need-cast-if5
-cast-if5 c = omega (arith, c .before .before .before .before .before .before .before .before .before .before .before .shared-slice-known .given 5, c .before .before .before .before .before .before .before .before .before .before .before .shared-slice-known .given 6)
-
-mul-if5 : tie.Need-mul-if5
-mul-if5 c = omega (arith, c .before .before .before .before .before .before .before .before .before .before .before .shared-slice-known .given 5, c .before .before .before .before .before .before .before .before .before .before .before .shared-slice-known .given 6)
-
-add-if5 : tie.Need-add-if5
-add-if5 c = omega (arith, c .before .before .before .before .before .before .before .before .before .before .before .shared-slice-known .given 5, c .before .before .before .before .before .before .before .before .before .before .before .shared-slice-known .given 6)
-
-cast-if5-2 : tie.Need-cast-if5-2
-cast-if5-2 c = omega (arith, c .before .before .before .before .before .before .before .before .before .before .before .shared-slice-known .given 5, c .before .before .before .before .before .before .before .before .before .before .before .shared-slice-known .given 6)
-
-mul-if5-2 : tie.Need-mul-if5-2
-mul-if5-2 c = omega (arith, c .before .before .before .before .before .before .before .before .before .before .before .shared-slice-known .given 5, c .before .before .before .before .before .before .before .before .before .before .before .shared-slice-known .given 6)
-
-add-if5-2 : tie.Need-add-if5-2
-add-if5-2 c = omega (arith, c .before .before .before .before .before .before .before .before .before .before .before .shared-slice-known .given 5, c .before .before .before .before .before .before .before .before .before .before .before .shared-slice-known .given 6)
-
-add-if5-3 : tie.Need-add-if5-3
-add-if5-3 c = omega (arith, c .before .before .before .before .before .before .before .before .before .before .before .shared-slice-known .given 5, c .before .before .before .before .before .before .before .before .before .before .before .shared-slice-known .given 6)
+image-length-requires : tie.Need-image-length-requires
+image-length-requires c κs = search needs
 
 returns-5 : tie.Need-returns-5
-unfolding headerBroken markIn versionIn assetCountIn entryCountIn timeIn imageLength
+unfolding headerBroken markIn versionIn assetCountIn entryCountIn timeIn
 returns-5 c =
-    let s = now (c .before .before .before .before .before .before .before .before .before .before .before .before .before .args .s) in
-    let long : ltb (length s) 11 ≡ false = le-ltb (length s) 11 (c .before .before .before .before .before .before .before .before .before .before .before .if1 .left) in
-    let mark : markIn s ≡ true = not-false _ (c .before .before .before .before .before .before .before .if2 .left) in
-    let version : eqb (versionIn s) 1 ≡ true = eq-eqb _ _ (sym (c .before .before .before .before .before .before .read16 .ensures) ∙ c .before .before .before .before .before .if3 .left) in
+    let s = now (c .before .before .before .before .before .before .before .before .before .before .before .before .before .before .args
+    .s) in
+    let long : ltb (length s) 11 ≡ false = le-ltb (length s) 11
+    (c .before .before .before .before .before .before .before .before .before .before .before .before .if1 .left) in
+    let mark : markIn s ≡ true = not-false _ (c .before .before .before .before .before .before .before .before .if2 .left) in
+    let version : not (between 1 newest (versionIn s)) ≡ false = ap (λ (v : ℕ). not (between 1 newest v))
+    (sym (c .before .before .before .before .before .before .before .read16 .ensures)) ∙ c .before .before .before .before .before
+    .before .if3 .left in
     let few : (ltb 64 (assetCountIn s) || ltb 64 (entryCountIn s) || ltb 4000000000 (timeIn s)) ≡ false =
-    ap (λ (t : ℕ). ltb 64 (assetCountIn s) || ltb 64 (entryCountIn s) || ltb 4000000000 t) (sym (c .before .before .read32 .ensures)) ∙ c .before .if4 .left in
-    rw (long, mark, version, few, ne-eqb _ _ (c .if5 .taken))
+    ap (λ (t : ℕ). ltb 64 (assetCountIn s) || ltb 64 (entryCountIn s) || ltb 4000000000 t)
+    (sym (c .before .before .before .read32 .ensures)) ∙ c .before .before .if4 .left in
+    let n : c .before .image-length .result ≡ imageLength (versionIn s) (assetCountIn s) (entryCountIn s) =
+    c .before .image-length .ensures ∙ ap (λ (v : ℕ). imageLength v (assetCountIn s) (entryCountIn s))
+    (c .before .before .before .before .before .before .before .read16 .ensures) in
+    rw (long, mark, version, few, ne-eqb _ _ (λ e. c .if5 .taken (e ∙ sym n)))
 
 returns-6 : tie.Need-returns-6
-unfolding headerBroken markIn versionIn assetCountIn entryCountIn timeIn imageLength
+unfolding headerBroken markIn versionIn assetCountIn entryCountIn timeIn
 returns-6 c =
-    let s = now (c .before .before .before .before .before .before .before .before .before .before .before .before .before .args .s) in
-    let long : ltb (length s) 11 ≡ false = le-ltb (length s) 11 (c .before .before .before .before .before .before .before .before .before .before .before .if1 .left) in
-    let mark : markIn s ≡ true = not-false _ (c .before .before .before .before .before .before .before .if2 .left) in
-    let version : eqb (versionIn s) 1 ≡ true = eq-eqb _ _ (sym (c .before .before .before .before .before .before .read16 .ensures) ∙ c .before .before .before .before .before .if3 .left) in
+    let s = now (c .before .before .before .before .before .before .before .before .before .before .before .before .before .before .args
+    .s) in
+    let long : ltb (length s) 11 ≡ false = le-ltb (length s) 11
+    (c .before .before .before .before .before .before .before .before .before .before .before .before .if1 .left) in
+    let mark : markIn s ≡ true = not-false _ (c .before .before .before .before .before .before .before .before .if2 .left) in
+    let version : not (between 1 newest (versionIn s)) ≡ false = ap (λ (v : ℕ). not (between 1 newest v))
+    (sym (c .before .before .before .before .before .before .before .read16 .ensures)) ∙ c .before .before .before .before .before
+    .before .if3 .left in
     let few : (ltb 64 (assetCountIn s) || ltb 64 (entryCountIn s) || ltb 4000000000 (timeIn s)) ≡ false =
-    ap (λ (t : ℕ). ltb 64 (assetCountIn s) || ltb 64 (entryCountIn s) || ltb 4000000000 t) (sym (c .before .before .read32 .ensures)) ∙ c .before .if4 .left in
-    rw (long, mark, version, few, eq-eqb _ _ (c .if5 .left))
+    ap (λ (t : ℕ). ltb 64 (assetCountIn s) || ltb 64 (entryCountIn s) || ltb 4000000000 t)
+    (sym (c .before .before .before .read32 .ensures)) ∙ c .before .before .if4 .left in
+    let n : c .before .image-length .result ≡ imageLength (versionIn s) (assetCountIn s) (entryCountIn s) =
+    c .before .image-length .ensures ∙ ap (λ (v : ℕ). imageLength v (assetCountIn s) (entryCountIn s))
+    (c .before .before .before .before .before .before .before .read16 .ensures) in
+    rw (long, mark, version, few, eq-eqb _ _ (c .if5 .left ∙ n))
 
 pub header-broken-spec : {M : Type 1} → statement M
 header-broken-spec =
@@ -122,12 +124,6 @@ header-broken-spec =
     shared-slice-read-entries
     read32-requires
     returns-4
-    cast-if5
-    mul-if5
-    add-if5
-    cast-if5-2
-    mul-if5-2
-    add-if5-2
-    add-if5-3
+    image-length-requires
     returns-5
     returns-6)

@@ -1,7 +1,7 @@
 -- `image_parse::limits_in` meets its contract: each field is read at its offset.
-use lib.ListN.{getD}
+use mathlib.Core.Path.{_∙_}
 use denote.Ref.{now}
-use Rattle.model.specs.Image.{entryIn}
+use Rattle.image_parse.specs.Versions.{limits-read}
 use borrow.Author.Needs.{needs}
 use Rattle.image_parse.proofs.limits_in.Statement.{statement}
 use Rattle.image_parse.proofs.limits_in.Tie as tie
@@ -12,11 +12,11 @@ read16-requires c κs = search needs
 read16-requires-2 : tie.Need-read16-requires-2
 read16-requires-2 c κs = search needs
 
-shared-slice-read-t5 : tie.Need-shared-slice-read-t5
-shared-slice-read-t5 c = search needs
+read8-requires : tie.Need-read8-requires
+read8-requires c κs = search needs
 
-shared-slice-read-t7 : tie.Need-shared-slice-read-t7
-shared-slice-read-t7 c = search needs
+read8-requires-2 : tie.Need-read8-requires-2
+read8-requires-2 c κs = search needs
 
 read32-requires : tie.Need-read32-requires
 read32-requires c κs = search needs
@@ -40,13 +40,13 @@ read32-requires-7 : tie.Need-read32-requires-7
 read32-requires-7 c κs = search needs
 
 returns : tie.Need-returns
-unfolding entryIn
 returns c =
-    λ i. record {
+    let z = c .before .before .before .before .before .before .before .before .before .before .before .before in
+    (λ i. record {
       object = c .before .before .before .before .before .before .before .before .before .before .read16 .ensures i;
       asset = c .before .before .before .before .before .before .before .before .before .read162 .ensures i;
-      kind = getD (now (c .before .before .before .before .before .before .before .before .before .before .before .before .args .s)) 4 0;
-      flags = getD (now (c .before .before .before .before .before .before .before .before .before .before .before .before .args .s)) 5 0;
+      kind = c .before .before .before .before .before .before .before .before .read8 .ensures i;
+      flags = c .before .before .before .before .before .before .before .read82 .ensures i;
       count = c .before .before .before .before .before .before .read32 .ensures i;
       timed = c .before .before .before .before .before .read322 .ensures i;
       timer = c .before .before .before .before .read323 .ensures i;
@@ -54,21 +54,9 @@ returns c =
       end = c .before .before .read325 .ensures i;
       interval = c .before .read326 .ensures i;
       accumulated = c .read327 .ensures i;
-    }
+    })
+    ∙ limits-read (now (z .args .s)) (z .args .v) (z .pre .0) (z .pre .1)
 
 pub limits-in-spec : {M : Type 1} → statement M
-limits-in-spec =
-    tie.close
-    (tie.spec
-    read16-requires
-    read16-requires-2
-    shared-slice-read-t5
-    shared-slice-read-t7
-    read32-requires
-    read32-requires-2
-    read32-requires-3
-    read32-requires-4
-    read32-requires-5
-    read32-requires-6
-    read32-requires-7
-    returns)
+limits-in-spec = tie.close (tie.spec read16-requires read16-requires-2 read8-requires read8-requires-2 read32-requires read32-requires-2
+    read32-requires-3 read32-requires-4 read32-requires-5 read32-requires-6 read32-requires-7 returns)

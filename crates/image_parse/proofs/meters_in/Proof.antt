@@ -1,7 +1,7 @@
 -- `image_parse::meters_in` meets its contract: each field is read at its offset.
-use lib.ListN.{getD}
+use mathlib.Core.Path.{_∙_}
 use denote.Ref.{now}
-use Rattle.model.specs.Image.{entryIn}
+use Rattle.image_parse.specs.Versions.{meters-read}
 use borrow.Author.Needs.{needs}
 use Rattle.image_parse.proofs.meters_in.Statement.{statement}
 use Rattle.image_parse.proofs.meters_in.Tie as tie
@@ -18,27 +18,20 @@ read32-requires-3 c κs = search needs
 read32-requires-4 : tie.Need-read32-requires-4
 read32-requires-4 c κs = search needs
 
-shared-slice-read-t7 : tie.Need-shared-slice-read-t7
-shared-slice-read-t7 c = search needs
+read8-requires : tie.Need-read8-requires
+read8-requires c κs = search needs
 
 returns : tie.Need-returns
-unfolding entryIn
 returns c =
-    λ i. record {
+    let z = c .before .before .before .before .before .before in
+    (λ i. record {
       count = c .before .before .before .before .read32 .ensures i;
       timed = c .before .before .before .read322 .ensures i;
       first = c .before .before .read323 .ensures i;
       seconds = c .before .read324 .ensures i;
-      started = getD (now (c .before .before .before .before .before .before .args .s)) 50 0;
-    }
+      started = c .read8 .ensures i;
+    })
+    ∙ meters-read (now (z .args .s)) (z .args .v) (z .pre .0) (z .pre .1)
 
 pub meters-in-spec : {M : Type 1} → statement M
-meters-in-spec =
-    tie.close
-    (tie.spec
-    read32-requires
-    read32-requires-2
-    read32-requires-3
-    read32-requires-4
-    shared-slice-read-t7
-    returns)
+meters-in-spec = tie.close (tie.spec read32-requires read32-requires-2 read32-requires-3 read32-requires-4 read8-requires returns)

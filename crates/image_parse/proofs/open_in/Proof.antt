@@ -1,16 +1,16 @@
 -- `image_parse::open_in` meets its contract: each field is read at its offset.
-use lib.ListN.{getD}
+use mathlib.Core.Path.{_∙_}
 use denote.Ref.{now}
-use Rattle.model.specs.Image.{playerIn}
+use Rattle.image_parse.specs.Versions.{open-read}
 use borrow.Author.Needs.{needs}
 use Rattle.image_parse.proofs.open_in.Statement.{statement}
 use Rattle.image_parse.proofs.open_in.Tie as tie
 
-shared-slice-read-t3 : tie.Need-shared-slice-read-t3
-shared-slice-read-t3 c = search needs
+read8-requires : tie.Need-read8-requires
+read8-requires c κs = search needs
 
-shared-slice-read-t5 : tie.Need-shared-slice-read-t5
-shared-slice-read-t5 c = search needs
+read8-requires-2 : tie.Need-read8-requires-2
+read8-requires-2 c κs = search needs
 
 read32-requires : tie.Need-read32-requires
 read32-requires c κs = search needs
@@ -19,16 +19,15 @@ read32-requires-2 : tie.Need-read32-requires-2
 read32-requires-2 c κs = search needs
 
 returns : tie.Need-returns
-unfolding playerIn
 returns c =
-    λ i. record {
-      on = getD (now (c .before .before .before .before .before .args .s)) 14 0;
-      entry = getD (now (c .before .before .before .before .before .args .s)) 15 0;
+    let z = c .before .before .before .before .before in
+    (λ i. record {
+      on = c .before .before .before .read8 .ensures i;
+      entry = c .before .before .read82 .ensures i;
       begin = c .before .read32 .ensures i;
       until = c .read322 .ensures i;
-    }
+    })
+    ∙ open-read (now (z .args .s)) (z .args .v) (z .pre .0) (z .pre .1)
 
 pub open-in-spec : {M : Type 1} → statement M
-open-in-spec =
-    tie.close
-    (tie.spec shared-slice-read-t3 shared-slice-read-t5 read32-requires read32-requires-2 returns)
+open-in-spec = tie.close (tie.spec read8-requires read8-requires-2 read32-requires read32-requires-2 returns)

@@ -1,6 +1,6 @@
 -- `image_players::inside_dates` meets its contract: in 64 bits no sum is cut, and its tests are the definition's.
-use mathlib.Core.Path.{refl}
-use Rattle.model.specs.Book.{flagged, insideDates}
+use Rattle.model.specs.Book.{insideDates}
+use Rattle.rules.specs.Rules.{flagsOf}
 use borrow.Author.Needs.{needs}
 use Rattle.image_players.proofs.inside_dates.Statement.{statement}
 use Rattle.image_players.proofs.inside_dates.Tie as tie
@@ -14,9 +14,12 @@ cast-end c = search needs
 add-past : tie.Need-add-past
 add-past c = search needs
 
+flags-of-requires : tie.Need-flags-of-requires
+flags-of-requires c κs = search needs
+
 returns : tie.Need-returns
-unfolding insideDates flagged
-returns c = refl
+unfolding insideDates flagsOf
+returns c = rw (c .before .before .before .before .flags-of .ensures)
 
 pub inside-dates-spec : {M : Type 1} → statement M
-inside-dates-spec = tie.close (tie.spec cast-until cast-end add-past returns)
+inside-dates-spec = tie.close (tie.spec cast-until cast-end add-past flags-of-requires returns)

@@ -9,7 +9,7 @@ use Rattle.book.specs.declared.Book.{Book}
 use Rattle.book.specs.Blank.{noBook}
 use Rattle.model.specs.Book.{ruleBroken}
 use Rattle.model.specs.Image.{bookIn, headerBroken, readCode, readBook}
-use Rattle.model.specs.Proof.Header.{accepted-stages, accepted-book, refused-book}
+use Rattle.model.proofs.Image.Header.{accepted-stages, accepted-book, refused-book}
 use borrow.Author.Needs.{needs}
 use Rattle.image_read.proofs.read.Statement.{statement}
 use Rattle.image_read.proofs.read.Tie as tie

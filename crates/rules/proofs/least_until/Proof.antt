@@ -1,6 +1,6 @@
 -- `rules::least_until` meets its contract: in 64 bits no sum is cut, and its caps are the definition's.
 use Rattle.rules.specs.Rules.{flagsOf}
-use Rattle.model.specs.Events.{leastUntil}
+use Rattle.model.specs.Choice.{leastUntil}
 use borrow.Author.Needs.{needs}
 use Rattle.rules.proofs.least_until.Statement.{statement}
 use Rattle.rules.proofs.least_until.Tie as tie
@@ -17,8 +17,8 @@ cast-length c = search needs
 add-granted : tie.Need-add-granted
 add-granted c = search needs
 
-less-requires : tie.Need-less-requires
-less-requires c κs = search needs
+saturating-sub-requires : tie.Need-saturating-sub-requires
+saturating-sub-requires c κs = search needs
 
 cast-unused : tie.Need-cast-unused
 cast-unused c = search needs
@@ -55,7 +55,18 @@ capped-requires-3 c κs = search needs
 
 returns : tie.Need-returns
 unfolding leastUntil flagsOf
-returns c = rw (c .capped3 .ensures, c .before .capped2 .ensures, c .before .before .capped .ensures, c .before .before .before .before .before .pick32 .ensures, c .before .before .before .before .before .before .before .less .ensures, c .before .before .before .before .before .before .before .before .grant-length .ensures, c .before .before .before .before .before .before .before .before .before .flags-of .ensures)
+returns c = rw (
+  c .capped3 .ensures,
+  c .before .capped2 .ensures,
+  c .before .before .capped .ensures,
+  c .before .before .before .before
+      .before .pick32 .ensures,
+  c .before .before .before .before .before .before .before .saturating-sub .ensures,
+  c .before .before
+      .before .before .before .before .before .before .grant-length .ensures,
+  c .before .before .before .before .before .before
+      .before .before .before .flags-of .ensures,
+)
 
 pub least-until-spec : {M : Type 1} → statement M
 least-until-spec =
@@ -65,7 +76,7 @@ least-until-spec =
     grant-length-requires
     cast-length
     add-granted
-    less-requires
+    saturating-sub-requires
     cast-unused
     add-paid
     pick32-requires

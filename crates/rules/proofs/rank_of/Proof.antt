@@ -1,6 +1,6 @@
 -- `rules::rank_of` meets its contract: its four numbers are the definition's.
 use Rattle.rules.specs.Rules.{flagsOf}
-use Rattle.model.specs.Events.{rankOf, own}
+use Rattle.model.specs.Choice.{rankOf, own}
 use borrow.Author.Needs.{needs}
 use Rattle.rules.proofs.rank_of.Statement.{statement}
 use Rattle.rules.proofs.rank_of.Tie as tie
@@ -25,7 +25,14 @@ one-requires-3 c κs = search needs
 
 returns : tie.Need-returns
 unfolding rankOf flagsOf own
-returns c = rw (c .one3 .ensures, c .before .before .one2 .ensures, c .before .before .before .before .pick64 .ensures, c .before .before .before .before .before .one .ensures, c .before .before .before .before .before .before .before .before .flags-of .ensures)
+returns c = rw (
+  c .one3 .ensures,
+  c .before .before .one2 .ensures,
+  c .before .before .before .before .pick64 .ensures,
+  c .before
+      .before .before .before .before .one .ensures,
+  c .before .before .before .before .before .before .before .before .flags-of .ensures,
+)
 
 pub rank-of-spec : {M : Type 1} → statement M
 rank-of-spec =

@@ -1,5 +1,5 @@
 -- `rules::ranks_before` meets its contract: its comparisons are the definition's.
-use Rattle.model.specs.Events.{ranksBefore}
+use Rattle.model.specs.Choice.{ranksBefore}
 use mathlib.Core.Path.{refl}
 use Rattle.rules.proofs.ranks_before.Statement.{statement}
 use Rattle.rules.proofs.ranks_before.Tie as tie

@@ -1,5 +1,5 @@
 -- `rules::same_request` meets its contract: its tests are the definition's.
-use Rattle.model.specs.Events.{sameRequest}
+use Rattle.model.specs.Gate.{sameRequest}
 use borrow.Author.Needs.{needs}
 use Rattle.rules.proofs.same_request.Statement.{statement}
 use Rattle.rules.proofs.same_request.Tie as tie

@@ -3,7 +3,7 @@ use mathlib.Core.Path.{ap, _∙_}
 use Prim.Native.Nat.{_+_, _/_}
 use native.Mathlib.Omega.{arith}
 use lib.ListN.{length-set}
-use Rattle.laws.specs.Buffer.{lay}
+use Rattle.numbers.specs.Buffer.{lay}
 use Rattle.text.specs.Digits.{places-one, places-more, one-laid, two-digits, three-laid}
 use borrow.Author.Needs.{needs}
 use Rattle.text.proofs.put_byte.Statement.{statement}

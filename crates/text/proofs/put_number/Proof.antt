@@ -5,7 +5,7 @@ use native.Mathlib.Nat.{add-zero}
 use native.Mathlib.Omega.{arith}
 use lib.ListN.{length, take, drop, length-set}
 use borrow.Author.Needs.{needs}
-use Rattle.laws.specs.Buffer.{lay}
+use Rattle.numbers.specs.Buffer.{lay}
 use Rattle.model.specs.Run.{decimalIn, decimal}
 use Rattle.text.specs.Digits.{places-more, digits-start, digits-laid}
 use Rattle.text.proofs.put_number.Statement.{statement}
@@ -74,7 +74,8 @@ loop-again c =
     let a = c .before .before .before .before .before .args in
     let l = c .before .loop in
     let k : l .left - 1 + 1 ≡ l .left = omega arith in
-    let t = digits-laid (a .n) (a .out .now) (l .out) (a .at) (l .left - 1) (l .rest) (omega arith) (omega arith) (rw k (l .inv .2)) (rw k (l .inv .3)) in
+    let t = digits-laid (a .n) (a .out .now) (l .out) (a .at) (l .left - 1) (l .rest) (omega arith) (omega arith) (rw k (l .inv .2))
+    (rw k (l .inv .3)) in
     (omega arith, length-set (l .out) (a .at + (l .left - 1)) (48 + l .rest % 10) ∙ l .inv .1, t .0, t .1)
 
 add-result-2 : tie.Need-add-result-2 Inv-loop μ-loop

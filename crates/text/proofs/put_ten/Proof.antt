@@ -37,8 +37,19 @@ same-length c = search needs
 
 returns : tie.Need-returns
 returns c =
-    let a = c .before .before .before .before .before .before .before .before .before .before .before .before .before .before .before .before .before .before .before .before .before .args in
-    rw (c .before .before .put-two5 .ensures, c .before .before .before .before .before .before .put-two4 .ensures, c .before .before .before .before .before .before .before .before .before .before .put-two3 .ensures, c .before .before .before .before .before .before .before .before .before .before .before .before .before .before .put-two2 .ensures, c .before .before .before .before .before .before .before .before .before .before .before .before .before .before .before .before .before .before .put-two .ensures)
+    let a = c .before .before .before .before .before .before .before .before .before .before .before .before .before .before .before
+    .before .before .before .before .before .before .args in
+    rw (
+      c .before .before .put-two5 .ensures,
+      c .before .before .before .before .before .before .put-two4 .ensures,
+      c .before .before
+          .before .before .before .before .before .before .before .before .put-two3 .ensures,
+      c .before .before .before .before .before
+          .before .before .before .before .before .before .before .before .before .put-two2 .ensures,
+      c .before .before .before
+          .before .before .before .before .before .before .before .before .before .before .before .before .before .before .before
+          .put-two .ensures,
+    )
     (ten-laid (a .out .now) (a .at) (a .n) (omega arith) (omega arith) (omega arith))
 
 pub put-ten-spec : {M : Type 1} → statement M

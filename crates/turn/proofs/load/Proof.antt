@@ -6,7 +6,7 @@ use mathlib.Core.Path.{_≡_, sym, ap, _∙_}
 use mathlib.Core.List.{List}
 use lib.ListN.{length, take}
 use lib.Seq.{take-all}
-use Rattle.laws.specs.TableLaws.{below-or-not}
+use Rattle.numbers.proofs.TableLaws.{below-or-not}
 use Rattle.book.specs.Blank.{noBook}
 use Rattle.model.specs.Image.{readCode, readBook}
 use Rattle.turn.specs.Load.{cut-code, cut-book}
@@ -20,8 +20,8 @@ least-take n l =
     (λ h. let e : min n (length l) ≡ n = omega arith in rw e)
     (λ h. let e : min n (length l) ≡ length l = omega arith in take-all (min n (length l)) l (omega arith) ∙ sym (take-all n l h))
 
-lesser-requires : tie.Need-lesser-requires
-lesser-requires c κs = search needs
+min-size-requires : tie.Need-min-size-requires
+min-size-requires c κs = search needs
 
 read-first-requires : tie.Need-read-first-requires
 read-first-requires c κs = search needs
@@ -30,8 +30,8 @@ returns : tie.Need-returns
 returns c f begins =
     let a = c .before .before .before .args in
     let image = a .image .now in
-    let least : c .before .lesser .result ≡ min (a .n) (length image) = omega arith in
-    let there : take (c .before .lesser .result) image ≡ take (length image) f =
+    let least : c .before .min-size .result ≡ min (a .n) (length image) = omega arith in
+    let there : take (c .before .min-size .result) image ≡ take (length image) f =
     ap (λ (k : ℕ). take k image) least ∙ least-take (a .n) image ∙ sym begins in
     let large : 3980 ≤ length image = omega arith in (
       c .read-first .ensures .0 ∙ ap readCode there ∙ cut-code (length image) large f,
@@ -39,4 +39,4 @@ returns c f begins =
     )
 
 pub load-spec : {M : Type 1} → statement M
-load-spec = tie.close (tie.spec lesser-requires read-first-requires returns)
+load-spec = tie.close (tie.spec min-size-requires read-first-requires returns)

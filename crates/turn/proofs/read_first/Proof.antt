@@ -19,8 +19,11 @@ read-requires c κs = search needs
 
 returns : tie.Need-returns
 returns c =
-    let a = c .before .before .before .before .args in
-    (c .read .ensures .0, c .read .ensures .1 ∙ ap (λ (x : Book). readBook x (take (a .n) (a .image .now))) (c .before .before .blank-book .ensures))
+    let a = c .before .before .before .before .args in (
+      c .read .ensures .0,
+      c .read .ensures .1 ∙ ap (λ (x : Book). readBook x (take (a .n) (a .image .now)))
+          (c .before .before .blank-book .ensures),
+    )
 
 pub read-first-spec : {M : Type 1} → statement M
 read-first-spec =

@@ -9,11 +9,12 @@ use mathlib.Core.Bool.{Bool, true, false, cond}
 use mathlib.Core.List.{List, _++_}
 use lib.ListN.{length, take, drop}
 use lib.Seq.{length-take-le, take-take, take-add, drop-at}
-use Rattle.laws.specs.Tests.{on-test}
+use Rattle.numbers.proofs.Tests.{on-test}
 use Rattle.book.specs.declared.Book.{Book}
 use Rattle.model.specs.Run.{recordCount, runText, runBook}
-use Rattle.runner.specs.Block.{fits, blockBook, blockWritten, blockBuffer}
-use Rattle.turn.specs.Turn.{keptCount, answeredOf, keptOf, inside, bookAfter, textAfter, writtenAfter, outAfter, keptAfter, inputAfter}
+use Rattle.batch.specs.Block.{fits, blockBook, blockWritten, blockBuffer}
+use Rattle.turn.specs.Turn.{keptCount, answeredOf, keptOf, inside, bookAfter, textAfter, writtenAfter, outAfter, keptAfter}
+use Rattle.turn.specs.Turn.{inputAfter}
 use Rattle.turn.specs.Kept.{kept-less}
 use Rattle.turn.proofs.turn.Statement.{statement}
 use Rattle.turn.proofs.turn.Tie as tie
@@ -27,7 +28,8 @@ Left b input n ended out done book written kept inputs outs =
     × ((inputs ≡ inputAfter input n ended)
     × (outs ≡ outAfter b input n ended out)))))
 
-left-refused : (b : Book) (input : List ℕ) (n : ℕ) (ended : Bool) (out : List ℕ) → inside input n ≡ false → Left b input n ended out false b 0 0 input out
+left-refused : (b : Book) (input : List ℕ) (n : ℕ) (ended : Bool) (out : List ℕ) → inside input n ≡ false → Left b input n ended out
+    false b 0 0 input out
 unfolding bookAfter writtenAfter outAfter keptAfter inputAfter
 left-refused b input n ended out e = (sym e, (rw e, (rw e, (rw e, (rw e, rw e)))))
 
@@ -65,7 +67,8 @@ module _ (b : Book) (input : List ℕ) (n : ℕ) (ended : Bool) (out : List ℕ)
 
   fits-is : fits records (length out) ≡ true
   unfolding fits recordCount
-  fits-is = let t = there in let e = length-take-le (n - kept) input (omega arith) in le-leb (19 * recordCount records) (length out) (omega arith)
+  fits-is = let t = there in let e = length-take-le (n - kept) input (omega arith) in le-leb (19 * recordCount records) (length out)
+      (omega arith)
 
   text-is : textAfter b input n ended ≡ runText b records
   unfolding textAfter
@@ -90,7 +93,8 @@ within-requires c κs = search needs
 returns : tie.Need-returns
 returns c =
     let a = c .before .before .before .before .args in
-    left-refused (a .b) (a .input .now) (a .n) (a .ended) (a .out .now) (sym (c .before .within .ensures) ∙ not-true (c .before .within .result) (c .if1 .taken))
+    left-refused (a .b) (a .input .now) (a .n) (a .ended) (a .out .now)
+    (sym (c .before .within .ensures) ∙ not-true (c .before .within .result) (c .if1 .taken))
 
 pick-requires : tie.Need-pick-requires
 pick-requires c κs = search needs
@@ -105,7 +109,8 @@ answer-first-requires : tie.Need-answer-first-requires
 answer-first-requires c κs =
     let at-test = c .before .before .before .before in
     let a = at-test .before .before .before .before .args in
-    let there : a .n ≤ length (a .input .now) = leb-true (a .n) (length (a .input .now)) (sym (at-test .before .within .ensures) ∙ not-false (at-test .before .within .result) (at-test .if1 .left)) in
+    let there : a .n ≤ length (a .input .now) = leb-true (a .n) (length (a .input .now))
+    (sym (at-test .before .within .ensures) ∙ not-false (at-test .before .within .result) (at-test .if1 .left)) in
     omega arith
 
 move-front-requires : tie.Need-move-front-requires
@@ -113,8 +118,10 @@ move-front-requires c κs =
     let at-pick = c .before .before .before .before .before .before in
     let at-test = at-pick .before in
     let a = at-test .before .before .before .before .args in
-    let there : a .n ≤ length (a .input .now) = leb-true (a .n) (length (a .input .now)) (sym (at-test .before .within .ensures) ∙ not-false (at-test .before .within .result) (at-test .if1 .left)) in
-    on-test (a .ended) (λ q. let e = rw q at (at-pick .pick .ensures) in omega arith) (λ q. let e = rw q at (at-pick .pick .ensures) in omega arith)
+    let there : a .n ≤ length (a .input .now) = leb-true (a .n) (length (a .input .now))
+    (sym (at-test .before .within .ensures) ∙ not-false (at-test .before .within .result) (at-test .if1 .left)) in
+    on-test (a .ended) (λ q. let e = rw q at (at-pick .pick .ensures) in omega arith)
+    (λ q. let e = rw q at (at-pick .pick .ensures) in omega arith)
 
 returns-2 : tie.Need-returns-2
 returns-2 c =
@@ -125,8 +132,10 @@ returns-2 c =
     let block = at-block .answer-first in
     left-answered
     (a .b) (a .input .now) (a .n) (a .ended) (a .out .now) (at-pick .pick .result)
-    (sym (at-test .before .within .ensures) ∙ not-false (at-test .before .within .result) (at-test .if1 .left)) (at-pick .pick .ensures) (omega arith)
-    (block .result .book) (block .result .written) _ _ (block .ensures .0) (block .ensures .1 .0) (block .ensures .1 .1) (c .move-front .ensures)
+    (sym (at-test .before .within .ensures) ∙ not-false (at-test .before .within .result) (at-test .if1 .left)) (at-pick .pick .ensures)
+    (omega arith)
+    (block .result .book) (block .result .written) _ _ (block .ensures .0) (block .ensures .1 .0) (block .ensures .1 .1)
+    (c .move-front .ensures)
 
 pub turn-spec : {M : Type 1} → statement M
 turn-spec =

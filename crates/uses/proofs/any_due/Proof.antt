@@ -1,5 +1,5 @@
 -- `uses::any_due` meets its contract. The invariant: `w` tells whether a use of the first i players is due.
-use Rattle.model.specs.Events.{anyOf}
+use Rattle.model.specs.Choice.{anyOf}
 use Rattle.uses.specs.Due.{dueAt, anyDue, any-of-next}
 use borrow.Author.Needs.{needs}
 use mathlib.Core.Path.{_≡_, refl}

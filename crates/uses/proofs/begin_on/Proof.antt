@@ -22,7 +22,11 @@ kept-requires-2 c κs = search needs
 
 returns-2 : tie.Need-returns-2
 unfolding beginOn
-returns-2 c = rw (sym (c .before .before .before .grantable .ensures) ∙ not-false _ (c .before .before .if1 .left), lt-leb _ _ (c .before .if2 .taken)) (c .kept2 .ensures)
+returns-2 c = rw (
+  sym (c .before .before .before .grantable .ensures) ∙ not-false _ (c .before .before .if1 .left),
+  lt-leb _ _
+      (c .before .if2 .taken),
+) (c .kept2 .ensures)
 
 grant-until-requires : tie.Need-grant-until-requires
 grant-until-requires c κs = search needs
@@ -31,7 +35,8 @@ begun-meters-requires : tie.Need-begun-meters-requires
 begun-meters-requires c κs =
     let a = c .before .before .before .before .args in
     rw (c .grant-until .ensures)
-    (grant-room (a .t) (a .l) (a .m) (sym (c .before .before .before .grantable .ensures) ∙ not-false _ (c .before .before .if1 .left)) (search needs))
+    (grant-room (a .ask) (a .l) (a .m) (sym (c .before .before .before .grantable .ensures) ∙ not-false _
+    (c .before .before .if1 .left)) (search needs))
 
 momentary-requires : tie.Need-momentary-requires
 momentary-requires c κs = search needs
@@ -41,7 +46,16 @@ pick-open-requires c κs = search needs
 
 returns-3 : tie.Need-returns-3
 unfolding beginOn
-returns-3 c = rw (sym (c .before .before .before .before .before .before .grantable .ensures) ∙ not-false _ (c .before .before .before .before .before .if1 .left), le-leb _ _ (c .before .before .before .before .if2 .left), c .pick-open .ensures, c .before .momentary .ensures, c .before .before .begun-meters .ensures, c .before .before .before .grant-until .ensures)
+returns-3 c = rw (
+  sym (c .before .before .before .before .before .before .grantable .ensures) ∙ not-false _
+      (c .before .before .before .before .before .if1 .left),
+  le-leb _ _ (c .before .before .before .before .if2 .left),
+  c .pick-open
+      .ensures,
+  c .before .momentary .ensures,
+  c .before .before .begun-meters .ensures,
+  c .before .before .before .grant-until .ensures,
+)
 
 pub begin-on-spec : {M : Type 1} → statement M
 begin-on-spec =

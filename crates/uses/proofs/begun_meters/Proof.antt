@@ -1,6 +1,6 @@
 -- `uses::begun_meters` meets its contract: each sum fits by its `requires`.
 use native.Mathlib.Omega.{arith}
-use Rattle.model.specs.Events.{begun}
+use Rattle.model.specs.Meters.{begun}
 use Rattle.rules.specs.Rules.{flagsOf}
 use borrow.Author.Needs.{needs}
 use Rattle.uses.proofs.begun_meters.Statement.{statement}
@@ -17,34 +17,55 @@ when-requires c κs = search needs
 
 add-t9 : tie.Need-add-t9
 unfolding flagsOf
-add-t9 c = rw (c .before .when .ensures, c .before .before .before .before .flags-of .ensures) (omega (arith, c .before .before .before .before .before .pre .count))
+add-t9 c = rw (c .before .when .ensures, c .before .before .before .before .flags-of .ensures)
+    (omega (arith, c .before .before .before .before .before .pre .count))
 
 when-requires-2 : tie.Need-when-requires-2
 when-requires-2 c κs = search needs
 
 add-t11 : tie.Need-add-t11
 unfolding flagsOf
-add-t11 c = rw (c .before .when2 .ensures, c .before .before .before .before .before .before .flags-of .ensures) (omega (arith, c .before .before .before .before .before .before .before .pre .timed))
+add-t11 c = rw (c .before .when2 .ensures, c .before .before .before .before .before .before .flags-of .ensures)
+    (omega (arith, c .before .before .before .before .before .before .before .pre .timed))
 
 when-requires-3 : tie.Need-when-requires-3
 when-requires-3 c κs = search needs
 
-less-requires : tie.Need-less-requires
-less-requires c κs = search needs
+saturating-sub-requires : tie.Need-saturating-sub-requires
+saturating-sub-requires c κs = search needs
 
 when-requires-4 : tie.Need-when-requires-4
 when-requires-4 c κs = search needs
 
 add-t15 : tie.Need-add-t15
 unfolding flagsOf
-add-t15 c = rw (c .before .when4 .ensures, c .before .before .less .ensures, c .before .before .before .before .before .before .before .before .before .before .flags-of .ensures) (omega (arith, c .before .before .before .before .before .before .before .before .before .before .before .pre .seconds))
+add-t15 c = rw (
+  c .before .when4 .ensures,
+  c .before .before .saturating-sub .ensures,
+  c .before .before .before .before .before .before
+      .before .before .before .before .flags-of .ensures,
+) (omega
+    (arith, c .before .before .before .before .before .before .before .before .before .before .before .pre .seconds))
 
 one-requires : tie.Need-one-requires
 one-requires c κs = search needs
 
 returns : tie.Need-returns
 unfolding begun flagsOf
-returns c = rw (c .one .ensures, c .before .before .when4 .ensures, c .before .before .before .less .ensures, c .before .before .before .before .when3 .ensures, c .before .before .before .before .before .before .when2 .ensures, c .before .before .before .before .before .before .before .before .when .ensures, c .before .before .before .before .before .before .before .before .before .pick32 .ensures, c .before .before .before .before .before .before .before .before .before .before .before .flags-of .ensures)
+returns c = rw (
+  c .one .ensures,
+  c .before .before .when4 .ensures,
+  c .before .before .before .saturating-sub .ensures,
+  c .before
+      .before .before .before .when3 .ensures,
+  c .before .before .before .before .before .before .when2 .ensures,
+  c .before .before
+      .before .before .before .before .before .before .when .ensures,
+  c .before .before .before .before .before .before .before
+      .before .before .pick32 .ensures,
+  c .before .before .before .before .before .before .before .before .before .before .before
+      .flags-of .ensures,
+)
 
 pub begun-meters-spec : {M : Type 1} → statement M
 begun-meters-spec =
@@ -57,7 +78,7 @@ begun-meters-spec =
     when-requires-2
     add-t11
     when-requires-3
-    less-requires
+    saturating-sub-requires
     when-requires-4
     add-t15
     one-requires

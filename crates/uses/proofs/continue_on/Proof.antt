@@ -1,6 +1,6 @@
 -- `uses::continue_on` meets its contract: a return for each of 14 and 15, and one for more time.
-use Rattle.model.specs.Events.{isOn}
-use Rattle.model.specs.Events.{moreUntil}
+use Rattle.model.specs.Meters.{isOn}
+use Rattle.model.specs.Choice.{moreUntil}
 use Rattle.uses.specs.Room.{more-room}
 use Rattle.uses.specs.Uses.{continueOn}
 use borrow.Author.Tests.{le-leb, lt-leb, not-true, not-false}
@@ -20,7 +20,11 @@ kept-requires-2 c κs = search needs
 
 returns-2 : tie.Need-returns-2
 unfolding continueOn
-returns-2 c = rw (not-false (isOn (c .before .before .before .before .args .o)) (c .before .before .if1 .left), lt-leb _ _ (c .before .if2 .taken)) (c .kept2 .ensures)
+returns-2 c = rw (
+  not-false (isOn (c .before .before .before .before .args .o)) (c .before .before .if1 .left),
+  lt-leb _ _
+      (c .before .if2 .taken),
+) (c .kept2 .ensures)
 
 more-until-requires : tie.Need-more-until-requires
 more-until-requires c κs = search needs
@@ -30,7 +34,14 @@ kept-requires-3 c κs = search needs
 
 returns-3 : tie.Need-returns-3
 unfolding continueOn
-returns-3 c = rw (not-false (isOn (c .before .before .before .before .before .before .before .args .o)) (c .before .before .before .before .before .if1 .left), le-leb _ _ (c .before .before .before .before .if2 .left), ← (c .before .before .before .more-until .ensures), le-leb _ _ (c .before .if3 .taken)) (c .kept3 .ensures)
+returns-3 c = rw (
+  not-false (isOn (c .before .before .before .before .before .before .before .args .o))
+      (c .before .before .before .before .before .if1 .left),
+  le-leb _ _ (c .before .before .before .before .if2 .left),
+  ←
+      (c .before .before .before .more-until .ensures),
+  le-leb _ _ (c .before .if3 .taken),
+) (c .kept3 .ensures)
 
 continued-meters-requires : tie.Need-continued-meters-requires
 unfolding moreUntil
@@ -40,7 +51,15 @@ continued-meters-requires c κs =
 
 returns-4 : tie.Need-returns-4
 unfolding continueOn
-returns-4 c = rw (not-false (isOn (c .before .before .before .before .before .before .before .args .o)) (c .before .before .before .before .before .if1 .left), le-leb _ _ (c .before .before .before .before .if2 .left), ← (c .before .before .before .more-until .ensures), lt-leb _ _ (c .before .if3 .left), c .continued-meters .ensures)
+returns-4 c = rw (
+  not-false (isOn (c .before .before .before .before .before .before .before .args .o))
+      (c .before .before .before .before .before .if1 .left),
+  le-leb _ _ (c .before .before .before .before .if2 .left),
+  ←
+      (c .before .before .before .more-until .ensures),
+  lt-leb _ _ (c .before .if3 .left),
+  c .continued-meters .ensures,
+)
 
 pub continue-on-spec : {M : Type 1} → statement M
 continue-on-spec =

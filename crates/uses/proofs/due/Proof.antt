@@ -1,5 +1,5 @@
 -- `uses::due` meets its contract: its test is the definition's.
-use Rattle.model.specs.Events.{expired}
+use Rattle.model.specs.Meters.{expired}
 use mathlib.Core.Path.{refl}
 use Rattle.uses.proofs.due.Statement.{statement}
 use Rattle.uses.proofs.due.Tie as tie

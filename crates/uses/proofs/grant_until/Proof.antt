@@ -1,6 +1,6 @@
 -- `uses::grant_until` meets its contract: at a time that an event may have, until fits 32 bits.
 use native.Mathlib.Omega.{arith}
-use Rattle.model.specs.Events.{grantUntil}
+use Rattle.model.specs.Choice.{grantUntil}
 use Rattle.uses.specs.Room.{more-fits}
 use borrow.Author.Needs.{needs}
 use Rattle.uses.proofs.grant_until.Statement.{statement}

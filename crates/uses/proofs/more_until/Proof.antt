@@ -1,6 +1,6 @@
 -- `uses::more_until` meets its contract: at a time that an event may have, until fits 32 bits.
 use native.Mathlib.Omega.{arith}
-use Rattle.model.specs.Events.{moreUntil}
+use Rattle.model.specs.Choice.{moreUntil}
 use Rattle.uses.specs.Room.{more-fits}
 use borrow.Author.Needs.{needs}
 use Rattle.uses.proofs.more_until.Statement.{statement}

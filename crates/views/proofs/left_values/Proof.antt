@@ -11,11 +11,8 @@ flags-of-requires c κs = search needs
 grantable-requires : tie.Need-grantable-requires
 grantable-requires c κs = search needs
 
-one-requires : tie.Need-one-requires
-one-requires c κs = search needs
-
-cast-t8 : tie.Need-cast-t8
-cast-t8 c = search needs
+number-requires : tie.Need-number-requires
+number-requires c κs = search needs
 
 left-of-requires : tie.Need-left-of-requires
 left-of-requires c κs = search needs
@@ -33,7 +30,7 @@ returns c =
       c .left-of3 .ensures,
       c .before .left-of2 .ensures,
       c .before .before .left-of .ensures,
-      c .before .before .before .one .ensures,
+      c .before .before .before .number .ensures,
       c .before .before .before .before .grantable .ensures,
       c .before .before .before .before .before .flags-of .ensures,
     )
@@ -44,8 +41,7 @@ left-values-spec =
     (tie.spec
     flags-of-requires
     grantable-requires
-    one-requires
-    cast-t8
+    number-requires
     left-of-requires
     left-of-requires-2
     left-of-requires-3

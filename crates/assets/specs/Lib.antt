@@ -1,2 +1,0 @@
--- What a begin finds in a table of assets.
-pub mod Reach

@@ -1,0 +1,1015 @@
+-- `batch::answer_block` meets its contract. The invariant: the first i records are answered, no open use ends before next, and the rows
+-- and ends are those of the entries and players.
+use Prim.Native.Nat.{ℕ, _+_, _*_, _-_, _/_, _%_, _<_, _≤_, min}
+use mathlib.Core.Path.{_≡_, refl, sym, ap, ap₂, subst, _∙_}
+use mathlib.Core.Logic.{⊎-elim}
+use mathlib.Core.Bool.{true, false}
+use mathlib.Core.List.{List, [], map}
+use native.Mathlib.Omega.{arith}
+use native.Mathlib.Nat.{min-le-right}
+use borrow.Author.Needs.{needs}
+use borrow.Author.Tests.{le-leb, lt-leb}
+use lib.ListN.{length, getD, set, take, length-set, List·getD-eq-default}
+use lib.Seq.{set-out}
+use lib.Dec.{leb, ltb}
+use Rattle.numbers.proofs.Loops.{length-mapped}
+use Rattle.book.specs.declared.Answer.{Answer}
+use Rattle.book.specs.declared.Last.{Last}
+use Rattle.book.specs.declared.Book.{Book}
+use Rattle.book.specs.declared.Entry.{Entry}
+use Rattle.book.specs.declared.Event.{Event}
+use Rattle.book.specs.declared.Kind.{Kind}
+use Rattle.book.specs.declared.Request.{Request}
+use Rattle.book.specs.declared.Request.the-variants.{Begin}
+use Rattle.book.specs.declared.Decoded.the-variants.{Valid}
+use Rattle.book.specs.declared.Player.{Player}
+use Rattle.book.specs.declared.Meters.{Meters}
+use Rattle.book.specs.declared.Open.{Open}
+use Rattle.book.specs.Blank.{noEntry}
+use Rattle.book.specs.Changed.{changed}
+use Rattle.model.specs.Book.{limitsAt, metersAt, playerAt, latestTime}
+use Rattle.model.specs.Choice.{asks, noEnd, chooseOf, anyOf}
+use Rattle.model.specs.Record.{decoded}
+use Rattle.model.specs.Step.{stepRecord, openAt}
+use Rattle.model.specs.Meters.{isOn, released, shut, expired}
+use Rattle.model.specs.Run.{recordCount, recordAt}
+use Rattle.rules.specs.Rules.{wireOf}
+use Rattle.choice.specs.declared.Best.{Best}
+use Rattle.choice.specs.declared.Row.{Row}
+use Rattle.choice.specs.Codes.{beginCode}
+use Rattle.choice.specs.Best.{bestAfter, choiceAfter, considered, best-turn}
+use Rattle.choice.specs.Row.{rowOf, rowConsidered, row-considered}
+use Rattle.index.specs.Ends.{endOfPlayer, never}
+use Rattle.index.specs.Rows.{rowOfEntry, noRow, row-at}
+use Rattle.index.specs.Places.{reachAt}
+use Rattle.text.specs.Lines.{lineEnd, lineBuffer}
+use Rattle.uses.specs.declared.Effect.{Effect}
+use Rattle.uses.specs.Uses.{placed, stored}
+use Rattle.step.specs.Settle.{settledBook, settledTo, settle-none, settle-turn, settled-length, settleOne, with}
+use Rattle.batch.specs.Block.{fits, blockBook, blockWritten, blockBuffer}
+use Rattle.batch.specs.Progress.{Progress, progress-none, progress-length, progress-next, progress-all, record-part}
+use Rattle.batch.specs.NextExpiry.{NextExpiry, leastEnd, expiry-start, Settled, settled-by, settled-still, expiry-store, expiry-keep}
+use Rattle.batch.specs.NextExpiry.{end-due, end-on, reached, kept-end, ends-next, ends-same, shut-end}
+use Rattle.batch.specs.StepCases.{looked, looked-most, actOn, closing, doneOn, Admitted, admitted, Planned, planned-continue}
+use Rattle.batch.specs.StepCases.{planned-stop, planned-begin, usable-is, parent-is, case-invalid, case-refused, case-resent}
+use Rattle.batch.specs.StepCases.{case-taken, released-due, released-far, released-still, shut-not, rows-next}
+use Rattle.batch.proofs.answer_block.Statement.{statement}
+use Rattle.batch.proofs.answer_block.Tie as tie
+
+-- the rows that stand beside a book
+abbrev rowsFor : Book → List Row
+rowsFor b = map rowOfEntry (b .entries)
+
+-- and the ends
+abbrev endsFor : Book → List ℕ
+endsFor b = map endOfPlayer (b .players)
+
+abbrev Inv-loop2 : tie.InvT-loop2
+Inv-loop2 records out size count book₀ places parents rows₀ ends₀ next₀ at i from to event request j t p₀ book rows ends next p =
+    (p ≤ 16) × (book ≡ settledTo t p book₀) × (next ≡ leastEnd t (book₀ .players) p) × (rows ≡ rowsFor book) × (ends ≡ endsFor book) ×
+    (length (book .players) ≡ 16)
+
+abbrev μ-loop2 : tie.MeasureT-loop2
+μ-loop2 records out size count book₀ places parents rows₀ ends₀ next₀ at i from to event request j t p₀ book rows ends next p = 16 - p
+
+abbrev Inv-loop3 : tie.InvT-loop3
+Inv-loop3 records out size count book places parents rows ends next at i from to event request j t o ask k code asset kind reach n best₀
+    e₀ best e = (e ≤ n) × (n ≤ 64) × (best ≡ bestAfter (book .entries) asset (reach .parent) kind ask e)
+
+abbrev μ-loop3 : tie.MeasureT-loop3
+μ-loop3 records out size count book places parents rows ends next at i from to event request j t o ask k code asset kind reach n best₀
+    e₀ best e = n - e
+
+abbrev Inv-loop : tie.InvT-loop
+Inv-loop records out₀ size count book₀ places parents rows₀ ends₀ next₀ at₀ i₀ out book rows ends next at i = (i ≤ count) ×
+    (Progress book₀ records out₀ i book out at) × (NextExpiry next (book .players)) × (length (book .entries) ≡ 64) ×
+    (length (book .players) ≡ 16) × (rows ≡ rowsFor book) × (book .assets ≡ book₀ .assets) × (book .assetcount ≡ book₀ .assetcount) ×
+    (ends ≡ endsFor book)
+
+abbrev μ-loop : tie.MeasureT-loop
+μ-loop records out₀ size count book₀ places parents rows₀ ends₀ next₀ at₀ i₀ out book rows ends next at i = count - i
+
+-- ## Places on the way of a record, each with the way back to the one before it
+
+abbrev Entered : Type 0
+Entered = tie.Start Inv-loop2 μ-loop2 Inv-loop3 μ-loop3 Inv-loop μ-loop
+
+abbrev Turn : Type 0
+Turn = tie.In-loop Inv-loop2 μ-loop2 Inv-loop3 μ-loop3 Inv-loop μ-loop
+
+-- the record is decoded
+abbrev Read : Type 0
+Read = tie.After-decode Inv-loop2 μ-loop2 Inv-loop3 μ-loop3 Inv-loop μ-loop
+
+-- it holds an event, and the gate has judged it
+abbrev Judged : Type 0
+Judged = tie.After-gate-of Inv-loop2 μ-loop2 Inv-loop3 μ-loop3 Inv-loop μ-loop
+
+-- the event is taken
+abbrev Taken : Type 0
+Taken = tie.After-enum-told2 Inv-loop2 μ-loop2 Inv-loop3 μ-loop3 Inv-loop μ-loop
+
+-- every use that is due has ended
+abbrev AllSettled : Type 0
+AllSettled = tie.Joined2 Inv-loop2 μ-loop2 Inv-loop3 μ-loop3 Inv-loop μ-loop
+
+-- the entry and the code are known
+abbrev Chosen : Type 0
+Chosen = tie.At-match3-came Inv-loop2 μ-loop2 Inv-loop3 μ-loop3 Inv-loop μ-loop
+
+abbrev entered : Turn → Entered
+entered c = c .before .before .before .before .before .before .before .before .before .before .before .before .before
+
+abbrev turn : Read → Turn
+turn c = c .before .before .before
+
+abbrev read : Judged → Read
+read c = c .before .before .before .before .before .before .before
+
+abbrev judged : Taken → Judged
+judged c = c .before .before
+
+abbrev taken : AllSettled → Taken
+taken c = c .before
+
+abbrev all-settled : Chosen → AllSettled
+all-settled c = c .before .before .before .before .before .before
+
+-- ## What is known there
+
+entries-64 : (c : Entered) → length (c .args .b .entries) ≡ 64
+entries-64 c = search length-mapped
+
+players-16 : (c : Entered) → length (c .args .b .players) ≡ 16
+players-16 c = search length-mapped
+
+-- in a turn there is room for one line more
+in-turn : (c : Turn) → (c .before .loop .i + 1 ≤ (length (entered c .args .records .now) + 12) / 13) ×
+    (19 * (c .before .loop .i + 1) ≤ length (entered c .args .out .now))
+in-turn c = (omega arith, omega arith)
+
+-- the book before the record, and the record
+abbrev book-at : Turn → Book
+book-at c = c .before .loop .book
+
+abbrev record-at : Turn → List ℕ
+record-at c = recordAt (entered c .args .records .now) (c .before .loop .i)
+
+is-decoded : (c : Read) → c .decode .result ≡ decoded (record-at (turn c))
+is-decoded c =
+    let i = turn c .before .loop .i in
+    c .decode .ensures ∙ ap decoded (record-part (entered (turn c) .args .records .now) i (c .before .before .min-size .result - 13 * i)
+    (omega arith))
+
+abbrev event-at : Judged → Event
+event-at c = c .before .before .before .before .before .event .given .0 .0
+
+is-valid : (c : Judged) → decoded (record-at (turn (read c))) ≡ Valid (event-at c)
+is-valid c = sym (is-decoded (read c)) ∙ c .before .before .before .before .before .event .given .1
+
+is-admitted : (c : Taken) → Admitted (book-at (turn (read (judged c)))) (record-at (turn (read (judged c)))) (event-at (judged c))
+is-admitted c =
+    let j = judged c in
+    admitted (book-at (turn (read j))) (record-at (turn (read j))) (event-at j) (is-valid j) (j .gate-of .result) (j .gate-of .ensures)
+    (c .enum-told2 .given .1)
+
+is-player : (c : Taken) → event-at (judged c) .player % 16 ≡ event-at (judged c) .player
+is-player c = let h = is-admitted c .few-players in omega arith
+
+after-settle : (c : AllSettled) → (Settled (event-at (judged (taken c)) .time) (book-at (turn (read (judged (taken c))))) (c .if2 .book)
+    (c .if2 .next)) × (c .if2 .rows ≡ rowsFor (c .if2 .book)) × (c .if2 .ends ≡ endsFor (c .if2 .book))
+after-settle c =
+    let l = turn (read (judged (taken c))) .before .loop in
+    let t = event-at (judged (taken c)) .time in
+    ⊎-elim
+    (λ w. (
+      settled-by t (l .book) (c .if2 .book) (l .inv .3) (l .inv .4) (c .if2 .next) (w .1 .p) (w .1 .inv .0) (w .2 .left)
+          (w .3 ∙ w .1 .inv .1) (w .6 ∙ w .1 .inv .2),
+      w .4 ∙ w .1 .inv .3 ∙ ap rowsFor (sym (w .3)),
+      w .5 ∙ w .1 .inv .4 ∙ ap endsFor (sym (w .3)),
+    ))
+    (λ w. (
+      settled-still t (l .book) (c .if2 .book) (l .inv .3) (l .inv .4) (l .next) (c .if2 .next) (l .inv .2) (w .0 .left) (w .1) (w .4),
+      w .2 ∙ l .inv .5 ∙ ap rowsFor (sym (w .1)),
+      w .3 ∙ l .inv .8 ∙ ap endsFor (sym (w .1)),
+    ))
+    (c .if2 .came)
+
+-- settling leaves the assets
+assets-kept : (c : AllSettled) → (c .if2 .book .assets ≡ entered (turn (read (judged (taken c)))) .args .b .assets) ×
+    (c .if2 .book .assetcount ≡ entered (turn (read (judged (taken c)))) .args .b .assetcount)
+unfolding settledBook
+assets-kept c =
+    let z = after-settle c .0 .is-settled in
+    let l = turn (read (judged (taken c))) .before .loop in
+    (ap (λ (m : Book). m .assets) z ∙ l .inv .6, ap (λ (m : Book). m .assetcount) z ∙ l .inv .7)
+
+-- the match leaves the request
+request-kept : (c : Chosen) → c .match3 .request ≡ event-at (judged (taken (all-settled c))) .request
+request-kept c =
+    ⊎-elim (λ w. w .14 ∙ sym (w .1 .given .1)) (λ v. ⊎-elim (λ w. w .2) (λ w. w .2) v) (c .match3 .came)
+
+-- the use that the asking player has open
+abbrev open-at : Chosen → Open
+open-at c = openAt (all-settled c .if2 .book .players) (event-at (judged (taken (all-settled c))) .player % 16)
+
+planned : (c : Chosen) → Planned (all-settled c .if2 .book) (event-at (judged (taken (all-settled c)))) (open-at c) (c .match3 .k)
+    (c .match3 .code)
+planned c =
+    let s = all-settled c in
+    let n = s .if2 .book in
+    let e = event-at (judged (taken s)) in
+    let came = is-admitted (taken s) in
+    let kept = assets-kept s in
+    let start = entered (turn (read (judged (taken s)))) in
+    let o = open-at c in
+    let ho : o ≡ openAt (n .players) (e .player) = ap (openAt (n .players)) (is-player (taken s)) in
+    let ht : e .time ≤ latestTime = came .early in
+    ⊎-elim
+    (λ w.
+    let sort = w .1 .given .0 .0 in
+    let asset = w .1 .given .0 .1 .0 in
+    let kind = w .3 .result in
+    let r = w .6 .result in
+    let tables = c .before .before .before .before .before .before .before .before .before .before .before .before .before .before
+    .before .before .before .before .before .before .before .before .before .before .before .fill-places .ensures in
+    let hr = w .6 .ensures ∙ ap₂ (λ (x y : List ℕ). reachAt x y asset) (tables .0) (tables .1) in
+    let end : w .10 .e ≡ w .9 .result = omega (arith, w .10 .inv .0, w .11 .left) in
+    planned-begin n e o sort asset kind (c .match3 .k) (c .match3 .code) (w .9 .result) r (w .10 .best)
+    ho (w .1 .given .1) (w .3 .ensures)
+    (usable-is n (start .args .b .assets) (start .args .b .assetcount) asset r (kept .0) (kept .1) (omega arith) hr)
+    (parent-is n (start .args .b .assets) (start .args .b .assetcount) asset r (kept .0) (kept .1) (omega arith) hr)
+    (w .9 .ensures ∙ ap (looked (isOn o) (r .usable)) (w .8 .ensures))
+    (w .10 .inv .2 ∙ ap (bestAfter (n .entries) asset (r .parent) kind (asks e)) end)
+    ht (w .15) (w .16 ∙ w .13 .ensures ∙ ap (λ (k : ℕ). beginCode (isOn o) (r .usable) (w .10 .best .suits) (ltb k 64)) (sym (w .15))))
+    (λ v.
+    let code = c .before .further-code .ensures in
+    ⊎-elim
+    (λ w. planned-continue n e o ho (c .match3 .k) (c .match3 .code) (w .3) (w .4 ∙ code) ht (w .1 .given .1))
+    (λ w. planned-stop n e o ho (c .match3 .k) (c .match3 .code) (w .3) (w .4 ∙ code) (w .1 .given .1))
+    v)
+    (c .match3 .came)
+
+-- the operation is done, or refused
+abbrev Acted : Type 0
+Acted = tie.Joined5 Inv-loop2 μ-loop2 Inv-loop3 μ-loop3 Inv-loop μ-loop
+
+abbrev chosen : Acted → Chosen
+chosen c = c .before .before
+
+-- the settled book at the event's time, with those entries
+abbrev timed : Acted → List Entry → Book
+timed c es =
+    let n = all-settled (chosen c) .if2 .book in
+    changed n (event-at (judged (taken (all-settled (chosen c)))) .time) es (n .players)
+
+-- what the operation leaves: the entries with their rows, and with the answer and the use what the step does
+abbrev Left : Acted → Book → List Row → Answer → Open → Type 0
+Left c book rows answer current =
+    (book ≡ timed c (book .entries)) × (rows ≡ rowsFor book)
+    × (record { answer = answer; entries = book .entries; current = current }
+    ≡ doneOn (all-settled (chosen c) .if2 .book) (event-at (judged (taken (all-settled (chosen c))))))
+    × (length (book .entries) ≡ 64)
+
+leaves :
+    (c : Acted) (es : List Entry) (a : Answer) (o : Open) →
+    c .if5 .book ≡ timed c es →
+    c .if5 .rows ≡ map rowOfEntry es →
+    c .if5 .answer ≡ a →
+    c .if5 .current ≡ o →
+    record { answer = a; entries = es; current = o }
+    ≡ doneOn (all-settled (chosen c) .if2 .book) (event-at (judged (taken (all-settled (chosen c))))) →
+    length es ≡ 64 →
+    Left c (c .if5 .book) (c .if5 .rows) (c .if5 .answer) (c .if5 .current)
+leaves c es a o hb hr ha ho hd hl = (
+  hb ∙ ap (λ (m : Book). timed c (m .entries)) (sym hb),
+  hr ∙ ap rowsFor (sym hb),
+  ap₂ (λ (x : Answer) (m : Book). record { answer = x; entries = m .entries; current = c .if5 .current }) ha hb
+      ∙ ap (λ (x : Open). record { answer = a; entries = es; current = x }) ho
+      ∙ hd,
+  ap (λ (m : Book). length (m .entries)) hb ∙ hl,
+)
+
+left-by : (c : Acted) → Left c (c .if5 .book) (c .if5 .rows) (c .if5 .answer) (c .if5 .current)
+unfolding placed stored
+left-by c =
+    let d = chosen c in
+    let s = all-settled d in
+    let e = event-at (judged (taken s)) in
+    let es = s .if2 .book .entries in
+    let o = open-at d in
+    let k = d .match3 .k in
+    let z = after-settle s in
+    let acts : Request → Entry → Effect = λ y x. actOn y (k % 256) (asks e) (x .limits) (x .meters) o in
+    ⊎-elim
+    (λ w.
+    let x = w .2 .x in
+    let is-x : x ≡ getD es k noEntry =
+    ⊎-elim (λ v. v .3)
+    (λ v. v .1 ∙ w .1 .ensures ∙ sym (List·getD-eq-default es noEntry (omega (arith, v .0 .left, z .0 .entries))))
+    (w .2 .came) in
+    let part = w .6 .part in
+    let is-part : part ≡ acts (d .match3 .request) x =
+    ⊎-elim (λ v. v .4 ∙ v .3 .ensures ∙ ap (λ (y : Request). acts y x) (sym (v .1 .given .1)))
+    (λ u. ⊎-elim (λ v. v .3 ∙ v .2 .ensures ∙ ap (λ (y : Request). acts y x) (sym (v .1 .given .1)))
+    (λ v. v .3 ∙ v .2 .ensures ∙ ap (λ (y : Request). acts y x) (sym (v .1 .given .1))) u)
+    (w .6 .came) in
+    let hd = planned d .acts (w .0 .taken) part (is-part ∙ ap₂ acts (request-kept d) is-x) in
+    let es′ = set es k (record { limits = limitsAt es k; meters = part .meters }) in
+    let done : (w .7 .book ≡ timed c es′) × (w .7 .rows ≡ map rowOfEntry es′) =
+    ⊎-elim
+    (λ v.
+    let y : Entry = record { limits = x .limits; meters = part .meters } in
+    let same : set es k y ≡ es′ = ap (λ (u : Entry). set es k (record { limits = u .limits; meters = part .meters })) is-x in (
+      v .4 ∙ ap (timed c) same,
+      v .5 ∙ rows-next es (s .if2 .rows) k y (v .3 .result) (z .1) (v .3 .ensures) ∙ ap (map rowOfEntry) same,
+    ))
+    (λ v.
+    let same : es ≡ es′ = sym (set-out es k _ (omega (arith, v .0 .left, z .0 .entries))) in (
+      v .1 ∙ ap (timed c) same,
+      v .2 ∙ z .1 ∙ ap (map rowOfEntry) same,
+    ))
+    (w .7 .came) in
+    leaves c es′ (part .answer) (part .current) (w .10 ∙ done .0) (w .11 ∙ done .1) (w .12) (w .13) hd (length-set es k _ ∙ z .0 .entries))
+    (λ w. leaves c es (c .before .refusal3 .result) o (w .1) (w .2 ∙ z .1) (w .3) (w .4)
+    (ap (λ (x : Answer). record { answer = x; entries = es; current = o }) (c .before .refusal3 .ensures) ∙ planned d .refuses (w .0 .left))
+    (z .0 .entries))
+    (c .if5 .came)
+
+-- a turn that leaves the book: one line more, and all that stands beside the book stays
+kept-turn :
+    (c : Turn) (a : Answer) (out : List ℕ) (at : ℕ) →
+    stepRecord (book-at c) (record-at c) ≡ record { answer = a; book = book-at c } →
+    (at ≡ lineEnd a (c .before .loop .at) (length (c .before .loop .out))) ×
+    (out ≡ lineBuffer a (c .before .loop .at) (c .before .loop .out)) × (at ≤ c .before .loop .at + 19) →
+    Inv-loop (entered c .args .records .now) (entered c .args .out .now) (length (entered c .args .records .now))
+    ((length (entered c .args .records .now) + 12) / 13) (entered c .args .b) [] [] [] [] 0 0 0 out (book-at c)
+    (c .before .loop .rows) (c .before .loop .ends) (c .before .loop .next) at (c .before .loop .i + 1)
+kept-turn c a out at e p =
+    let l = c .before .loop in
+    let t = in-turn c in
+    let g = entered c .args in (
+      t .0,
+      progress-next (g .b) (g .records .now) (g .out .now) (l .i) (l .book) (l .out) (l .at) (l .inv .1) (t .1) a (l .book) out at e p,
+      l .inv .2,
+      l .inv .3,
+      l .inv .4,
+      l .inv .5,
+      l .inv .6,
+      l .inv .7,
+      l .inv .8,
+    )
+
+add-count : tie.Need-add-count Inv-loop2 μ-loop2 Inv-loop3 μ-loop3 Inv-loop μ-loop
+add-count c = omega arith
+
+returns : tie.Need-returns Inv-loop2 μ-loop2 Inv-loop3 μ-loop3 Inv-loop μ-loop
+unfolding fits blockBook blockWritten blockBuffer recordCount
+returns c =
+    let a = c .before .before .before .args in
+    let h : length (a .out .now) < 19 * recordCount (a .records .now) = omega arith in
+    rw (lt-leb (19 * recordCount (a .records .now)) (length (a .out .now)) h) (refl, refl, refl)
+
+fill-places-requires :
+    tie.Need-fill-places-requires Inv-loop2 μ-loop2 Inv-loop3 μ-loop3 Inv-loop μ-loop
+fill-places-requires c κs = tt
+
+rows-of-requires : tie.Need-rows-of-requires Inv-loop2 μ-loop2 Inv-loop3 μ-loop3 Inv-loop μ-loop
+rows-of-requires c κs = tt
+
+ends-of-requires : tie.Need-ends-of-requires Inv-loop2 μ-loop2 Inv-loop3 μ-loop3 Inv-loop μ-loop
+ends-of-requires c κs = tt
+
+loop-holds : tie.Need-loop-holds Inv-loop2 μ-loop2 Inv-loop3 μ-loop3 Inv-loop μ-loop
+loop-holds c =
+    let start = c .before .before .before .before .before .before .before .before .before .before .before in
+    let a = start .args in (
+      omega arith,
+      progress-none (a .b) (a .records .now) (a .out .now),
+      expiry-start (a .b .players),
+      entries-64 start,
+      players-16 start,
+      c .before .before .rows-of .ensures,
+      refl,
+      refl,
+      c .ends-of .ensures,
+    )
+
+mul-from : tie.Need-mul-from Inv-loop2 μ-loop2 Inv-loop3 μ-loop3 Inv-loop μ-loop
+mul-from c = omega arith
+
+add-min-size : tie.Need-add-min-size Inv-loop2 μ-loop2 Inv-loop3 μ-loop3 Inv-loop μ-loop
+add-min-size c = omega arith
+
+min-size-requires : tie.Need-min-size-requires Inv-loop2 μ-loop2 Inv-loop3 μ-loop3 Inv-loop μ-loop
+min-size-requires c κs = tt
+
+add-i : tie.Need-add-i Inv-loop2 μ-loop2 Inv-loop3 μ-loop3 Inv-loop μ-loop
+add-i c = omega arith
+
+sub-decode : tie.Need-sub-decode Inv-loop2 μ-loop2 Inv-loop3 μ-loop3 Inv-loop μ-loop
+sub-decode c = search needs
+
+part-decode-start : tie.Need-part-decode-start Inv-loop2 μ-loop2 Inv-loop3 μ-loop3 Inv-loop μ-loop
+part-decode-start c = search needs
+
+part-decode-end : tie.Need-part-decode-end Inv-loop2 μ-loop2 Inv-loop3 μ-loop3 Inv-loop μ-loop
+part-decode-end c = search needs
+
+decode-requires : tie.Need-decode-requires Inv-loop2 μ-loop2 Inv-loop3 μ-loop3 Inv-loop μ-loop
+decode-requires c κs = tt
+
+enum-known-code : tie.Need-enum-known-code Inv-loop2 μ-loop2 Inv-loop3 μ-loop3 Inv-loop μ-loop
+enum-known-code c = search needs
+
+refusal-requires : tie.Need-refusal-requires Inv-loop2 μ-loop2 Inv-loop3 μ-loop3 Inv-loop μ-loop
+refusal-requires c κs = tt
+
+put-line-requires : tie.Need-put-line-requires Inv-loop2 μ-loop2 Inv-loop3 μ-loop3 Inv-loop μ-loop
+put-line-requires c κs = tt
+
+loop-less : tie.Need-loop-less Inv-loop2 μ-loop2 Inv-loop3 μ-loop3 Inv-loop μ-loop
+loop-less c = omega arith
+
+loop-again : tie.Need-loop-again Inv-loop2 μ-loop2 Inv-loop3 μ-loop3 Inv-loop μ-loop
+loop-again c =
+    let r = c .before .before .before .before .before .before .before .before in
+    let x = c .before .before .before .refusal in
+    let p = c .before .before .put-line in
+    kept-turn (turn r) (x .result) (p .last .0) (p .result)
+    (case-invalid (book-at (turn r)) (record-at (turn r)) (c .before .before .before .before .before .before .code .given .0 .0)
+    (sym (is-decoded r) ∙ c .before .before .before .before .before .before .code .given .1)
+    ∙ ap (λ (a : Answer). record { answer = a; book = book-at (turn r) }) (sym (x .ensures)))
+    (p .ensures)
+
+enum-known-event : tie.Need-enum-known-event Inv-loop2 μ-loop2 Inv-loop3 μ-loop3 Inv-loop μ-loop
+enum-known-event c = search needs
+
+cast-j : tie.Need-cast-j Inv-loop2 μ-loop2 Inv-loop3 μ-loop3 Inv-loop μ-loop
+cast-j c = search needs
+
+mul-asking : tie.Need-mul-asking Inv-loop2 μ-loop2 Inv-loop3 μ-loop3 Inv-loop μ-loop
+mul-asking c = search needs
+
+element-copy-out-asking :
+    tie.Need-element-copy-out-asking Inv-loop2 μ-loop2 Inv-loop3 μ-loop3 Inv-loop μ-loop
+element-copy-out-asking c = search needs
+
+gate-of-requires : tie.Need-gate-of-requires Inv-loop2 μ-loop2 Inv-loop3 μ-loop3 Inv-loop μ-loop
+gate-of-requires c κs = tt
+
+enum-known-code-2 : tie.Need-enum-known-code-2 Inv-loop2 μ-loop2 Inv-loop3 μ-loop3 Inv-loop μ-loop
+enum-known-code-2 c = search needs
+
+refusal-requires-2 : tie.Need-refusal-requires-2 Inv-loop2 μ-loop2 Inv-loop3 μ-loop3 Inv-loop μ-loop
+refusal-requires-2 c κs = tt
+
+put-line-requires-2 :
+    tie.Need-put-line-requires-2 Inv-loop2 μ-loop2 Inv-loop3 μ-loop3 Inv-loop μ-loop
+put-line-requires-2 c κs = tt
+
+loop-less-2 : tie.Need-loop-less-2 Inv-loop2 μ-loop2 Inv-loop3 μ-loop3 Inv-loop μ-loop
+loop-less-2 c = omega arith
+
+loop-again-2 : tie.Need-loop-again-2 Inv-loop2 μ-loop2 Inv-loop3 μ-loop3 Inv-loop μ-loop
+loop-again-2 c =
+    let j = c .before .before .before .before .before .before .before .before in
+    let x = c .before .before .before .refusal2 in
+    let p = c .before .before .put-line2 in
+    let b = book-at (turn (read j)) in
+    kept-turn (turn (read j)) (x .result) (p .last .0) (p .result)
+    (case-refused b (record-at (turn (read j))) (event-at j) (is-valid j) (j .gate-of .result)
+    (c .before .before .before .before .before .before .code2 .given .0 .0) (j .gate-of .ensures)
+    (c .before .before .before .before .before .before .code2 .given .1)
+    ∙ ap (λ (a : Answer). record { answer = a; book = b }) (sym (x .ensures)))
+    (p .ensures)
+
+enum-told : tie.Need-enum-told Inv-loop2 μ-loop2 Inv-loop3 μ-loop3 Inv-loop μ-loop
+enum-told c = search needs
+
+put-line-requires-3 :
+    tie.Need-put-line-requires-3 Inv-loop2 μ-loop2 Inv-loop3 μ-loop3 Inv-loop μ-loop
+put-line-requires-3 c κs = tt
+
+loop-less-3 : tie.Need-loop-less-3 Inv-loop2 μ-loop2 Inv-loop3 μ-loop3 Inv-loop μ-loop
+loop-less-3 c = omega arith
+
+loop-again-3 : tie.Need-loop-again-3 Inv-loop2 μ-loop2 Inv-loop3 μ-loop3 Inv-loop μ-loop
+loop-again-3 c =
+    let j = c .before .before .before .before .before .before .before in
+    let p = c .before .before .put-line3 in
+    kept-turn (turn (read j)) _ (p .last .0) (p .result)
+    (case-resent (book-at (turn (read j))) (record-at (turn (read j))) (event-at j) (is-valid j) (j .gate-of .result)
+    (j .gate-of .ensures) (c .before .before .before .before .before .enum-told .given .1))
+    (p .ensures)
+
+enum-told-2 : tie.Need-enum-told-2 Inv-loop2 μ-loop2 Inv-loop3 μ-loop3 Inv-loop μ-loop
+enum-told-2 c = search needs
+
+loop2-holds : tie.Need-loop2-holds Inv-loop2 μ-loop2 Inv-loop3 μ-loop3 Inv-loop μ-loop
+unfolding leastEnd
+loop2-holds c =
+    let l = turn (read (judged (c .before))) .before .loop in
+    (omega arith, settle-none _ _, refl, l .inv .5, l .inv .8, l .inv .4)
+
+mul-end : tie.Need-mul-end Inv-loop2 μ-loop2 Inv-loop3 μ-loop3 Inv-loop μ-loop
+mul-end c = search needs
+
+array-read-end : tie.Need-array-read-end Inv-loop2 μ-loop2 Inv-loop3 μ-loop3 Inv-loop μ-loop
+array-read-end c = search needs
+
+mul-player : tie.Need-mul-player Inv-loop2 μ-loop2 Inv-loop3 μ-loop3 Inv-loop μ-loop
+mul-player c = search needs
+
+element-copy-out-player :
+    tie.Need-element-copy-out-player Inv-loop2 μ-loop2 Inv-loop3 μ-loop3 Inv-loop μ-loop
+element-copy-out-player c = search needs
+
+cast-k : tie.Need-cast-k Inv-loop2 μ-loop2 Inv-loop3 μ-loop3 Inv-loop μ-loop
+cast-k c = search needs
+
+mul-x : tie.Need-mul-x Inv-loop2 μ-loop2 Inv-loop3 μ-loop3 Inv-loop μ-loop
+mul-x c = search needs
+
+element-copy-out-x : tie.Need-element-copy-out-x Inv-loop2 μ-loop2 Inv-loop3 μ-loop3 Inv-loop μ-loop
+element-copy-out-x c = search needs
+
+ended-meters-requires :
+    tie.Need-ended-meters-requires Inv-loop2 μ-loop2 Inv-loop3 μ-loop3 Inv-loop μ-loop
+ended-meters-requires c κs = tt
+
+mul-y : tie.Need-mul-y Inv-loop2 μ-loop2 Inv-loop3 μ-loop3 Inv-loop μ-loop
+mul-y c = search needs
+
+element-set-from-y : tie.Need-element-set-from-y Inv-loop2 μ-loop2 Inv-loop3 μ-loop3 Inv-loop μ-loop
+element-set-from-y c = search needs
+
+row-of-requires : tie.Need-row-of-requires Inv-loop2 μ-loop2 Inv-loop3 μ-loop3 Inv-loop μ-loop
+row-of-requires c κs = tt
+
+mul-rows : tie.Need-mul-rows Inv-loop2 μ-loop2 Inv-loop3 μ-loop3 Inv-loop μ-loop
+mul-rows c = search needs
+
+array-set-from-rows :
+    tie.Need-array-set-from-rows Inv-loop2 μ-loop2 Inv-loop3 μ-loop3 Inv-loop μ-loop
+array-set-from-rows c = search needs
+
+mul-shutting : tie.Need-mul-shutting Inv-loop2 μ-loop2 Inv-loop3 μ-loop3 Inv-loop μ-loop
+mul-shutting c = search needs
+
+element-copy-out-shutting :
+    tie.Need-element-copy-out-shutting Inv-loop2 μ-loop2 Inv-loop3 μ-loop3 Inv-loop μ-loop
+element-copy-out-shutting c = search needs
+
+shut-player-requires :
+    tie.Need-shut-player-requires Inv-loop2 μ-loop2 Inv-loop3 μ-loop3 Inv-loop μ-loop
+shut-player-requires c κs = tt
+
+mul-q : tie.Need-mul-q Inv-loop2 μ-loop2 Inv-loop3 μ-loop3 Inv-loop μ-loop
+mul-q c = search needs
+
+element-set-from-q : tie.Need-element-set-from-q Inv-loop2 μ-loop2 Inv-loop3 μ-loop3 Inv-loop μ-loop
+element-set-from-q c = search needs
+
+mul-ends : tie.Need-mul-ends Inv-loop2 μ-loop2 Inv-loop3 μ-loop3 Inv-loop μ-loop
+mul-ends c = search needs
+
+array-write-ends : tie.Need-array-write-ends Inv-loop2 μ-loop2 Inv-loop3 μ-loop3 Inv-loop μ-loop
+array-write-ends c = search needs
+
+min-time-requires : tie.Need-min-time-requires Inv-loop2 μ-loop2 Inv-loop3 μ-loop3 Inv-loop μ-loop
+min-time-requires c κs = tt
+
+add-p : tie.Need-add-p Inv-loop2 μ-loop2 Inv-loop3 μ-loop3 Inv-loop μ-loop
+add-p c = omega arith
+
+loop2-less : tie.Need-loop2-less Inv-loop2 μ-loop2 Inv-loop3 μ-loop3 Inv-loop μ-loop
+loop2-less c = omega arith
+
+loop2-again : tie.Need-loop2-again Inv-loop2 μ-loop2 Inv-loop3 μ-loop3 Inv-loop μ-loop
+unfolding settledTo
+loop2-again c =
+    let l = c .before .before .loop2 in
+    let start = c .before .before .before .before in
+    let g = turn (read (judged start)) .before .loop in
+    let b = g .book in
+    let t = event-at (judged start) .time in
+    let ps = l .book .players in
+    let es = l .book .entries in
+    let o = openAt ps (l .p) in
+    let ht = is-admitted start .early in
+    let len : length es ≡ 64 = ap (λ (m : Book). length (m .entries)) (l .inv .1) ∙ settled-length t (take (l .p) (b .players))
+    (b .entries) ∙ g .inv .3 in
+    let few : l .p < length (b .players) = omega (arith, g .inv .4) in
+    let here : l .p < length ps = omega (arith, l .inv .5) in
+    let due : leb (getD (l .ends) (l .p) 0) t ≡ expired t o = reached ps (l .ends) (l .inv .4) t (l .p) ht here in
+    let one : (c .if3 .book ≡ settleOne t (l .p) (l .book)) × (c .if3 .rows ≡ rowsFor (c .if3 .book)) ×
+    (c .if3 .ends ≡ endsFor (c .if3 .book)) × (c .if3 .next ≡ leastEnd t (b .players) (l .p + 1)) =
+    ⊎-elim
+    (λ w.
+    let d : expired t o ≡ true = sym due ∙ le-leb (getD (l .ends) (l .p) 0) t (w .0 .taken) in
+    let inner : (w .4 .book ≡ with (l .book) (released t o es) ps) × (w .4 .rows ≡ rowsFor (w .4 .book)) =
+    ⊎-elim
+    (λ v.
+    let y : Entry = record { limits = limitsAt es (o .entry); meters = v .4 .result } in (
+      v .6
+          ∙ ap (λ (x : Meters). with (l .book) (set es (o .entry) (record { limits = limitsAt es (o .entry); meters = x })) ps)
+          (v .4 .ensures)
+          ∙ ap (λ (x : List Entry). with (l .book) x ps) (released-due t o es d),
+      v .7 ∙ rows-next es (l .rows) (o .entry) y (v .5 .result) (l .inv .3) (v .5 .ensures) ∙ ap rowsFor (sym (v .6)),
+    ))
+    (λ v. (
+      v .1 ∙ ap (λ (x : List Entry). with (l .book) x ps) (released-far t o es (omega (arith, v .0 .left, len))),
+      v .2 ∙ l .inv .3 ∙ ap rowsFor (sym (v .1)),
+    ))
+    (w .4 .came) in
+    let settles : c .if3 .book ≡ settleOne t (l .p) (l .book) =
+    w .7
+    ∙ ap (λ (x : Player). with (w .4 .book) (w .4 .book .entries) (set (w .4 .book .players) (l .p) x)) (w .6 .ensures)
+    ∙ ap (λ (x : Book). with x (x .entries) (set (x .players) (l .p) (shut t (playerAt (x .players) (l .p))))) (inner .0) in (
+      settles,
+      w .8 ∙ inner .1 ∙ ap rowsFor (sym (w .7)),
+      w .9 ∙ ends-next ps (l .ends) (l .inv .4) (l .p) (shut t (playerAt ps (l .p))) never (shut-end t (playerAt ps (l .p)) d) ∙ ap
+          endsFor (sym settles),
+      w .10 ∙ end-due t (l .p) b (l .book) (l .next) (l .inv .1) few (l .inv .2) d,
+    ))
+    (λ w.
+    let d : expired t o ≡ false = sym due ∙ lt-leb (getD (l .ends) (l .p) 0) t (w .0 .left) in (
+      w .2
+          ∙ ap (λ (x : List Entry). with (l .book) x ps) (released-still t o es d)
+          ∙ ap (with (l .book) (released t o es)) (shut-not t (l .p) ps d),
+      w .3 ∙ l .inv .3 ∙ ap rowsFor (sym (w .2)),
+      w .4 ∙ l .inv .4 ∙ ap endsFor (sym (w .2)),
+      w .5 ∙ w .1 .ensures ∙ ap (min (l .next)) (kept-end ps (l .ends) (l .inv .4) (l .p) here) ∙ end-on t (l .p) b (l .book) (l .next)
+          (l .inv .1) few (l .inv .2) d,
+    ))
+    (c .if3 .came) in (
+      omega arith,
+      one .0 ∙ ap (settleOne t (l .p)) (l .inv .1) ∙ settle-turn t (l .p) b few,
+      one .3,
+      one .1,
+      one .2,
+      ap (λ (m : Book). length (m .players)) (one .0) ∙ length-set ps (l .p) _ ∙ l .inv .5,
+    )
+
+mul-player-2 : tie.Need-mul-player-2 Inv-loop2 μ-loop2 Inv-loop3 μ-loop3 Inv-loop μ-loop
+mul-player-2 c = search needs
+
+element-copy-out-player-2 :
+    tie.Need-element-copy-out-player-2 Inv-loop2 μ-loop2 Inv-loop3 μ-loop3 Inv-loop μ-loop
+element-copy-out-player-2 c = search needs
+
+cast-k-2 : tie.Need-cast-k-2 Inv-loop2 μ-loop2 Inv-loop3 μ-loop3 Inv-loop μ-loop
+cast-k-2 c = search needs
+
+further-code-requires :
+    tie.Need-further-code-requires Inv-loop2 μ-loop2 Inv-loop3 μ-loop3 Inv-loop μ-loop
+further-code-requires c κs = tt
+
+enum-known-request : tie.Need-enum-known-request Inv-loop2 μ-loop2 Inv-loop3 μ-loop3 Inv-loop μ-loop
+enum-known-request c = search needs
+
+kind-number-requires :
+    tie.Need-kind-number-requires Inv-loop2 μ-loop2 Inv-loop3 μ-loop3 Inv-loop μ-loop
+kind-number-requires c κs = tt
+
+reach-at-requires : tie.Need-reach-at-requires Inv-loop2 μ-loop2 Inv-loop3 μ-loop3 Inv-loop μ-loop
+reach-at-requires c κs = tt
+
+at-most-64-requires :
+    tie.Need-at-most-64-requires Inv-loop2 μ-loop2 Inv-loop3 μ-loop3 Inv-loop μ-loop
+at-most-64-requires c κs = tt
+
+looked-at-requires : tie.Need-looked-at-requires Inv-loop2 μ-loop2 Inv-loop3 μ-loop3 Inv-loop μ-loop
+looked-at-requires c κs = tt
+
+loop3-holds : tie.Need-loop3-holds Inv-loop2 μ-loop2 Inv-loop3 μ-loop3 Inv-loop μ-loop
+unfolding bestAfter choiceAfter chooseOf anyOf
+loop3-holds c =
+    let n = c .before .before .before .before .before .before .before .before .before .before .before .before .before .before .before
+    .if2 .book in
+    let m = looked-most (isOn (openAt (n .players) (event-at (judged
+    (taken (c .before .before .before .before .before .before .before .before .before .before .before .before .before .before
+    .before))) .player % 16))) (c .before .before .before .reach-at .result .usable) (c .before .at-most-64 .result) in
+    (omega arith, omega (arith, m, c .looked-at .ensures, c .before .at-most-64 .ensures, min-le-right (n .entrycount) 64), refl)
+
+mul-row : tie.Need-mul-row Inv-loop2 μ-loop2 Inv-loop3 μ-loop3 Inv-loop μ-loop
+mul-row c = search needs
+
+array-copy-out-row : tie.Need-array-copy-out-row Inv-loop2 μ-loop2 Inv-loop3 μ-loop3 Inv-loop μ-loop
+array-copy-out-row c = search needs
+
+consider-row-requires :
+    tie.Need-consider-row-requires Inv-loop2 μ-loop2 Inv-loop3 μ-loop3 Inv-loop μ-loop
+consider-row-requires c κs = tt
+
+add-e : tie.Need-add-e Inv-loop2 μ-loop2 Inv-loop3 μ-loop3 Inv-loop μ-loop
+add-e c = omega arith
+
+loop3-less : tie.Need-loop3-less Inv-loop2 μ-loop2 Inv-loop3 μ-loop3 Inv-loop μ-loop
+loop3-less c = omega arith
+
+loop3-again : tie.Need-loop3-again Inv-loop2 μ-loop2 Inv-loop3 μ-loop3 Inv-loop μ-loop
+loop3-again c =
+    let l = c .before .before .before .loop3 in
+    let s = c .before .before .before .before .before .before .before .before .before .before .before .before .before .before .before
+    .before .before .before .before in
+    let es = s .if2 .book .entries in
+    let ask = asks (event-at (judged (taken s))) in
+    let asset = c .before .before .before .before .before .before .before .before .before .before .before .before .request .given .0 .1
+    .0 in
+    let kind = c .before .before .before .before .before .before .before .before .before .before .kind-number .result in
+    let r = c .before .before .before .before .before .before .before .reach-at .result in
+    let z = after-settle s in
+    let small : l .e < length es = omega (arith, z .0 .entries) in
+    let early : ask .time < noEnd = omega (arith, is-admitted (taken s) .early) in
+    let row : getD (s .if2 .rows) (l .e) noRow ≡ rowOf (limitsAt es (l .e)) (metersAt es (l .e)) = ap
+    (λ (x : List Row). getD x (l .e) noRow) (z .1) ∙ row-at es (l .e) small in (
+      omega arith,
+      l .inv .1,
+      c .consider-row .ensures
+          ∙ ap (λ (x : Row). rowConsidered asset (r .parent) kind ask (l .e) x (l .best)) row
+          ∙ row-considered asset (r .parent) kind ask (l .e) (limitsAt es (l .e)) (metersAt es (l .e)) (l .best) early
+          ∙ ap (λ (x : Best). considered asset (r .parent) kind ask (l .e) (limitsAt es (l .e)) (metersAt es (l .e)) x) (l .inv .2)
+          ∙ sym (best-turn es asset (r .parent) kind ask (l .e)),
+    )
+
+begin-code-requires :
+    tie.Need-begin-code-requires Inv-loop2 μ-loop2 Inv-loop3 μ-loop3 Inv-loop μ-loop
+begin-code-requires c κs = tt
+
+enum-told-3 : tie.Need-enum-told-3 Inv-loop2 μ-loop2 Inv-loop3 μ-loop3 Inv-loop μ-loop
+enum-told-3 c = search needs
+
+enum-told-4 : tie.Need-enum-told-4 Inv-loop2 μ-loop2 Inv-loop3 μ-loop3 Inv-loop μ-loop
+enum-told-4 c = search needs
+
+refusal-requires-3 :
+    tie.Need-refusal-requires-3 Inv-loop2 μ-loop2 Inv-loop3 μ-loop3 Inv-loop μ-loop
+refusal-requires-3 c κs = tt
+
+blank-entry-requires :
+    tie.Need-blank-entry-requires Inv-loop2 μ-loop2 Inv-loop3 μ-loop3 Inv-loop μ-loop
+blank-entry-requires c κs = tt
+
+mul-held : tie.Need-mul-held Inv-loop2 μ-loop2 Inv-loop3 μ-loop3 Inv-loop μ-loop
+mul-held c = search needs
+
+element-copy-out-held :
+    tie.Need-element-copy-out-held Inv-loop2 μ-loop2 Inv-loop3 μ-loop3 Inv-loop μ-loop
+element-copy-out-held c = search needs
+
+kept-requires :
+    tie.Need-kept-requires Inv-loop2 μ-loop2 Inv-loop3 μ-loop3 Inv-loop μ-loop
+kept-requires c κs = tt
+
+enum-told-5 : tie.Need-enum-told-5 Inv-loop2 μ-loop2 Inv-loop3 μ-loop3 Inv-loop μ-loop
+enum-told-5 c = search needs
+
+cast-begin-on : tie.Need-cast-begin-on Inv-loop2 μ-loop2 Inv-loop3 μ-loop3 Inv-loop μ-loop
+cast-begin-on c = search needs
+
+begin-on-requires : tie.Need-begin-on-requires Inv-loop2 μ-loop2 Inv-loop3 μ-loop3 Inv-loop μ-loop
+begin-on-requires c κs = tt
+
+enum-told-6 : tie.Need-enum-told-6 Inv-loop2 μ-loop2 Inv-loop3 μ-loop3 Inv-loop μ-loop
+enum-told-6 c = search needs
+
+continue-on-requires :
+    tie.Need-continue-on-requires Inv-loop2 μ-loop2 Inv-loop3 μ-loop3 Inv-loop μ-loop
+continue-on-requires c κs = tt
+
+enum-told-7 : tie.Need-enum-told-7 Inv-loop2 μ-loop2 Inv-loop3 μ-loop3 Inv-loop μ-loop
+enum-told-7 c = search needs
+
+stop-on-requires : tie.Need-stop-on-requires Inv-loop2 μ-loop2 Inv-loop3 μ-loop3 Inv-loop μ-loop
+stop-on-requires c κs = tt
+
+mul-y-2 : tie.Need-mul-y-2 Inv-loop2 μ-loop2 Inv-loop3 μ-loop3 Inv-loop μ-loop
+mul-y-2 c = search needs
+
+element-set-from-y-2 :
+    tie.Need-element-set-from-y-2 Inv-loop2 μ-loop2 Inv-loop3 μ-loop3 Inv-loop μ-loop
+element-set-from-y-2 c = search needs
+
+row-of-requires-2 : tie.Need-row-of-requires-2 Inv-loop2 μ-loop2 Inv-loop3 μ-loop3 Inv-loop μ-loop
+row-of-requires-2 c κs = tt
+
+mul-rows-2 : tie.Need-mul-rows-2 Inv-loop2 μ-loop2 Inv-loop3 μ-loop3 Inv-loop μ-loop
+mul-rows-2 c = search needs
+
+array-set-from-rows-2 :
+    tie.Need-array-set-from-rows-2 Inv-loop2 μ-loop2 Inv-loop3 μ-loop3 Inv-loop μ-loop
+array-set-from-rows-2 c = search needs
+
+noted-last-requires :
+    tie.Need-noted-last-requires Inv-loop2 μ-loop2 Inv-loop3 μ-loop3 Inv-loop μ-loop
+noted-last-requires c κs = tt
+
+mul-q-2 : tie.Need-mul-q-2 Inv-loop2 μ-loop2 Inv-loop3 μ-loop3 Inv-loop μ-loop
+mul-q-2 c = search needs
+
+element-set-from-q-2 :
+    tie.Need-element-set-from-q-2 Inv-loop2 μ-loop2 Inv-loop3 μ-loop3 Inv-loop μ-loop
+element-set-from-q-2 c = search needs
+
+end-of-requires : tie.Need-end-of-requires Inv-loop2 μ-loop2 Inv-loop3 μ-loop3 Inv-loop μ-loop
+end-of-requires c κs = tt
+
+mul-ends-2 : tie.Need-mul-ends-2 Inv-loop2 μ-loop2 Inv-loop3 μ-loop3 Inv-loop μ-loop
+mul-ends-2 c = search needs
+
+array-write-ends-2 : tie.Need-array-write-ends-2 Inv-loop2 μ-loop2 Inv-loop3 μ-loop3 Inv-loop μ-loop
+array-write-ends-2 c = search needs
+
+min-time-requires-2 : tie.Need-min-time-requires-2 Inv-loop2 μ-loop2 Inv-loop3 μ-loop3 Inv-loop μ-loop
+min-time-requires-2 c κs = tt
+
+put-line-requires-4 :
+    tie.Need-put-line-requires-4 Inv-loop2 μ-loop2 Inv-loop3 μ-loop3 Inv-loop μ-loop
+put-line-requires-4 c κs = tt
+
+loop-less-4 : tie.Need-loop-less-4 Inv-loop2 μ-loop2 Inv-loop3 μ-loop3 Inv-loop μ-loop
+loop-less-4 c = omega (
+  arith,
+  c .before .before .before .before .before .before .before .before .before .before .before .before .before
+      .before .before .before .before .before .before .before .before .before .before .before .before .before .before .before .loop-test
+      .taken,
+)
+
+loop-again-4 : tie.Need-loop-again-4 Inv-loop2 μ-loop2 Inv-loop3 μ-loop3 Inv-loop μ-loop
+loop-again-4 c =
+    let x = c .before .before .before .before .before .before .before in
+    let s = all-settled (chosen x) in
+    let r = turn (read (judged (taken s))) in
+    let a = entered r .args in
+    let l = r .before .loop in
+    let p = c .before .before .put-line4 in
+    let i = in-turn r in
+    let e = event-at (judged (taken s)) in
+    let j = e .player % 16 in
+    let n = s .if2 .book in
+    let ps = n .players in
+    let es = x .if5 .book .entries in
+    let answer = x .if5 .answer in
+    let current = x .if5 .current in
+    let z = after-settle s in
+    let kept = assets-kept s in
+    let u = left-by x in
+    let last : Last = c .before .before .before .before .before .before .noted-last .result in
+    let q : Player = record { last = last; current = current } in
+    let store : Book → Book = λ m. with m (m .entries) (set (m .players) j q) in
+    let is-book : store (x .if5 .book) ≡ closing n es j (e .time) last current = ap store (u .0) in
+    let small : j < length ps = omega (arith, z .0 .players) in
+    let f : stepRecord (l .book) (record-at r) ≡ record { answer = answer; book = store (x .if5 .book) } =
+    case-taken (l .book) (record-at r) e n (record { answer = answer; entries = es; current = current }) j last (is-admitted (taken s))
+    (z .0 .is-settled) (u .2) (is-player (taken s)) (c .before .before .before .before .before .before .noted-last .ensures)
+    ∙ ap (λ (m : Book). record { answer = answer; book = m }) (sym is-book) in
+    let end = c .before .before .before .before .before .end-of in
+    let soon = c .before .before .before .before .min-time2 in (
+      i .0,
+      progress-next (a .b) (a .records .now) (a .out .now) (l .i) (l .book) (l .out) (l .at) (l .inv .1) (i .1) answer
+          (store (x .if5 .book)) (p .last .0) (p .result) f (p .ensures),
+      subst (λ (m : Book). NextExpiry (soon .result) (m .players)) (sym is-book)
+          (subst (λ (v : ℕ). NextExpiry v (set ps j q)) (sym (soon .ensures ∙ ap (min (s .if2 .next)) (end .ensures)))
+          (expiry-store (s .if2 .next) ps j q (z .0 .expiry) small)),
+      u .3,
+      ap (λ (m : Book). length (m .players)) is-book ∙ length-set ps j q ∙ z .0 .players,
+      u .1 ∙ ap rowsFor (u .0) ∙ ap rowsFor (sym is-book),
+      ap (λ (m : Book). m .assets) is-book ∙ kept .0,
+      ap (λ (m : Book). m .assetcount) is-book ∙ kept .1,
+      ends-next ps (s .if2 .ends) (z .2) j q (end .result) (end .ensures) ∙ ap endsFor (sym is-book),
+    )
+
+same-length : tie.Need-same-length Inv-loop2 μ-loop2 Inv-loop3 μ-loop3 Inv-loop μ-loop
+same-length c =
+    let a = c .before .before .before .before .before .before .before .before .before .before .before .before .before .args in
+    let l = c .before .loop in
+    progress-length (a .b) (a .records .now) (a .out .now) (l .i) (l .book) (l .out) (l .at) (l .inv .1) (omega arith)
+
+returns-2 : tie.Need-returns-2 Inv-loop2 μ-loop2 Inv-loop3 μ-loop3 Inv-loop μ-loop
+unfolding fits blockBook blockWritten blockBuffer recordCount
+returns-2 c =
+    let a = c .before .before .before .before .before .before .before .before .before .before .before .before .before .args in
+    let l = c .before .loop in
+    let h : 19 * recordCount (a .records .now) ≤ length (a .out .now) = omega arith in
+    rw (le-leb (19 * recordCount (a .records .now)) (length (a .out .now)) h)
+    (progress-all (a .b) (a .records .now) (a .out .now) (l .i) (l .book) (l .out) (l .at) (l .inv .1) (omega arith))
+
+pub answer-block-spec : {M : Type 1} → statement M
+answer-block-spec =
+    tie.close
+    (tie.spec
+    Inv-loop2
+    μ-loop2
+    Inv-loop3
+    μ-loop3
+    Inv-loop
+    μ-loop
+    add-count
+    returns
+    fill-places-requires
+    rows-of-requires
+    ends-of-requires
+    loop-holds
+    mul-from
+    add-min-size
+    min-size-requires
+    add-i
+    sub-decode
+    part-decode-start
+    part-decode-end
+    decode-requires
+    enum-known-code
+    refusal-requires
+    put-line-requires
+    loop-less
+    loop-again
+    enum-known-event
+    cast-j
+    mul-asking
+    element-copy-out-asking
+    gate-of-requires
+    enum-known-code-2
+    refusal-requires-2
+    put-line-requires-2
+    loop-less-2
+    loop-again-2
+    enum-told
+    put-line-requires-3
+    loop-less-3
+    loop-again-3
+    enum-told-2
+    loop2-holds
+    mul-end
+    array-read-end
+    mul-player
+    element-copy-out-player
+    cast-k
+    mul-x
+    element-copy-out-x
+    ended-meters-requires
+    mul-y
+    element-set-from-y
+    row-of-requires
+    mul-rows
+    array-set-from-rows
+    mul-shutting
+    element-copy-out-shutting
+    shut-player-requires
+    mul-q
+    element-set-from-q
+    mul-ends
+    array-write-ends
+    min-time-requires
+    add-p
+    loop2-less
+    loop2-again
+    mul-player-2
+    element-copy-out-player-2
+    cast-k-2
+    further-code-requires
+    enum-known-request
+    kind-number-requires
+    reach-at-requires
+    at-most-64-requires
+    looked-at-requires
+    loop3-holds
+    mul-row
+    array-copy-out-row
+    consider-row-requires
+    add-e
+    loop3-less
+    loop3-again
+    begin-code-requires
+    enum-told-3
+    enum-told-4
+    refusal-requires-3
+    blank-entry-requires
+    mul-held
+    element-copy-out-held
+    kept-requires
+    enum-told-5
+    cast-begin-on
+    begin-on-requires
+    enum-told-6
+    continue-on-requires
+    enum-told-7
+    stop-on-requires
+    mul-y-2
+    element-set-from-y-2
+    row-of-requires-2
+    mul-rows-2
+    array-set-from-rows-2
+    noted-last-requires
+    mul-q-2
+    element-set-from-q-2
+    end-of-requires
+    mul-ends-2
+    array-write-ends-2
+    min-time-requires-2
+    put-line-requires-4
+    loop-less-4
+    loop-again-4
+    same-length
+    returns-2)

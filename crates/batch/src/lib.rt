@@ -1,0 +1,254 @@
+// Answers a block of event records in turn, each with one line of text.
+// The loop over the records owns the book: no function called for an event takes or returns it, and what an event changes is stored
+// in place.
+// Kept beside the book is what each event would otherwise recompute: a lower bound of the next until, so that settling costs one
+// comparison when nothing is due, the end of each player's use, a row for each entry with what the choice needs to know of it, and
+// the assets by number.
+ghost use mathlib.Core.Path.{_≡_};
+ghost use mathlib.Core.Bool.{cond};
+ghost use lib.ListN.{length};
+ghost use Rattle.batch.specs.Block.{blockBook, blockWritten, blockBuffer};
+ghost use Rattle.batch.specs.StepCases.{looked};
+use book::Ask;
+use book::Book;
+use book::Decoded;
+use book::Entry;
+use book::Gate;
+use book::NEVER;
+use book::Player;
+use book::RECORD_LAST;
+use book::RECORD_SIZE;
+use book::Rank;
+use book::Request;
+use book::at_most_64;
+use book::blank_entry;
+use book::refusal;
+use choice::Best;
+use choice::begin_code;
+use choice::consider_row;
+use choice::row_of;
+use index::end_of;
+use index::ends_of;
+use index::fill_places;
+use index::reach_at;
+use index::rows_of;
+use lent::shut_player;
+use numbers::min_size;
+use numbers::min_time;
+use record::decode;
+use rules::gate_of;
+use rules::kind_number;
+use rules::noted_last;
+use text::put_line;
+use uses::begin_on;
+use uses::continue_on;
+use uses::ended_meters;
+use uses::kept;
+use uses::stop_on;
+
+// The book after the records, and how many bytes of text were written.
+pub struct Block {
+    pub book: Book,
+    pub written: usize,
+}
+
+// How many entries a begin looks at.
+fn looked_at(on: bool, usable: bool, entries: usize) -> usize
+    ensures { λ r. ⌜ r ≡ looked on usable entries ⌝ }
+{
+    if on {
+        0
+    } else {
+        if usable { entries } else { 0 }
+    }
+}
+
+// The code that refuses a continue or a stop before its entry is looked at, otherwise 0.
+fn further_code(on: bool) -> u8
+    ensures { λ r. ⌜ r ≡ cond on 0 14 ⌝ }
+{
+    if on { 0 } else { 14 }
+}
+
+// If out has no room for 19 bytes per record, nothing is done.
+// Rules out: a record left out or answered twice, a last record cut short that gets no line, a byte touched after the text.
+pub fn answer_block(b: Book, records: &[u8], out: &mut [u8]) -> Block
+    ensures { λ r. ⌜ (r .book ≡ blockBook b (now (records .entry)) (length (now (out .entry)))) × (r .written ≡ blockWritten b (now (records .entry)) (length (now (out .entry)))) × (now (out .exit) ≡ blockBuffer b (now (records .entry)) (now (out .entry))) ⌝ }
+{
+    let size = records.len();
+    let count = (size + RECORD_LAST) / RECORD_SIZE;
+    if out.len() / 19 < count {
+        return Block {
+            book: b,
+            written: 0,
+        };
+    }
+    let mut book = b;
+    let mut places = [0u8; 65536];
+    let mut parents = [0u16; 64];
+    let assets = book.assets;
+    fill_places(&mut places, &mut parents, assets, book.assetcount);
+    let entries = book.entries;
+    let mut rows = rows_of(entries);
+    let players = book.players;
+    let mut ends = ends_of(players);
+    let mut next: u32 = 0;
+    let mut at: usize = 0;
+    let mut i: usize = 0;
+    while i < count {
+        let from = RECORD_SIZE * i;
+        let to = min_size(from + RECORD_SIZE, size);
+        i = i + 1;
+        match decode(&records[from..to]) {
+            Decoded::Invalid(code) => {
+                at = put_line(out, at, refusal(code));
+            }
+            Decoded::Valid(event) => {
+                let request = event.request;
+                let j = (event.player % 16) as usize;
+                let asking = book.players[j];
+                let last = asking.last;
+                match gate_of(book.time, last, event) {
+                    Gate::Refuse(code) => {
+                        at = put_line(out, at, refusal(code));
+                    }
+                    Gate::Resend => {
+                        let stored = last.answer;
+                        at = put_line(out, at, stored);
+                    }
+                    Gate::Take => {
+                        let t = event.time;
+                        if next <= t {
+                            next = NEVER;
+                            let mut p: usize = 0;
+                            while p < 16 {
+                                let end = ends[p];
+                                if end <= t {
+                                    let player = book.players[p];
+                                    let o = player.current;
+                                    let k = o.entry as usize;
+                                    if k < 64 {
+                                        let x = book.entries[k];
+                                        let l = x.limits;
+                                        let m = x.meters;
+                                        let ended = ended_meters(l, m, o.begin, o.until, o.until);
+                                        let y = Entry {
+                                            limits: l,
+                                            meters: ended,
+                                        };
+                                        book.entries[k] = y;
+                                        let row = row_of(l, ended);
+                                        rows[k] = row;
+                                    }
+                                    let shutting = book.players[p];
+                                    let q = shut_player(shutting, t);
+                                    book.players[p] = q;
+                                    ends[p] = NEVER;
+                                } else {
+                                    next = min_time(next, end);
+                                }
+                                p = p + 1;
+                            }
+                        }
+                        let player = book.players[j];
+                        let o = player.current;
+                        let ask = Ask {
+                            player: event.player,
+                            time: t,
+                        };
+                        let mut k = o.entry as usize;
+                        let mut code = further_code(o.on == 1);
+                        match request {
+                            Request::Begin(sort, asset) => {
+                                let kind = kind_number(sort);
+                                let reach = reach_at(&places, &parents, asset);
+                                let n = looked_at(
+                                    o.on == 1,
+                                    reach.usable,
+                                    at_most_64(book.entrycount),
+                                );
+                                let mut best = Best {
+                                    suits: false,
+                                    at: 64,
+                                    rank: Rank {
+                                        flags: 2,
+                                        end: 0,
+                                        fresh: 0,
+                                        inherited: 0,
+                                    },
+                                };
+                                let mut e: usize = 0;
+                                while e < n {
+                                    let row = rows[e];
+                                    best = consider_row(
+                                        best,
+                                        row,
+                                        asset,
+                                        reach.parent,
+                                        kind,
+                                        ask,
+                                        e,
+                                    );
+                                    e = e + 1;
+                                }
+                                k = best.at;
+                                code = begin_code(o.on == 1, reach.usable, best.suits, k);
+                            }
+                            Request::Continue => {}
+                            Request::Stop => {}
+                        }
+                        book.time = t;
+                        let mut answer = refusal(code);
+                        let mut current = o;
+                        if code == 0 {
+                            let mut x = blank_entry();
+                            if k < 64 {
+                                let held = book.entries[k];
+                                x = held;
+                            }
+                            let l = x.limits;
+                            let m = x.meters;
+                            let mut part = kept(0, m, o);
+                            match request {
+                                Request::Begin(_, _) => {
+                                    part = begin_on(l, m, o, (k % 256) as u8, ask);
+                                }
+                                Request::Continue => {
+                                    part = continue_on(l, m, o, t);
+                                }
+                                Request::Stop => {
+                                    part = stop_on(l, m, o, t);
+                                }
+                            }
+                            if k < 64 {
+                                let meters = part.meters;
+                                let y = Entry {
+                                    limits: l,
+                                    meters: meters,
+                                };
+                                book.entries[k] = y;
+                                let row = row_of(l, meters);
+                                rows[k] = row;
+                            }
+                            answer = part.answer;
+                            current = part.current;
+                        }
+                        let q = Player {
+                            last: noted_last(event, answer),
+                            current: current,
+                        };
+                        book.players[j] = q;
+                        let end = end_of(current);
+                        ends[j] = end;
+                        next = min_time(next, end);
+                        at = put_line(out, at, answer);
+                    }
+                }
+            }
+        }
+    }
+    Block {
+        book: book,
+        written: at,
+    }
+}

@@ -1,0 +1,92 @@
+-- `choice::consider_row` meets its contract: the tests are the definition's, in the same order.
+use Rattle.choice.specs.Row.{rowBelongs, rowRank, rowConsidered}
+use Rattle.choice.specs.declared.Row.{Row}
+use Rattle.book.specs.declared.Rank.{Rank}
+use Rattle.model.specs.Choice.{ranksBefore}
+use Rattle.numbers.specs.Count.{one}
+use mathlib.Core.Bool.{Bool, not, and-false}
+use lib.Dec.{eqb}
+use Prim.Native.Nat.{ℕ}
+use borrow.Author.Tests.{not-true, not-false, eq-eqb, ne-eqb}
+use mathlib.Core.Path.{_≡_, refl, sym, ap, _∙_}
+use borrow.Author.Needs.{needs}
+use Rattle.choice.proofs.consider_row.Statement.{statement}
+use Rattle.choice.proofs.consider_row.Tie as tie
+
+-- the code's test of the ranks, with the value it was passed for inherited
+ranks-so :
+    (asset : ℕ) (row : Row) (held : Rank) (inherited : ℕ) (w : Bool) →
+    inherited ≡ one (not (eqb (row .asset) asset)) →
+    w ≡ ranksBefore (record { flags = row .flags; end = row .end; fresh = row .fresh; inherited = inherited }) held →
+    ranksBefore (rowRank asset row) held ≡ w
+ranks-so asset row held inherited w e r =
+    ap (λ (x : ℕ). ranksBefore (record { flags = row .flags; end = row .end; fresh = row .fresh; inherited = x }) held) (sym e) ∙ sym r
+
+returns : tie.Need-returns
+unfolding rowConsidered
+returns c = rw (ne-eqb _ _ (c .if1 .taken))
+
+returns-2 : tie.Need-returns-2
+unfolding rowConsidered
+returns-2 c =
+    let a = c .before .before .before .before .before .args in
+    rw (eq-eqb _ _ (c .before .before .before .if1 .left), not-true (rowBelongs (a .asset) (a .parent) (a .row)) (c .if2 .taken))
+
+row-grants-requires : tie.Need-row-grants-requires
+row-grants-requires c κs = search needs
+
+returns-3 : tie.Need-returns-3
+unfolding rowConsidered
+returns-3 c =
+    let at-suits = c .before .before .before in
+    let at-kind = at-suits .before .before .before in
+    let a = at-kind .before .before .args in
+    rw (
+      eq-eqb _ _ (at-kind .if1 .left),
+      not-false (rowBelongs (a .asset) (a .parent) (a .row)) (at-suits .if2 .left),
+      sym (c .before .row-grants .ensures) ∙ not-true _ (c .if3 .taken),
+      and-false _,
+    )
+    refl
+
+one-requires : tie.Need-one-requires
+one-requires c κs = search needs
+
+ranks-before-requires : tie.Need-ranks-before-requires
+ranks-before-requires c κs = search needs
+
+returns-4 : tie.Need-returns-4
+unfolding rowConsidered
+returns-4 c =
+    let at-grants = c .before .before .before .before in
+    let at-suits = at-grants .before .before .before in
+    let at-kind = at-suits .before .before .before in
+    let a = at-kind .before .before .args in
+    let ranks = ranks-so (a .asset) (a .row) (a .best .rank) _ _ (c .before .before .one .ensures) (c .before .ranks-before .ensures) in
+    rw (
+      eq-eqb _ _ (at-kind .if1 .left),
+      not-false (rowBelongs (a .asset) (a .parent) (a .row)) (at-suits .if2 .left),
+      ranks ∙ not-true _ (c .if4 .taken),
+    )
+    refl
+
+returns-5 : tie.Need-returns-5
+unfolding rowConsidered
+returns-5 c =
+    let at-grants = c .before .before .before .before in
+    let at-suits = at-grants .before .before .before in
+    let at-kind = at-suits .before .before .before in
+    let a = at-kind .before .before .args in
+    let ranks = ranks-so (a .asset) (a .row) (a .best .rank) _ _ (c .before .before .one .ensures) (c .before .ranks-before .ensures) in
+    rw (
+      eq-eqb _ _ (at-kind .if1 .left),
+      not-false (rowBelongs (a .asset) (a .parent) (a .row)) (at-suits .if2 .left),
+      ranks ∙ not-false _ (c .if4 .left),
+      sym (at-grants .before .row-grants .ensures) ∙ not-false _ (at-grants .if3 .left),
+      c .before .before .one .ensures,
+    )
+
+pub consider-row-spec : {M : Type 1} → statement M
+consider-row-spec =
+    tie.close
+    (tie.spec returns returns-2 row-grants-requires returns-3 one-requires ranks-before-requires returns-4 returns-5)

@@ -1,0 +1,42 @@
+-- `choice::row_of` meets its contract: each field is the definition's.
+use Rattle.choice.specs.Row.{rowOf, startOf}
+use mathlib.Core.Path.{ap, _∙_}
+use Rattle.model.specs.Meters.{where-flagged}
+use Rattle.rules.specs.declared.Flags.{Flags}
+use Rattle.rules.specs.Rules.{flagsOf}
+use Rattle.model.specs.Choice.{rankOf}
+use borrow.Author.Needs.{needs}
+use Rattle.choice.proofs.row_of.Statement.{statement}
+use Rattle.choice.proofs.row_of.Tie as tie
+
+rank-of-requires : tie.Need-rank-of-requires
+rank-of-requires c κs = search needs
+
+flags-of-requires : tie.Need-flags-of-requires
+flags-of-requires c κs = search needs
+
+when-requires : tie.Need-when-requires
+when-requires c κs = search needs
+
+window-of-requires : tie.Need-window-of-requires
+window-of-requires c κs = search needs
+
+returns : tie.Need-returns
+unfolding rowOf startOf rankOf flagsOf
+returns c =
+    let l = c .before .before .before .before .args .l in
+    let r = c .before .before .before .rank-of .ensures in
+    λ i. record {
+      asset = l .asset;
+      kind = l .kind;
+      flags = r i .flags;
+      fresh = r i .fresh;
+      start = (c .before .when .ensures ∙ ap (λ (f : Flags). where-flagged (f .start) (l .start)) (c .before .before .flags-of .ensures)) i;
+      window = c .window-of .ensures i;
+      end = r i .end;
+    }
+
+pub row-of-spec : {M : Type 1} → statement M
+row-of-spec =
+    tie.close
+    (tie.spec rank-of-requires flags-of-requires when-requires window-of-requires returns)

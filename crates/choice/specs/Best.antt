@@ -1,0 +1,104 @@
+-- The best entry among the first n, as the loop over the entries carries it, and the law of one turn.
+use Prim.Native.Nat.{ℕ, _+_}
+use mathlib.Core.Path.{_≡_, refl, sym, ap, _∙_}
+use mathlib.Core.Bool.{Bool, true, false, not, _&&_, _||_, cond, or-true, or-false, and-false}
+use mathlib.Core.List.{List}
+use native.Mathlib.Numerals.{add-one}
+use lib.Dec.{ltb, eqb}
+use Rattle.numbers.specs.Count.{one}
+use Rattle.book.specs.declared.Ask.{Ask}
+use Rattle.book.specs.declared.Limits.{Limits}
+use Rattle.book.specs.declared.Meters.{Meters}
+use Rattle.book.specs.declared.Entry.{Entry}
+use Rattle.model.specs.Book.{limitsAt, metersAt}
+use Rattle.model.specs.Choice.{Choice, nobody, chosen, prefer, chooseOf, anyOf, suitable, grantable, goesBefore, rankOf, ranksBefore}
+use Rattle.book.specs.declared.Rank.{Rank}
+use Rattle.choice.specs.declared.Best.{Best}
+
+-- the chosen position, 64 if there is none
+abbrev pub position : Choice → ℕ
+position nobody = 64
+position (chosen i) = i
+
+-- a rank after that of every entry
+abbrev pub lastRank : Rank
+lastRank = record { flags = 2; end = 0; fresh = 0; inherited = 0 }
+
+abbrev pub rankChosen : List Entry → ℕ → Choice → Rank
+rankChosen es asset nobody = lastRank
+rankChosen es asset (chosen i) = rankOf asset (limitsAt es i) (metersAt es i)
+
+abbrev pub suitsAt : List Entry → ℕ → ℕ → ℕ → ℕ → Bool
+suitsAt es asset parent kind i = suitable asset parent kind (limitsAt es i)
+
+abbrev pub allowedAt : List Entry → ℕ → ℕ → ℕ → Ask → ℕ → Bool
+allowedAt es asset parent kind ask i = suitsAt es asset parent kind i && grantable ask (limitsAt es i) (metersAt es i)
+
+-- the entry chosen among the first n
+unfoldable pub choiceAfter : List Entry → ℕ → ℕ → ℕ → Ask → ℕ → Choice
+choiceAfter es asset parent kind ask n = chooseOf (allowedAt es asset parent kind ask) (goesBefore es asset) n
+
+-- for the first n entries: whether any is suitable, the position of the one chosen, and its rank
+unfoldable pub bestAfter : List Entry → ℕ → ℕ → ℕ → Ask → ℕ → Best
+bestAfter es asset parent kind ask n = record {
+  suits = anyOf (suitsAt es asset parent kind) n;
+  at = position (choiceAfter es asset parent kind ask n);
+  rank = rankChosen es asset (choiceAfter es asset parent kind ask n);
+}
+
+-- entry i, with those limits and meters, against the best so far
+unfoldable pub considered : ℕ → ℕ → ℕ → Ask → ℕ → Limits → Meters → Best → Best
+considered asset parent kind ask i l m best =
+    cond (suitable asset parent kind l)
+    (cond (ranksBefore (rankOf asset l m) (best .rank) && grantable ask l m)
+    (record { suits = true; at = i; rank = rankOf asset l m })
+    (record { suits = true; at = best .at; rank = best .rank }))
+    best
+
+one-below : (w : Bool) → ltb (one w) 2 ≡ true
+one-below true = refl
+one-below false = refl
+
+before-last : (asset : ℕ) (l : Limits) (m : Meters) → ranksBefore (rankOf asset l m) lastRank ≡ true
+unfolding ranksBefore rankOf
+before-last asset l m = rw (one-below (not (eqb (l .flags) 0)))
+
+module _ (es : List Entry) (asset k : ℕ) (any : Bool) where
+  abbrev chosenBest : Bool → Choice → Best
+  chosenBest s c = record { suits = s; at = position c; rank = rankChosen es asset c }
+
+  suits-now : (c : Choice) → chosenBest (any || true) c ≡ chosenBest true c
+  suits-now c = ap (λ (s : Bool). chosenBest s c) (or-true any)
+
+  against : (b : Bool) (j : ℕ) → chosenBest (any || true) (cond b (chosen k) (chosen j)) ≡ cond (b && true) (chosenBest true (chosen k))
+      (chosenBest true (chosen j))
+  against true j = suits-now (chosen k)
+  against false j = suits-now (chosen j)
+
+  turn :
+      (s g : Bool) (c : Choice) →
+      chosenBest (any || s) (prefer (s && g) k (goesBefore es asset k) c)
+      ≡ cond s
+      (cond (ranksBefore (rankOf asset (limitsAt es k) (metersAt es k)) (rankChosen es asset c) && g)
+      (chosenBest true (chosen k))
+      (chosenBest true c))
+      (chosenBest any c)
+  unfolding rankOf
+  turn false g c = ap (λ (s : Bool). chosenBest s c) (or-false any)
+  turn true false c =
+      suits-now c
+      ∙ ap (λ (b : Bool). cond b (chosenBest true (chosen k)) (chosenBest true c))
+      (sym (and-false (ranksBefore (rankOf asset (limitsAt es k) (metersAt es k)) (rankChosen es asset c))))
+  turn true true nobody = rw (before-last asset (limitsAt es k) (metersAt es k)) (suits-now (chosen k))
+  turn true true (chosen j) = against (goesBefore es asset k j) j
+
+-- what the loop over the entries carries, one entry further
+pub best-turn :
+    (es : List Entry) (asset parent kind : ℕ) (ask : Ask) (k : ℕ) →
+    bestAfter es asset parent kind ask (k + 1)
+    ≡ considered asset parent kind ask k (limitsAt es k) (metersAt es k) (bestAfter es asset parent kind ask k)
+unfolding bestAfter considered choiceAfter chooseOf anyOf
+best-turn es asset parent kind ask k =
+    rw add-one
+    (turn es asset k (anyOf (suitsAt es asset parent kind) k) (suitsAt es asset parent kind k)
+    (grantable ask (limitsAt es k) (metersAt es k)) (choiceAfter es asset parent kind ask k))

@@ -1,0 +1,162 @@
+-- What the choice needs to know of an entry, as a row: a turn of the choice on a row is a turn on its entry.
+use Prim.Native.Nat.{ℕ, _+_, _<_, min}
+use mathlib.Core.Path.{_≡_, refl, sym, _∙_}
+use mathlib.Core.Bool.{Bool, true, false, not, _&&_, _||_, cond, Bool·not-not}
+use native.Mathlib.Omega.{arith}
+use lib.Dec.{leb, ltb, eqb}
+use borrow.Author.Tests.{ltb-true, ltb-false, leb-true, leb-false, lt-ltb, le-ltb, le-leb}
+use Rattle.numbers.specs.Count.{one}
+use Rattle.book.specs.declared.Ask.{Ask}
+use Rattle.book.specs.declared.Limits.{Limits}
+use Rattle.book.specs.declared.Meters.{Meters}
+use Rattle.model.specs.Book.{flagged}
+use Rattle.model.specs.Book.{countFlag, timedFlag, startFlag, endFlag, intervalFlag, accumulatedFlag}
+use Rattle.model.specs.Meters.{where-flagged, isStarted}
+use Rattle.model.specs.Choice.{noEnd, own, suitable, fails, groundsOf, groundList, grantable, rankOf, ranksBefore}
+use Rattle.numbers.proofs.Tests.{on-test, none-row}
+use Rattle.book.specs.declared.Rank.{Rank}
+use Rattle.choice.specs.declared.Best.{Best}
+use Rattle.choice.specs.declared.Row.{Row}
+use Rattle.choice.specs.Best.{considered}
+
+-- a flagged count is used up, or the seconds are
+unfoldable pub spent : Limits → Meters → Bool
+spent l m =
+    (flagged countFlag l && leb (l .count) (m .count))
+    || (flagged timedFlag l && leb (l .timed) (m .timed))
+    || (flagged accumulatedFlag l && leb (l .accumulated) (m .seconds))
+
+-- the time from which an entry is no longer grantable; `noEnd` if there is none, 0 if it is spent
+unfoldable pub windowOf : Limits → Meters → ℕ
+windowOf l m =
+    cond (spent l m) 0
+    (min (cond (flagged endFlag l) (l .end + 1) noEnd) (cond (flagged intervalFlag l && isStarted m) (m .first + l .interval) noEnd))
+
+-- the time from which an entry is grantable
+unfoldable pub startOf : Limits → ℕ
+startOf l = where-flagged (flagged startFlag l) (l .start)
+
+unfoldable pub rowOf : Limits → Meters → Row
+rowOf l m = record {
+  asset = l .asset;
+  kind = l .kind;
+  flags = one (not (eqb (l .flags) 0));
+  fresh = one (not (isStarted m));
+  start = startOf l;
+  window = windowOf l m;
+  end = cond (flagged endFlag l) (l .end) noEnd;
+}
+
+-- the rank of the row's entry, as the code holds it
+abbrev pub rowRank : ℕ → Row → Rank
+rowRank asset row = record {
+  flags = row .flags;
+  end = row .end;
+  fresh = row .fresh;
+  inherited = one (not (eqb (row .asset) asset));
+}
+
+-- the row's entry is the asset's own, or its parent's
+abbrev pub rowBelongs : ℕ → ℕ → Row → Bool
+rowBelongs asset parent row = eqb (row .asset) asset || (not (eqb parent 0) && eqb (row .asset) parent)
+
+abbrev pub rowSuits : ℕ → ℕ → ℕ → Row → Bool
+rowSuits asset parent kind row = eqb (row .kind) kind && rowBelongs asset parent row
+
+abbrev pub rowGrants : Ask → Row → Bool
+rowGrants ask row = leb (row .start) (ask .time) && ltb (ask .time) (row .window)
+
+-- entry i, with that row, against the best so far
+unfoldable pub rowConsidered : ℕ → ℕ → ℕ → Ask → ℕ → Row → Best → Best
+rowConsidered asset parent kind ask i row best =
+    cond (rowSuits asset parent kind row)
+    (cond (ranksBefore (rowRank asset row) (best .rank) && rowGrants ask row)
+    (record { suits = true; at = i; rank = rowRank asset row })
+    (record { suits = true; at = best .at; rank = best .rank }))
+    best
+
+-- ## A turn on a row is a turn on its entry
+
+-- a number is below the smaller of two if it is below both
+below-min : (t a b : ℕ) → ltb t (min a b) ≡ ltb t a && ltb t b
+below-min t a b =
+    on-test (ltb t a)
+    (λ p. on-test (ltb t b)
+    (λ q. rw (p, q) (lt-ltb t (min a b) (omega (arith, ltb-true t a p, ltb-true t b q))))
+    (λ q. rw (p, q) (le-ltb t (min a b) (omega (arith, ltb-false t b q)))))
+    (λ p. rw p (le-ltb t (min a b) (omega (arith, ltb-false t a p))))
+
+below-zero : (s : Bool) (t w : ℕ) → ltb t (cond s 0 w) ≡ not s && ltb t w
+below-zero true t w = le-ltb t 0 (omega arith)
+below-zero false t w = refl
+
+below-next : (t n : ℕ) → ltb t (n + 1) ≡ leb t n
+below-next t n =
+    on-test (leb t n)
+    (λ p. rw p (lt-ltb t (n + 1) (omega (arith, leb-true t n p))))
+    (λ p. rw p (le-ltb t (n + 1) (omega (arith, leb-false t n p))))
+
+not-below : (a b : ℕ) → leb a b ≡ not (ltb b a)
+not-below a b =
+    on-test (leb a b)
+    (λ p. rw (p, le-ltb b a (leb-true a b p)))
+    (λ p. rw (p, lt-ltb b a (leb-false a b p)))
+
+used-up : (f : Bool) (a b : ℕ) → (f && leb a b) ≡ fails f (ltb b a)
+used-up true a b = not-below a b
+used-up false a b = refl
+
+from-start : (f : Bool) (t s : ℕ) → leb (where-flagged f s) t ≡ not (fails f (leb s t))
+from-start true t s = sym (Bool·not-not (leb s t))
+from-start false t s = le-leb 0 t (omega arith)
+
+before-end : (f : Bool) (t e : ℕ) → t < noEnd → ltb t (cond f (e + 1) noEnd) ≡ not (fails f (leb t e))
+before-end true t e h = below-next t e ∙ sym (Bool·not-not (leb t e))
+before-end false t e h = lt-ltb t noEnd (omega arith)
+
+before-due : (f s : Bool) (t d : ℕ) → t < noEnd → ltb t (cond (f && s) d noEnd) ≡ not (fails f (not s || ltb t d))
+before-due true true t d h = sym (Bool·not-not (ltb t d))
+before-due true false t d h = lt-ltb t noEnd (omega arith)
+before-due false s t d h = lt-ltb t noEnd (omega arith)
+
+-- the tests in the order of the grounds
+ordered :
+    (c d s e v a : Bool) →
+    (not s && (not (c || d || a) && (not e && not v))) ≡ (not c && not d && not s && not e && not v && not a)
+ordered true d true e v a = refl
+ordered true d false e v a = refl
+ordered false true true e v a = refl
+ordered false true false e v a = refl
+ordered false false true e v a = refl
+ordered false false false true v true = refl
+ordered false false false false true true = refl
+ordered false false false false false true = refl
+ordered false false false true v false = refl
+ordered false false false false true false = refl
+ordered false false false false false false = refl
+
+-- from the start until before the window ends, an entry is grantable
+pub window-grants : (ask : Ask) (l : Limits) (m : Meters) → ask .time < noEnd
+    → (leb (startOf l) (ask .time) && ltb (ask .time) (windowOf l m)) ≡ grantable ask l m
+unfolding startOf windowOf spent groundsOf grantable
+window-grants ask l m h =
+    let g = groundsOf ask l m in
+    rw (
+      below-zero,
+      below-min,
+      from-start,
+      before-end (flagged endFlag l) (ask .time) (l .end) h,
+      before-due (flagged intervalFlag l) (isStarted m) (ask .time) (m .first + l .interval) h,
+      used-up (flagged countFlag l) (l .count) (m .count),
+      used-up (flagged timedFlag l) (l .timed) (m .timed),
+      used-up (flagged accumulatedFlag l) (l .accumulated) (m .seconds),
+    )
+    (ordered (g .countspent) (g .timedspent) (g .beforestart) (g .afterend) (g .intervalover) (g .secondsspent)
+    ∙ none-row true (groundList g))
+
+pub row-considered :
+    (asset parent kind : ℕ) (ask : Ask) (i : ℕ) (l : Limits) (m : Meters) (best : Best) →
+    ask .time < noEnd →
+    rowConsidered asset parent kind ask i (rowOf l m) best ≡ considered asset parent kind ask i l m best
+unfolding rowConsidered rowOf considered rankOf suitable own
+row-considered asset parent kind ask i l m best h = rw (window-grants ask l m h) refl

@@ -1,0 +1,255 @@
+// What a begin for an asset reaches in a table of assets: whether the asset is usable, and the parent whose entries also serve it.
+// A count above 64, which no image has, counts as 64.
+// Then the entry that the begin gets: among the suitable and grantable ones, the one that comes first in document 01's order.
+// A loop over the entries keeps the best so far. It considers one entry per turn, through a row that holds what the choice needs to
+// know of it.
+ghost use mathlib.Core.Path.{_≡_};
+ghost use mathlib.Core.Bool.{cond};
+ghost use Rattle.choice.specs.Reach.{tableOf, foundIn, reachIn};
+ghost use Prim.Native.Nat.{min};
+ghost use Rattle.model.specs.Choice.{noEnd};
+ghost use Rattle.choice.specs.Best.{bestAfter};
+ghost use lib.Dec.{ltb};
+ghost use Rattle.choice.specs.Codes.{beginCode};
+ghost use Rattle.choice.specs.Row.{windowOf, rowOf, rowGrants, rowConsidered};
+use book::Ask;
+use book::Asset;
+use book::Entry;
+use book::Limits;
+use book::Meters;
+use book::NO_END;
+use book::NONE_GRANTABLE;
+use book::Rank;
+use book::at_most_64;
+use numbers::min_wide;
+use numbers::one;
+use numbers::pick16;
+use rules::flags_of;
+use rules::rank_of;
+use rules::ranks_before;
+use rules::when;
+
+// The asset with that number, blank if there is none.
+pub struct Found {
+    pub there: bool,
+    pub asset: Asset,
+}
+
+// Parent 0: none.
+pub struct Reach {
+    pub usable: bool,
+    pub parent: u16,
+}
+
+// Rules out: a slot past the count, a second asset with that number.
+fn asset_named(assets: [Asset; 64], count: u8, number: u16) -> Found
+    ensures { λ r. ⌜ r ≡ foundIn (tableOf assets count) number ⌝ }
+{
+    let n = at_most_64(count);
+    let mut i: usize = 0;
+    while i < n {
+        let a = assets[i];
+        if a.number == number {
+            return Found {
+                there: true,
+                asset: a,
+            };
+        }
+        i = i + 1;
+    }
+    Found {
+        there: false,
+        asset: Asset {
+            number: 0,
+            inherit: 0,
+            key: 0,
+        },
+    }
+}
+
+// Rules out: using a parent or an illegal asset, reaching a parent through an illegal asset or over two levels, an inherit that is not
+// in the book.
+pub fn reach_of(assets: [Asset; 64], count: u8, number: u16) -> Reach
+    ensures { λ r. ⌜ r ≡ reachIn (tableOf assets count) number ⌝ }
+{
+    let f = asset_named(assets, count, number);
+    let a = f.asset;
+    let usable = f.there & (a.key == 1);
+    if a.inherit == 0 {
+        return Reach {
+            usable: usable,
+            parent: 0,
+        };
+    }
+    let g = asset_named(assets, count, a.inherit);
+    let p = g.asset;
+    Reach {
+        usable: usable,
+        parent: pick16(g.there & ((p.key == 0) & (p.inherit == 0)), a.inherit, 0),
+    }
+}
+
+// Whether any entry is suitable, the position of the best grantable one (64 if there is none), and its rank.
+pub struct Best {
+    pub suits: bool,
+    pub at: usize,
+    pub rank: Rank,
+}
+
+// Flags, end and fresh are from the entry's rank; whether it is inherited depends on the asset asked for.
+// The entry is grantable from start (0 if none is flagged) until before window (0 if a count or the seconds are spent).
+pub struct Row {
+    pub asset: u16,
+    pub kind: u8,
+    pub flags: u8,
+    pub fresh: u8,
+    pub start: u32,
+    pub window: u64,
+    pub end: u64,
+}
+
+// The bound if it applies, otherwise one later than any time.
+fn bound(w: bool, v: u64) -> u64
+    ensures { λ r. ⌜ r ≡ cond w v noEnd ⌝ }
+{
+    if w { v } else { NO_END }
+}
+
+// Rules out: end taken as excluded, a limit tested without its flag, an interval that has not started.
+fn window_of(l: Limits, m: Meters) -> u64
+    ensures { λ r. ⌜ r ≡ windowOf l m ⌝ }
+{
+    let f = flags_of(l);
+    let first = m.first as u64;
+    let interval = l.interval as u64;
+    let due = first + interval;
+    let last = l.end as u64;
+    let end = last + 1;
+    let spent = (f.count & (l.count <= m.count))
+        | (f.timed & (l.timed <= m.timed))
+        | (f.accumulated & (l.accumulated <= m.seconds));
+    let w = min_wide(bound(f.end, end), bound(f.interval & (m.started == 1), due));
+    if spent { 0 } else { w }
+}
+
+// Rules out: a window that closes at end, an open row where a count is spent.
+pub fn row_of(l: Limits, m: Meters) -> Row
+    ensures { λ r. ⌜ r ≡ rowOf l m ⌝ }
+{
+    let r = rank_of(l, m, l.asset);
+    let f = flags_of(l);
+    let start = when(f.start, l.start);
+    let window = window_of(l, m);
+    Row {
+        asset: l.asset,
+        kind: l.kind,
+        flags: r.flags,
+        fresh: r.fresh,
+        start: start,
+        window: window,
+        end: r.end,
+    }
+}
+
+// Whether nothing stands against granting the row's entry to who asks.
+fn row_grants(row: Row, ask: Ask) -> bool
+    ensures { λ r. ⌜ r ≡ rowGrants ask row ⌝ }
+{
+    let t = ask.time;
+    let now = t as u64;
+    (row.start <= t) & (now < row.window)
+}
+
+// One turn of the choice, on the entry's row. The dates are tested first: that takes two comparisons, and comparing ranks takes more.
+// Rules out: every entry taken as inherited, the later entry at equal ranks, an entry that is suitable but not grantable.
+pub fn consider_row(
+    best: Best,
+    row: Row,
+    asset: u16,
+    parent: u16,
+    kind: u8,
+    ask: Ask,
+    i: usize,
+) -> Best
+    ensures { λ r. ⌜ r ≡ rowConsidered asset parent kind ask i row best ⌝ }
+{
+    if row.kind != kind {
+        return best;
+    }
+    if !((row.asset == asset) | (!(parent == 0) & (row.asset == parent))) {
+        return best;
+    }
+    let held = best.rank;
+    if !row_grants(row, ask) {
+        return Best {
+            suits: true,
+            at: best.at,
+            rank: held,
+        };
+    }
+    let rank = Rank {
+        flags: row.flags,
+        end: row.end,
+        fresh: row.fresh,
+        inherited: one(!(row.asset == asset)),
+    };
+    if !ranks_before(rank, held) {
+        return Best {
+            suits: true,
+            at: best.at,
+            rank: held,
+        };
+    }
+    Best {
+        suits: true,
+        at: i,
+        rank: rank,
+    }
+}
+
+// Rules out: an entry past the count, 12 where an entry is suitable, 13 where one is grantable.
+pub fn chosen(es: [Entry; 64], count: u8, asset: u16, parent: u16, kind: u8, ask: Ask) -> Best
+    ensures { λ r. ⌜ r ≡ bestAfter es asset parent kind ask (min count 64) ⌝ }
+{
+    let n = at_most_64(count);
+    let mut best = Best {
+        suits: false,
+        at: 64,
+        rank: Rank {
+            flags: 2,
+            end: 0,
+            fresh: 0,
+            inherited: 0,
+        },
+    };
+    let mut i: usize = 0;
+    while i < n {
+        let e = es[i];
+        let l = e.limits;
+        let m = e.meters;
+        let row = row_of(l, m);
+        best = consider_row(best, row, asset, parent, kind, ask, i);
+        i = i + 1;
+    }
+    best
+}
+
+// The code that refuses a begin, or 0 if it is granted at that position: the only place in code that says 10, 11, 12 or 13.
+// Rules out: 10 before 11, 13 where nothing is suitable.
+pub fn begin_code(on: bool, usable: bool, suits: bool, at: usize) -> u8
+    ensures { λ r. ⌜ r ≡ beginCode on usable suits (ltb at 64) ⌝ }
+{
+    if on {
+        return 11;
+    }
+    if !usable {
+        return 10;
+    }
+    if !suits {
+        return 12;
+    }
+    if at < 64 {
+        return 0;
+    }
+    NONE_GRANTABLE
+}

@@ -1,0 +1,1 @@
+// No code: the laws of the library's calls are in specs/.

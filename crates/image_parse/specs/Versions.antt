@@ -1,0 +1,99 @@
+-- Records by version: where each field is read, and the least number of bytes. A new version is a case of `by-version`.
+use Prim.Native.Nat.{ℕ, _≤_}
+use mathlib.Core.Path.{_≡_, refl}
+use mathlib.Core.List.{List}
+use native.Mathlib.Omega.{arith}
+use Rattle.numbers.specs.Fields.{bits8, bits16, bits32, numberAt}
+use Rattle.book.specs.declared.Asset.{Asset}
+use Rattle.book.specs.declared.Limits.{Limits}
+use Rattle.book.specs.declared.Meters.{Meters}
+use Rattle.book.specs.declared.Last.{Last}
+use Rattle.book.specs.declared.Open.{Open}
+use Rattle.model.specs.Image.{newest, headerSize, assetSize, entrySize, playerSize, assetIn, entryIn, playerIn}
+use Rattle.model.proofs.Image.Header.{by-version}
+
+-- ## Where each field is read
+
+abbrev pub assetRead : ℕ → List ℕ → Asset
+assetRead v s = record { number = numberAt bits16 0 s; inherit = numberAt bits16 2 s; key = numberAt bits8 4 s }
+
+abbrev pub limitsRead : ℕ → List ℕ → Limits
+limitsRead v s = record {
+  object = numberAt bits16 0 s;
+  asset = numberAt bits16 2 s;
+  kind = numberAt bits8 4 s;
+  flags = numberAt bits8 5 s;
+  count = numberAt bits32 6 s;
+  timed = numberAt bits32 10 s;
+  timer = numberAt bits32 14 s;
+  start = numberAt bits32 18 s;
+  end = numberAt bits32 22 s;
+  interval = numberAt bits32 26 s;
+  accumulated = numberAt bits32 30 s;
+}
+
+abbrev pub metersRead : ℕ → List ℕ → Meters
+metersRead v s = record {
+  count = numberAt bits32 34 s;
+  timed = numberAt bits32 38 s;
+  first = numberAt bits32 42 s;
+  seconds = numberAt bits32 46 s;
+  started = numberAt bits8 50 s;
+}
+
+abbrev pub lastRead : ℕ → List ℕ → Last
+lastRead v s = record {
+  number = numberAt bits32 0 s;
+  operation = numberAt bits8 4 s;
+  asset = numberAt bits16 5 s;
+  kind = numberAt bits8 7 s;
+  answer = record { code = numberAt bits8 8 s; entry = numberAt bits8 9 s; until = numberAt bits32 10 s };
+}
+
+abbrev pub openRead : ℕ → List ℕ → Open
+openRead v s = record {
+  on = numberAt bits8 14 s;
+  entry = numberAt bits8 15 s;
+  begin = numberAt bits32 16 s;
+  until = numberAt bits32 20 s;
+}
+
+module _ (s : List ℕ) (v : ℕ) (h : 1 ≤ v) (k : v ≤ newest) where
+  pub asset-read : assetRead v s ≡ assetIn v s
+  unfolding assetIn
+  asset-read = by-version (λ v. assetRead v s ≡ assetIn v s) refl v h k
+
+  pub limits-read : limitsRead v s ≡ entryIn v s .limits
+  unfolding entryIn
+  limits-read = by-version (λ v. limitsRead v s ≡ entryIn v s .limits) refl v h k
+
+  pub meters-read : metersRead v s ≡ entryIn v s .meters
+  unfolding entryIn
+  meters-read = by-version (λ v. metersRead v s ≡ entryIn v s .meters) refl v h k
+
+  pub last-read : lastRead v s ≡ playerIn v s .last
+  unfolding playerIn
+  last-read = by-version (λ v. lastRead v s ≡ playerIn v s .last) refl v h k
+
+  pub open-read : openRead v s ≡ playerIn v s .current
+  unfolding playerIn
+  open-read = by-version (λ v. openRead v s ≡ playerIn v s .current) refl v h k
+
+-- ## The fields that every version has are there
+
+module _ (v : ℕ) (h : 1 ≤ v) (k : v ≤ newest) where
+  pub header-least : 11 ≤ headerSize v
+  unfolding headerSize
+  header-least = by-version (λ v. 11 ≤ headerSize v) (omega arith) v h k
+
+  pub asset-least : 5 ≤ assetSize v
+  unfolding assetSize
+  asset-least = by-version (λ v. 5 ≤ assetSize v) (omega arith) v h k
+
+  pub entry-least : 51 ≤ entrySize v
+  unfolding entrySize
+  entry-least = by-version (λ v. 51 ≤ entrySize v) (omega arith) v h k
+
+  pub player-least : 24 ≤ playerSize v
+  unfolding playerSize
+  player-least = by-version (λ v. 24 ≤ playerSize v) (omega arith) v h k

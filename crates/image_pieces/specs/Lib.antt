@@ -1,0 +1,2 @@
+-- The bytes of the pieces of an image.
+pub mod Pieces

@@ -1,0 +1,114 @@
+-- The bytes of each piece and record, under the name that callers use, and their number.
+use mathlib.Core.Path.{_≡_, refl}
+use Prim.Native.Nat.{ℕ}
+use mathlib.Core.List.{List, _++_}
+use lib.ListN.{length}
+use Rattle.numbers.specs.Fields.{laidOut}
+use Rattle.book.specs.declared.Asset.{Asset}
+use Rattle.book.specs.declared.Limits.{Limits}
+use Rattle.book.specs.declared.Meters.{Meters}
+use Rattle.book.specs.declared.Entry.{Entry}
+use Rattle.book.specs.declared.Last.{Last}
+use Rattle.book.specs.declared.Open.{Open}
+use Rattle.book.specs.declared.Player.{Player}
+use Rattle.book.specs.declared.Book.{Book}
+use Rattle.model.specs.Image.{newest, headerStart, startValues, headerBytes, assetWidths, assetValues, assetBytes, limitsWidths}
+use Rattle.model.specs.Image.{limitsValues, metersWidths, metersValues, entryBytes, lastWidths, lastValues, openWidths, openValues}
+use Rattle.model.specs.Image.{playerBytes, headerSize, assetSize, entrySize, playerSize}
+
+-- ## The header
+
+unfoldable pub startBytes : ℕ → ℕ → ℕ → List ℕ
+startBytes assets entries time = laidOut headerStart (startValues newest assets entries time)
+
+pub start-shut : (assets entries time : ℕ) → laidOut headerStart (startValues newest assets entries time) ≡ startBytes assets entries time
+unfolding startBytes
+start-shut assets entries time = refl
+
+pub start-length : (assets entries time : ℕ) → length (startBytes assets entries time) ≡ headerSize newest
+unfolding startBytes headerSize
+start-length assets entries time = refl
+
+-- the start is the whole header as long as no version has added to it
+pub header-pieces : (assets entries : ℕ) (b : Book) → startBytes assets entries (b .time) ≡ headerBytes assets entries b
+unfolding startBytes headerBytes
+header-pieces assets entries b = refl
+
+pub header-length : (assets entries : ℕ) (b : Book) → length (headerBytes assets entries b) ≡ headerSize newest
+unfolding headerBytes headerSize
+header-length assets entries b = refl
+
+-- ## An asset
+
+pub asset-shut : (a : Asset) → laidOut (assetWidths newest) (assetValues a) ≡ assetBytes a
+unfolding assetBytes
+asset-shut a = refl
+
+pub asset-length : (a : Asset) → length (assetBytes a) ≡ assetSize newest
+unfolding assetBytes assetSize
+asset-length a = refl
+
+-- ## An entry, piece by piece
+
+unfoldable pub limitsBytes : Limits → List ℕ
+limitsBytes l = laidOut limitsWidths (limitsValues l)
+
+unfoldable pub metersBytes : Meters → List ℕ
+metersBytes m = laidOut metersWidths (metersValues m)
+
+pub limits-shut : (l : Limits) → laidOut limitsWidths (limitsValues l) ≡ limitsBytes l
+unfolding limitsBytes
+limits-shut l = refl
+
+pub meters-shut : (m : Meters) → laidOut metersWidths (metersValues m) ≡ metersBytes m
+unfolding metersBytes
+meters-shut m = refl
+
+pub limits-length : (l : Limits) → length (limitsBytes l) ≡ 34
+unfolding limitsBytes
+limits-length l = refl
+
+pub meters-length : (m : Meters) → length (metersBytes m) ≡ 17
+unfolding metersBytes
+meters-length m = refl
+
+-- the pieces one after the other are the entry
+pub entry-pieces : (e : Entry) → limitsBytes (e .limits) ++ metersBytes (e .meters) ≡ entryBytes e
+unfolding entryBytes limitsBytes metersBytes
+entry-pieces e = refl
+
+pub entry-length : (e : Entry) → length (entryBytes e) ≡ entrySize newest
+unfolding entryBytes entrySize
+entry-length e = refl
+
+-- ## A player, piece by piece
+
+unfoldable pub lastBytes : Last → List ℕ
+lastBytes l = laidOut lastWidths (lastValues l)
+
+unfoldable pub openBytes : Open → List ℕ
+openBytes o = laidOut openWidths (openValues o)
+
+pub last-shut : (l : Last) → laidOut lastWidths (lastValues l) ≡ lastBytes l
+unfolding lastBytes
+last-shut l = refl
+
+pub open-shut : (o : Open) → laidOut openWidths (openValues o) ≡ openBytes o
+unfolding openBytes
+open-shut o = refl
+
+pub last-length : (l : Last) → length (lastBytes l) ≡ 14
+unfolding lastBytes
+last-length l = refl
+
+pub open-length : (o : Open) → length (openBytes o) ≡ 10
+unfolding openBytes
+open-length o = refl
+
+pub player-pieces : (p : Player) → lastBytes (p .last) ++ openBytes (p .current) ≡ playerBytes p
+unfolding playerBytes lastBytes openBytes
+player-pieces p = refl
+
+pub player-length : (p : Player) → length (playerBytes p) ≡ playerSize newest
+unfolding playerBytes playerSize
+player-length p = refl

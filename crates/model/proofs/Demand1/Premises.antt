@@ -1,0 +1,84 @@
+-- What demand 1 says of records on an illegal book, and of a resend on a legal one: its premises can be met.
+use mathlib.Core.Path.{_≡_, refl}
+use Prim.Native.Nat.{ℕ}
+use mathlib.Core.List.{List, [], _∷_}
+use native.Mathlib.Omega.{arith}
+use Rattle.numbers.specs.Count.{listed}
+use Rattle.model.specs.Step.{stepRecord}
+use Rattle.model.specs.Demand1.{LegalRequest, begin, continue, stop, IsEvent, asker, Against, cut, no-player, no-request, unlike}
+use Rattle.model.specs.Demand1.{out-of-line, out-of-time, IsResend, IsTaken, TakenCode}
+use Rattle.model.proofs.Examples.AnswerCodes.{odd, bytes}
+use Rattle.model.proofs.Examples.Books.{greatest, greatest-legal}
+use Rattle.model.proofs.Demand1.Proof.{demand1}
+
+-- player 0 begins play of asset 1
+abbrev begins : ℕ → ℕ → List ℕ
+begins number time = bytes 0 number 1 1 1 time
+
+begin-event : (number time : ℕ) → IsEvent (begins number time)
+begin-event number time = record { whole = refl; player = omega arith; request = begin refl (omega arith) (omega arith) }
+
+-- ## Each of 1 to 6 has its ground
+
+pub six : Against odd [] 6
+six = cut refl (λ w. omega (arith, w))
+
+pub two : Against odd (bytes 16 5 9 0 0 100) 2
+two = no-player refl refl (omega arith)
+
+pub one : Against odd (bytes 0 5 4 1 1 100) 1
+one = no-request refl refl (omega arith) bad
+  where
+    bad : LegalRequest 4 1 1 → ⊥
+    bad (begin o l h) = omega (arith, o)
+    bad (continue o a k) = omega (arith, o)
+    bad (stop o a k) = omega (arith, o)
+
+pub four : Against odd (bytes 0 5 1 1 2 100) 4
+four =
+    unlike refl (record { whole = refl; player = omega arith; request = begin refl (omega arith) (omega arith) })
+    (record { not-none = omega arith; number = refl })
+    (λ r. omega (arith, r .kind))
+
+pub three : Against odd (begins 7 0) 3
+three = out-of-line refl (begin-event 7 0) (λ n. omega (arith, n .number)) (λ i. omega (arith, i .number))
+
+pub five : Against odd (begins 6 99) 5
+five = out-of-time refl (begin-event 6 99) (record { not-last = omega arith; number = refl }) (λ i. omega (arith, i .not-back))
+
+-- ## A resend and a taken event
+
+pub again : IsResend odd (begins 5 0)
+again = record {
+  event = begin-event 5 0;
+  number = record { not-none = omega arith; number = refl };
+  request = record { operation = refl; asset = refl; kind = refl };
+}
+
+pub takes : IsTaken odd (begins 6 100)
+takes = record {
+  event = begin-event 6 100;
+  line = record { not-last = omega arith; number = refl };
+  time = record { not-back = omega arith; not-late = omega arith };
+}
+
+-- the book after it: there are 16 players, so its last event is stored
+pub stored-last : asker (stepRecord odd (begins 6 100) .book) (begins 6 100) .last ≡
+    record { number = 6; operation = 1; asset = 1; kind = 1; answer = stepRecord odd (begins 6 100) .answer }
+stored-last = demand1 .records odd (begins 6 100) .taken takes .last refl
+
+-- ## A resend on a legal book: the greatest number
+
+abbrev last-again : List ℕ
+last-again = 3 ∷ 255 ∷ 255 ∷ 255 ∷ 255 ∷ 1 ∷ 255 ∷ 255 ∷ 5 ∷ 0 ∷ 0 ∷ 0 ∷ 0 ∷ []
+
+pub legal-again : IsResend greatest last-again
+unfolding greatest listed
+legal-again = record {
+  event = record { whole = refl; player = omega arith; request = begin refl (omega arith) (omega arith) };
+  number = record { not-none = omega arith; number = refl };
+  request = record { operation = refl; asset = refl; kind = refl };
+}
+
+pub legal-code : TakenCode (asker greatest last-again .last .answer .code)
+legal-code = demand1 .records greatest last-again .stored-code greatest-legal legal-again

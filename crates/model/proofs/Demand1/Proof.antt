@@ -1,0 +1,659 @@
+-- Demand 1 holds, for every book and every record.
+use mathlib.Core.Path.{_≡_, refl, sym, ap, _∙_, subst}
+use mathlib.Core.Logic.{_↔_, _⊎_, inl, inr}
+use Prim.Native.Nat.{ℕ, _+_, _≤_, _<_}
+use mathlib.Core.Bool.{Bool, true, false, not, _&&_, _||_, cond, or-false, and-false}
+use mathlib.Core.List.{List, map}
+use lib.ListN.{length, getD, length-map}
+use lib.Seq.{getD-set-same, getD-set-other}
+use lib.Dec.{leb, ltb, eqb}
+use native.Mathlib.Omega.{arith}
+use borrow.Author.Tests.{eqb-true, ltb-true, ltb-false, leb-true, leb-false, not-false, eq-eqb, ne-eqb, lt-ltb, le-ltb, le-leb}
+use Rattle.numbers.specs.Fields.{size}
+use Rattle.book.specs.declared.Answer.{Answer}
+use Rattle.book.specs.declared.Last.{Last}
+use Rattle.book.specs.declared.Entry.{Entry}
+use Rattle.book.specs.declared.Open.{Open}
+use Rattle.book.specs.declared.Player.{Player}
+use Rattle.book.specs.declared.Book.{Book}
+use Rattle.book.specs.declared.Event.{Event}
+use Rattle.book.specs.declared.Ask.{Ask}
+use Rattle.book.specs.declared.Outcome.{Outcome}
+use Rattle.book.specs.declared.Request.{Request}
+use Rattle.book.specs.declared.Request.the-variants.{Begin, Continue, Stop}
+use Rattle.book.specs.declared.Gate.{Gate}
+use Rattle.book.specs.declared.Gate.the-variants.{Refuse, Resend, Take}
+use Rattle.book.specs.Blank.{noEntry, noPlayer, noBook, closed}
+use Rattle.model.specs.Book.{limitsAt, metersAt, playerAt, latestTime, momentary, between, assetsLegal, entriesLegal, requestLegal}
+use Rattle.model.specs.Book.{takenCode, answerLegal, playersLegal, metersLegal, ruleBroken, Legal}
+use Rattle.model.specs.Image.{headerStart, newest, imageLength, Bytes, markIn, versionIn, assetCountIn, entryCountIn, timeIn}
+use Rattle.model.specs.Image.{headerBroken, readCode, readBook, bookIn}
+use Rattle.model.specs.Record.{kindNumber, operationNumber, requestAsset, requestKind, kindOf, requestOf, eventIn, decoded}
+use Rattle.model.specs.Gate.{sameRequest, sameNumber, gate}
+use Rattle.model.specs.Meters.{amend, isOn, expired, shut, settled}
+use Rattle.model.specs.Choice.{Catalog, catalogOf, usable, parentOf, own, suitable, grantable, suits, allowed, goesBefore, anyOf}
+use Rattle.model.specs.Choice.{choose, Choice, nobody, chosen, asks}
+use Rattle.model.specs.Step.{Done, unchanged, granted, doBegin, more, doContinue, doStop, done, openAt, noted, takenStep, stepBy}
+use Rattle.model.specs.Step.{step, arrive, stepRecord}
+use Rattle.model.specs.Demand1.{askedPlayer, askedNumber, askedOperation, askedAsset, askedKind, askedTime, LegalRequest, begin}
+use Rattle.model.specs.Demand1.{continue, stop, IsEvent, asker, SameNumber, SameRequest, InLine, InTime, Against, cut, no-player}
+use Rattle.model.specs.Demand1.{no-request, unlike, out-of-line, out-of-time, IsResend, IsTaken, Verdict, turned-away, resend, taken}
+use Rattle.model.specs.Demand1.{refused, TakenCode, Settles, settledEntries, LeavesSettled, Opens, Stored, TableCode, Answered}
+use Rattle.model.specs.Demand1.{ImageCode, IsImage, Demand1}
+use Rattle.model.proofs.Ledger.Facts.{on-test, on-same, clash, and-left, and-right, and-both}
+use Rattle.model.proofs.Ledger.Concrete.{Sure, choose-sound, shut-at}
+use Rattle.model.proofs.Ledger.WellFormed.{Static, step-static}
+use Rattle.model.proofs.Demand3.Checks.{gate-again, gate-4, gate-3, gate-5, gate-0, same-number, other-number, follows-line}
+use Rattle.model.proofs.Demand3.Checks.{line-follows, in-time, not-in-time}
+use Rattle.model.proofs.Legal.Rules.{stages-from, used-from}
+use Rattle.model.proofs.Image.Header.{header-passed, accepted-stages}
+use Rattle.model.proofs.Image.RoundTrip.{demand2}
+
+-- ## A legal request is its three numbers
+
+legal-test : (operation asset kind : ℕ) → LegalRequest operation asset kind → requestLegal operation asset kind ≡ true
+unfolding requestLegal
+legal-test operation asset kind (begin o l h) = rw (o, le-leb 1 kind l, le-leb kind 5 h)
+legal-test operation asset kind (continue o a k) = rw (o, a, k)
+legal-test operation asset kind (stop o a k) = rw (o, a, k)
+
+other-request : (operation asset kind : ℕ) → (operation ≡ 1 → ⊥) → requestLegal operation asset kind ≡ true → LegalRequest operation
+    asset kind
+unfolding requestLegal
+other-request operation asset kind n h =
+    let w : (between 2 3 operation && eqb asset 0 && eqb kind 0) ≡ true = rw (ne-eqb operation 1 n) at h in
+    let k : kind ≡ 0 = eqb-true kind 0 (and-right (between 2 3 operation && eqb asset 0) (eqb kind 0) w) in
+    let v : (between 2 3 operation && eqb asset 0) ≡ true = and-left (between 2 3 operation && eqb asset 0) (eqb kind 0) w in
+    let a : asset ≡ 0 = eqb-true asset 0 (and-right (between 2 3 operation) (eqb asset 0) v) in
+    let u : between 2 3 operation ≡ true = and-left (between 2 3 operation) (eqb asset 0) v in
+    let low : 2 ≤ operation = leb-true 2 operation (and-left (leb 2 operation) (leb operation 3) u) in
+    let high : operation ≤ 3 = leb-true operation 3 (and-right (leb 2 operation) (leb operation 3) u) in
+    on-same operation 2 (λ e. continue e a k) (λ e. stop (omega arith) a k)
+
+test-legal : (operation asset kind : ℕ) → requestLegal operation asset kind ≡ true → LegalRequest operation asset kind
+unfolding requestLegal
+test-legal operation asset kind h =
+    on-same operation 1
+    (λ e.
+    let w : between 1 5 kind ≡ true = sym (or-false (between 1 5 kind)) ∙ (rw e at h) in
+    begin e (leb-true 1 kind (and-left (leb 1 kind) (leb kind 5) w)) (leb-true kind 5 (and-right (leb 1 kind) (leb kind 5) w)))
+    (λ n. other-request operation asset kind n h)
+
+kind-number : (k : ℕ) → 1 ≤ k → k ≤ 5 → kindNumber (kindOf k) ≡ k
+unfolding kindOf
+kind-number k low high =
+    on-same k 1 (λ e. rw e) (λ n₁.
+    on-same k 2 (λ e. rw e) (λ n₂.
+    on-same k 3 (λ e. rw e) (λ n₃.
+    on-same k 4 (λ e. rw e) (λ n₄. rw (ne-eqb k 1 n₁, ne-eqb k 2 n₂, ne-eqb k 3 n₃, ne-eqb k 4 n₄) (omega arith)))))
+
+record Numbers (operation asset kind : ℕ) : Type 0 where
+  same-operation : operationNumber (requestOf operation asset kind) ≡ operation
+  same-asset : requestAsset (requestOf operation asset kind) ≡ asset
+  same-kind : requestKind (requestOf operation asset kind) ≡ kind
+
+numbers : (operation asset kind : ℕ) → LegalRequest operation asset kind → Numbers operation asset kind
+unfolding requestOf
+numbers operation asset kind (begin o l h) = rw o (record { same-operation = refl; same-asset = refl; same-kind = kind-number kind l h })
+numbers operation asset kind (continue o a k) = rw o (record { same-operation = refl; same-asset = sym a; same-kind = sym k })
+numbers operation asset kind (stop o a k) = rw o (record { same-operation = refl; same-asset = sym a; same-kind = sym k })
+
+-- ## What a taken event does, once all players are settled
+
+-- a code of 10 to 15 and nothing changed, or a grant that changes no entry but its own
+data Did (es : List Entry) (o : Open) (d : Done) : Type 0 where
+  kept : (code : ℕ) → 10 ≤ code → code ≤ 15 → d ≡ unchanged code es o → Did es o d
+  gave : d .answer .code ≡ 0 → ((i : ℕ) → (i ≡ d .answer .entry → ⊥) → getD (d .entries) i noEntry ≡ getD es i noEntry) → Did es o d
+
+begin-did : (c : Catalog) (es : List Entry) (o : Open) (t : Ask) (asset kind : ℕ) → Did es o (doBegin c es o t asset kind)
+unfolding doBegin amend
+begin-did c es o t asset kind =
+    on-test (isOn o) (λ q. rw q (kept 11 (omega arith) (omega arith) refl)) (λ q.
+    on-test (not (usable c asset)) (λ r. rw (q, r) (kept 10 (omega arith) (omega arith) refl)) (λ r.
+    on-test (not (anyOf (suits c es asset kind) (c .entryCount))) (λ u. rw (q, r, u) (kept 12 (omega arith) (omega arith) refl)) (λ u.
+    rw (q, r, u) (go _ (choose c es t asset kind)))))
+  where
+    go : (o′ : Open) (x : Choice) → Did es o′ (granted (t .time) es o′ x)
+    go o′ nobody = kept 13 (omega arith) (omega arith) refl
+    go o′ (chosen i) = gave refl (λ j n. getD-set-other es i j _ noEntry n)
+
+done-did : (q : Request) (c : Catalog) (es : List Entry) (o : Open) (t : Ask) → Did es o (done q c es o t)
+unfolding done doContinue doStop amend
+done-did (Begin kind asset) c es o t = begin-did c es o t asset (kindNumber kind)
+done-did Continue c es o t =
+    on-test (not (isOn o)) (λ q. rw q (kept 14 (omega arith) (omega arith) refl)) (λ q.
+    on-test (leb (more es o (t .time)) (o .until))
+    (λ r. rw (q, r) (kept 15 (omega arith) (omega arith) refl))
+    (λ r. rw (q, r) (gave refl (λ j n. getD-set-other es (o .entry) j _ noEntry n))))
+done-did Stop c es o t =
+    on-test (not (isOn o)) (λ q. rw q (kept 14 (omega arith) (omega arith) refl)) (λ q.
+    rw q (gave refl (λ j n. getD-set-other es (o .entry) j _ noEntry n)))
+
+did-code : {es : List Entry} {o : Open} {d : Done} → Did es o d → TakenCode (d .answer .code)
+did-code (kept code low high q) =
+    let c = ap (λ (x : Done). x .answer .code) q in
+    inr (omega (arith, low, c), omega (arith, high, c))
+did-code (gave z f) = inl z
+
+did-grants : {es : List Entry} {o : Open} {d : Done} → Did es o d → d .answer .code ≡ 0
+    → (i : ℕ) → (i ≡ d .answer .entry → ⊥) → getD (d .entries) i noEntry ≡ getD es i noEntry
+did-grants (kept code low high q) z = absurd (omega (arith, z, low, ap (λ (x : Done). x .answer .code) q))
+did-grants (gave z f) y = f
+
+did-refuses : {es : List Entry} {o : Open} {d : Done} → Did es o d → (d .answer .code ≡ 0 → ⊥) → d ≡ unchanged (d .answer .code) es o
+did-refuses {es} {o} {d} (kept code low high q) n = subst (λ (x : Done). x ≡ unchanged (x .answer .code) es o) (sym q) refl
+did-refuses (gave z f) n = absurd (n z)
+
+-- ## What a grant opens
+
+no-code : (n : ℕ) → 0 < n → n ≡ 0 → ⊥
+no-code n h x = omega arith
+
+kind-momentary : (k : ℕ) → 4 ≤ k → k ≤ 5 → momentary k ≡ true
+unfolding momentary
+kind-momentary k low high = and-both (le-leb 4 k low) (le-leb k 5 high)
+
+kind-runs : (k : ℕ) → k ≤ 3 → momentary k ≡ false
+unfolding momentary
+kind-runs k h = on-test (leb 4 k) (λ q. absurd (omega (arith, leb-true 4 k q, h))) (λ q. rw q)
+
+record Opened (o : Open) (t kind : ℕ) (d : Done) : Type 0 where
+  runs : kind ≤ 3 → d .current ≡ record { on = 1; entry = d .answer .entry; begin = t; until = d .answer .until }
+  moment : 4 ≤ kind → kind ≤ 5 → d .current ≡ o
+
+begin-opens : (c : Catalog) (es : List Entry) (o : Open) (t : Ask) (asset kind : ℕ) → doBegin c es o t asset kind .answer .code ≡ 0
+    → Opened o (t .time) kind (doBegin c es o t asset kind)
+unfolding doBegin choose suitable
+begin-opens c es o t asset kind z =
+    on-test (isOn o) (λ q. absurd (no-code 11 (omega arith) (rw q at z))) (λ q.
+    on-test (not (usable c asset)) (λ r. absurd (no-code 10 (omega arith) (rw (q, r) at z))) (λ r.
+    on-test (not (anyOf (suits c es asset kind) (c .entryCount))) (λ u. absurd (no-code 12 (omega arith) (rw (q, r, u) at z))) (λ u.
+    rw (q, r, u) (go _ (choose c es t asset kind) refl (rw (q, r, u) at z)))))
+  where
+    go : (o′ : Open) (x : Choice) → choose c es t asset kind ≡ x → granted (t .time) es o′ x .answer .code ≡ 0 → Opened o′ (t .time)
+        kind (granted (t .time) es o′ x)
+    go o′ nobody e y = absurd (no-code 13 (omega arith) y)
+    go o′ (chosen i) e y =
+        let s : Sure (allowed c es t asset kind) (c .entryCount) i = choose-sound _ (goesBefore es asset) (c .entryCount) i e in
+        let a : suits c es asset kind i ≡ true = and-left (suits c es asset kind i) (grantable t (limitsAt es i) (metersAt es i))
+        (s .passes) in
+        let k : limitsAt es i .kind ≡ kind = eqb-true _ kind (and-left (eqb (limitsAt es i .kind) kind)
+        (own asset (limitsAt es i) || (not (eqb (parentOf c asset) 0) && eqb (limitsAt es i .asset) (parentOf c asset))) a) in
+        record {
+          runs = λ h. rw (ap momentary k ∙ kind-runs kind h);
+          moment = λ low high. rw (ap momentary k ∙ kind-momentary kind low high);
+        }
+
+continue-opens : (es : List Entry) (o : Open) (t : ℕ) → doContinue es o t .answer .code ≡ 0
+    → (isOn o ≡ true) × (doContinue es o t .current ≡ record {
+      on = 1;
+      entry = doContinue es o t .answer .entry;
+      begin = o .begin;
+      until
+          = doContinue es o t .answer .until;
+    })
+unfolding doContinue
+continue-opens es o t z =
+    on-test (not (isOn o)) (λ q. absurd (no-code 14 (omega arith) (rw q at z))) (λ q.
+    on-test (leb (more es o t) (o .until)) (λ r. absurd (no-code 15 (omega arith) (rw (q, r) at z))) (λ r.
+    (not-false (isOn o) q, rw (q, r))))
+
+stop-opens : (es : List Entry) (o : Open) (t : ℕ) → doStop es o t .answer .code ≡ 0 → doStop es o t .current ≡ closed
+unfolding doStop
+stop-opens es o t z =
+    on-test (not (isOn o)) (λ q. absurd (no-code 14 (omega arith) (rw q at z))) (λ q. rw q)
+
+-- ## A player settled, in words
+
+shut-settles : (t : ℕ) (p : Player) → Settles t (p .current) (shut t p .current)
+unfolding shut expired
+shut-settles t p = record {
+  ends = λ on over. rw (eq-eqb (p .current .on) 1 on, le-leb (p .current .until) t over);
+  stays = λ runs.
+      on-same (p .current .on) 1
+      (λ on. rw (le-leb-not (p .current .until) t (runs on), eq-eqb (p .current .on) 1 on))
+      (λ off. rw (ne-eqb (p .current .on) 1 off));
+}
+  where
+    le-leb-not : (u v : ℕ) → v < u → leb u v ≡ false
+    le-leb-not u v h = on-test (leb u v) (λ q. absurd (omega (arith, leb-true u v q, h))) (λ q. q)
+
+shut-on : (t : ℕ) (p : Player) → isOn (shut t p .current) ≡ true → shut t p .current ≡ p .current
+unfolding shut
+shut-on t p h = on-test (expired t (p .current)) (λ q. let w : false ≡ true = rw q at h in clash refl (sym w)) (λ q. rw q)
+
+-- a code by its test
+test-code : (c : ℕ) → takenCode c ≡ true → TakenCode c
+unfolding takenCode
+test-code c h =
+    on-same c 0
+    (λ z. inl z)
+    (λ z.
+    let w : between 10 15 c ≡ true = rw (ne-eqb c 0 z) at h in
+    inr (leb-true 10 c (and-left (leb 10 c) (leb c 15) w), leb-true c 15 (and-right (leb 10 c) (leb c 15) w)))
+
+-- a stage of the reader
+stage : (t : Bool) (c x : ℕ) → 20 ≤ c → c ≤ 27 → ImageCode x → ImageCode (cond t c x)
+stage true c x low high h = inr (low, high)
+stage false c x low high h = h
+
+-- ## A record
+
+module _ (b : Book) (s : List ℕ) where
+  abbrev e : Event
+  e = eventIn s
+
+  abbrev l : Last
+  l = asker b s .last
+
+  -- the answer to a list that is no event
+  cut-away : (length s ≡ 13 → ⊥) → stepRecord b s ≡ record { answer = refused 6; book = b }
+  unfolding stepRecord arrive decoded
+  cut-away n = rw (ne-eqb (length s) 13 n)
+
+  player-away : length s ≡ 13 → 15 < askedPlayer s → stepRecord b s ≡ record { answer = refused 2; book = b }
+  unfolding stepRecord arrive decoded
+  player-away w p = rw (eq-eqb (length s) 13 w, lt-ltb 15 (askedPlayer s) p)
+
+  request-away : length s ≡ 13 → askedPlayer s ≤ 15 → (LegalRequest (askedOperation s) (askedAsset s) (askedKind s) → ⊥)
+      → stepRecord b s ≡ record { answer = refused 1; book = b }
+  unfolding stepRecord arrive decoded
+  request-away w p n =
+      let q : requestLegal (askedOperation s) (askedAsset s) (askedKind s) ≡ false =
+      on-test (requestLegal (askedOperation s) (askedAsset s) (askedKind s))
+      (λ r. absurd (n (test-legal (askedOperation s) (askedAsset s) (askedKind s) r))) (λ r. r) in
+      rw (eq-eqb (length s) 13 w, le-ltb 15 (askedPlayer s) p, q)
+
+  -- a list that is an event takes the step
+  event-is : IsEvent s → stepRecord b s ≡ step b e
+  unfolding stepRecord arrive decoded
+  event-is v = rw (
+    eq-eqb (length s) 13 (v .whole),
+    le-ltb 15 (askedPlayer s) (v .player),
+    legal-test (askedOperation s) (askedAsset s)
+        (askedKind s) (v .request),
+  )
+
+  gated : IsEvent s → (g : Gate) → gate (b .time) l e ≡ g → stepRecord b s ≡ stepBy g b e
+  unfolding step eventIn
+  gated v g q = event-is v ∙ ap (λ (x : Gate). stepBy x b e) q
+
+  -- ## The checks in words
+
+  same-test : IsEvent s → sameRequest l (e .request) ≡ (eqb (askedOperation s) (l .operation) && eqb (askedAsset s) (l .asset) && eqb
+      (askedKind s) (l .kind))
+  unfolding sameRequest eventIn
+  same-test v =
+      let n = numbers (askedOperation s) (askedAsset s) (askedKind s) (v .request) in
+      rw (n .same-operation, n .same-asset, n .same-kind)
+
+  same-request : IsEvent s → SameRequest b s → sameRequest l (e .request) ≡ true
+  same-request v r =
+      same-test v ∙ and-both (and-both (eq-eqb (askedOperation s) (l .operation) (r .operation))
+      (eq-eqb (askedAsset s) (l .asset) (r .asset))) (eq-eqb (askedKind s) (l .kind) (r .kind))
+
+  request-same : IsEvent s → sameRequest l (e .request) ≡ true → SameRequest b s
+  request-same v q =
+      let w : (eqb (askedOperation s) (l .operation) && eqb (askedAsset s) (l .asset) && eqb (askedKind s) (l .kind)) ≡ true = sym
+      (same-test v) ∙ q in
+      let u : (eqb (askedOperation s) (l .operation) && eqb (askedAsset s) (l .asset)) ≡ true = and-left
+      (eqb (askedOperation s) (l .operation) && eqb (askedAsset s) (l .asset)) (eqb (askedKind s) (l .kind)) w in
+      record {
+        operation = eqb-true _ _ (and-left (eqb (askedOperation s) (l .operation)) (eqb (askedAsset s) (l .asset)) u);
+        asset = eqb-true _ _ (and-right (eqb (askedOperation s) (l .operation)) (eqb (askedAsset s) (l .asset)) u);
+        kind = eqb-true _ _ (and-right (eqb (askedOperation s) (l .operation) && eqb (askedAsset s) (l .asset))
+            (eqb (askedKind s) (l .kind)) w);
+      }
+
+  other-line : InLine b s → sameNumber l (askedNumber s) ≡ false
+  other-line i = other-number l (askedNumber s) (λ p q. omega (arith, q, i .number))
+
+  unlike-away : IsEvent s → SameNumber b s → (SameRequest b s → ⊥) → stepRecord b s ≡ record { answer = refused 4; book = b }
+  unfolding stepBy eventIn
+  unlike-away v n d =
+      let r : sameRequest l (e .request) ≡ false = on-test (sameRequest l (e .request)) (λ q. absurd (d (request-same v q))) (λ q. q) in
+      gated v (Refuse 4) (gate-4 (b .time) l e (v .player) (same-number l (askedNumber s) (n .not-none) (n .number))
+      (rw r (and-false (sameNumber l (askedNumber s)))))
+
+  line-away : IsEvent s → (SameNumber b s → ⊥) → (InLine b s → ⊥) → stepRecord b s ≡ record { answer = refused 3; book = b }
+  unfolding stepBy eventIn
+  line-away v n d =
+      gated v (Refuse 3)
+      (gate-3 (b .time) l e (v .player)
+      (other-number l (askedNumber s) (λ p q. n (record { not-none = p; number = q })))
+      (line-follows l (askedNumber s) (λ p q. d (record { not-last = p; number = q }))))
+
+  time-away : IsEvent s → InLine b s → (InTime b s → ⊥) → stepRecord b s ≡ record { answer = refused 5; book = b }
+  unfolding stepBy eventIn
+  time-away v i d =
+      gated v (Refuse 5)
+      (gate-5 (b .time) l e (v .player) (other-line i) (follows-line l (askedNumber s) (i .not-last) (i .number))
+      (not-in-time (b .time) (askedTime s) (λ p q. d (record { not-back = p; not-late = q }))))
+
+  away : (code : ℕ) → Against b s code → stepRecord b s ≡ record { answer = refused code; book = b }
+  away code (cut c n) = rw c (cut-away n)
+  away code (no-player c w p) = rw c (player-away w p)
+  away code (no-request c w p n) = rw c (request-away w p n)
+  away code (unlike c v n d) = rw c (unlike-away v n d)
+  away code (out-of-line c v n d) = rw c (line-away v n d)
+  away code (out-of-time c v i d) = rw c (time-away v i d)
+
+  resent : IsResend b s → stepRecord b s ≡ record { answer = l .answer; book = b }
+  unfolding stepBy eventIn
+  resent r =
+      gated (r .event) Resend
+      (gate-again (b .time) l e (r .event .player) (and-both (same-number l (askedNumber s) (r .number .not-none) (r .number .number))
+      (same-request (r .event) (r .request))))
+
+  takes : IsTaken b s → gate (b .time) l e ≡ Take
+  unfolding eventIn
+  takes t =
+      gate-0 (b .time) l e (t .event .player) (other-line (t .line)) (follows-line l (askedNumber s) (t .line .not-last) (t .line .number))
+      (in-time (b .time) (askedTime s) (t .time .not-back) (t .time .not-late))
+
+  -- ## One of the three
+
+  number-or : SameNumber b s ⊎ (SameNumber b s → ⊥)
+  number-or =
+      on-same (l .number) 0
+      (λ z. inr (λ n. omega (arith, n .not-none, z)))
+      (λ z. on-same (askedNumber s) (l .number) (λ q. inl (record { not-none = omega arith; number = q })) (λ q. inr (λ n. q (n .number))))
+
+  line-or : InLine b s ⊎ (InLine b s → ⊥)
+  line-or =
+      on-test (ltb (l .number) 4294967295)
+      (λ z. on-same (askedNumber s) (l .number + 1) (λ q. inl (record { not-last = ltb-true (l .number) 4294967295 z; number = q }))
+      (λ q. inr (λ i. q (i .number))))
+      (λ z. inr (λ i. omega (arith, i .not-last, ltb-false (l .number) 4294967295 z)))
+
+  time-or : InTime b s ⊎ (InTime b s → ⊥)
+  time-or =
+      on-test (leb (b .time) (askedTime s))
+      (λ z. on-test (leb (askedTime s) 4000000000)
+      (λ y. inl (record { not-back = leb-true (b .time) (askedTime s) z; not-late = leb-true (askedTime s) 4000000000 y }))
+      (λ y. inr (λ i. omega (arith, i .not-late, leb-false (askedTime s) 4000000000 y))))
+      (λ z. inr (λ i. omega (arith, i .not-back, leb-false (b .time) (askedTime s) z)))
+
+  event-verdict : IsEvent s → Verdict b s
+  event-verdict v = numbered number-or
+    where
+      timed : InLine b s → InTime b s ⊎ (InTime b s → ⊥) → Verdict b s
+      timed i (inl t) = taken (record { event = v; line = i; time = t })
+      timed i (inr n) = turned-away 5 (out-of-time refl v i n)
+
+      lined : (SameNumber b s → ⊥) → InLine b s ⊎ (InLine b s → ⊥) → Verdict b s
+      lined n (inl i) = timed i time-or
+      lined n (inr d) = turned-away 3 (out-of-line refl v n d)
+
+      numbered : SameNumber b s ⊎ (SameNumber b s → ⊥) → Verdict b s
+      numbered (inl n) =
+          on-test (sameRequest l (e .request))
+          (λ q. resend (record { event = v; number = n; request = request-same v q }))
+          (λ q. turned-away 4 (unlike refl v n (λ r. clash (same-request v r) q)))
+      numbered (inr n) = lined n line-or
+
+  verdict : Verdict b s
+  verdict =
+      on-same (length s) 13
+      (λ w. on-test (ltb 15 (askedPlayer s))
+      (λ p. turned-away 2 (no-player refl w (ltb-true 15 (askedPlayer s) p)))
+      (λ p. on-test (requestLegal (askedOperation s) (askedAsset s) (askedKind s))
+      (λ r. event-verdict (record {
+        whole = w;
+        player = ltb-false 15 (askedPlayer s) p;
+        request = test-legal (askedOperation s)
+            (askedAsset s) (askedKind s) r;
+      }))
+      (λ r. turned-away 1 (no-request refl w (ltb-false 15 (askedPlayer s) p)
+      (λ y. clash (legal-test (askedOperation s) (askedAsset s) (askedKind s) y) r)))))
+      (λ n. turned-away 6 (cut refl n))
+
+  -- ## What is stored
+
+  module _ (t : IsTaken b s) where
+    abbrev ps : List Player
+    ps = map (shut (askedTime s)) (b .players)
+
+    abbrev es : List Entry
+    es = settledEntries b s
+
+    abbrev o : Open
+    o = openAt ps (askedPlayer s)
+
+    abbrev d : Done
+    d = done (e .request) (catalogOf b) es o (asks e)
+
+    abbrev new : Outcome
+    new = takenStep b e
+
+    new-is : stepRecord b s ≡ new
+    unfolding stepBy
+    new-is = gated (t .event) Take (takes t)
+
+    static : Static b (new .book)
+    unfolding step stepBy eventIn
+    static = subst (λ (g : Gate). Static b (stepBy g b e .book)) (takes t) (step-static b e)
+
+    own-record : length (b .players) ≡ 16 → asker (new .book) s ≡ record { last = noted e (d .answer); current = d .current }
+    unfolding takenStep eventIn
+    own-record n =
+        getD-set-same ps (askedPlayer s) (record { last = noted e (d .answer); current = d .current }) noPlayer
+        (omega (arith, length-map (b .players) (shut (askedTime s)), n, t .event .player))
+
+    other-record : (p : ℕ) → (p ≡ askedPlayer s → ⊥) → playerAt (new .book .players) p ≡ shut (askedTime s) (playerAt (b .players) p)
+    unfolding takenStep eventIn
+    other-record p n = getD-set-other ps (askedPlayer s) p (record { last = noted e (d .answer); current = d .current }) noPlayer n ∙
+        shut-at (askedTime s) (b .players) p
+
+    own-settles : Settles (askedTime s) (asker b s .current) o
+    own-settles = subst (λ (p : Player). Settles (askedTime s) (asker b s .current) (p .current))
+        (sym (shut-at (askedTime s) (b .players) (askedPlayer s))) (shut-settles (askedTime s) (asker b s))
+
+    last-stored : (a : Answer) → noted e a ≡ record {
+      number = askedNumber s;
+      operation = askedOperation s;
+      asset = askedAsset s;
+      kind =
+          askedKind s;
+      answer = a;
+    }
+    unfolding eventIn
+    last-stored a =
+        let n = numbers (askedOperation s) (askedAsset s) (askedKind s) (t .event .request) in
+        λ i. record { number = askedNumber s; operation = n .same-operation i; asset = n .same-asset i; kind = n .same-kind i; answer = a }
+
+    did : Did es o d
+    did = done-did (e .request) (catalogOf b) es o (asks e)
+
+    leaves : (d .answer .code ≡ 0 → ⊥) → LeavesSettled b s new
+    unfolding takenStep eventIn
+    leaves n =
+        let q = did-refuses did n in
+        record {
+          answer = ap (λ (x : Done). x .answer) q;
+          entries = ap (λ (x : Done). x .entries) q;
+          current = λ k.
+              subst (Settles (askedTime s) (asker b s .current))
+              (sym (ap (λ (x : Player). x .current) (own-record k) ∙ ap (λ (x : Done). x .current) q))
+              own-settles;
+        }
+
+    -- the operation by its number
+    done-as : (q : Request) → e .request ≡ q → d ≡ done q (catalogOf b) es o (asks e)
+    done-as q x = ap (λ (y : Request). done y (catalogOf b) es o (asks e)) x
+
+    begin-kind : askedOperation s ≡ 1 → (1 ≤ askedKind s) × (askedKind s ≤ 5)
+    begin-kind h = go (t .event .request)
+      where
+        go : LegalRequest (askedOperation s) (askedAsset s) (askedKind s) → (1 ≤ askedKind s) × (askedKind s ≤ 5)
+        go (begin x low high) = (low, high)
+        go (continue x a k) = absurd (omega (arith, h, x))
+        go (stop x a k) = absurd (omega (arith, h, x))
+
+    opened : askedOperation s ≡ 1 → d .answer .code ≡ 0 → Opened o (askedTime s) (askedKind s) d
+    unfolding eventIn requestOf done
+    opened h z =
+        let k : kindNumber (kindOf (askedKind s)) ≡ askedKind s = kind-number (askedKind s) (begin-kind h .0) (begin-kind h .1) in
+        let q : d ≡ doBegin (catalogOf b) es o (asks e) (askedAsset s) (askedKind s) = done-as
+        (Begin (kindOf (askedKind s)) (askedAsset s)) (rw h) ∙ rw k in
+        subst (Opened o (askedTime s) (askedKind s)) (sym q)
+        (begin-opens (catalogOf b) es o (asks e) (askedAsset s) (askedKind s) (sym (ap (λ (x : Done). x .answer .code) q) ∙ z))
+
+    lengthened : askedOperation s ≡ 2 → d .answer .code ≡ 0
+        → d .current ≡ record { on = 1; entry = d .answer .entry; begin = asker b s .current .begin; until = d .answer .until }
+    unfolding eventIn requestOf done
+    lengthened h z =
+        let q : d ≡ doContinue es o (askedTime s) = done-as Continue (rw h) in
+        let y = continue-opens es o (askedTime s) (sym (ap (λ (x : Done). x .answer .code) q) ∙ z) in
+        let was : o .begin ≡ asker b s .current .begin =
+        ap (λ (x : Open). x .begin)
+        (ap (λ (x : Player). x .current) (shut-at (askedTime s) (b .players) (askedPlayer s)) ∙
+        shut-on (askedTime s) (asker b s) (ap (λ (x : Player). isOn (x .current))
+        (sym (shut-at (askedTime s) (b .players) (askedPlayer s))) ∙ y .0)) in
+        subst (λ (x : Done). x .current ≡ record {
+          on = 1;
+          entry = x .answer .entry;
+          begin = asker b s .current .begin;
+          until = x
+              .answer .until;
+        }) (sym q)
+        (rw (← was) (y .1))
+
+    halted : askedOperation s ≡ 3 → d .answer .code ≡ 0 → d .current ≡ closed
+    unfolding eventIn requestOf done
+    halted h z =
+        let q : d ≡ doStop es o (askedTime s) = done-as Stop (rw h) in
+        ap (λ (x : Done). x .current) q ∙ stop-opens es o (askedTime s) (sym (ap (λ (x : Done). x .answer .code) q) ∙ z)
+
+    opens : d .answer .code ≡ 0 → length (b .players) ≡ 16 → Opens b s new
+    unfolding takenStep eventIn
+    opens z k =
+        let own-current : asker (new .book) s .current ≡ d .current = ap (λ (x : Player). x .current) (own-record k) in
+        record {
+          begun = λ h low. own-current ∙ opened h z .runs low;
+          momentary = λ h high. subst (Settles (askedTime s) (asker b s .current))
+              (sym (own-current ∙ opened h z .moment high (begin-kind h .1))) own-settles;
+          continued = λ h. own-current ∙ lengthened h z;
+          stopped = λ h. own-current ∙ halted h z;
+        }
+
+    stores : Stored b s new
+    unfolding takenStep eventIn shut
+    stores = record {
+      last = λ n. ap (λ (x : Player). x .last) (own-record n) ∙ last-stored (d .answer);
+      time = refl;
+      lasts = λ p n. ap (λ (x : Player). x .last) (other-record p n);
+      currents = λ p n.
+          subst (λ (x : Player). Settles (askedTime s) (playerAt (b .players) p .current) (x .current)) (sym (other-record p n))
+          (shut-settles (askedTime s) (playerAt (b .players) p));
+      assets = static .assets;
+      assetcount = static .assetcount;
+      entrycount = static .entrycount;
+      limits = static .limits;
+      entrySlots = static .entries;
+      playerSlots = static .players;
+      code = did-code did;
+      grants = did-grants did;
+      opens = opens;
+      refuses = leaves;
+    }
+
+  -- ## The whole
+
+  against-range : (code : ℕ) → Against b s code → (1 ≤ code) × (code ≤ 6)
+  against-range code (cut c n) = (omega arith, omega arith)
+  against-range code (no-player c w p) = (omega arith, omega arith)
+  against-range code (no-request c w p n) = (omega arith, omega arith)
+  against-range code (unlike c v n r) = (omega arith, omega arith)
+  against-range code (out-of-line c v n i) = (omega arith, omega arith)
+  against-range code (out-of-time c v i n) = (omega arith, omega arith)
+
+  only : (code : ℕ) → 1 ≤ code → code ≤ 6 → stepRecord b s .answer .code ≡ code → (IsResend b s → ⊥) → Against b s code
+  only code low high x n = go verdict
+    where
+      taken-not : TakenCode (stepRecord b s .answer .code) → ⊥
+      taken-not (inl z) = omega (arith, z, x, low)
+      taken-not (inr z) = omega (arith, z .0, x, high)
+
+      go : Verdict b s → Against b s code
+      go (turned-away c y) = subst (Against b s) (sym (ap (λ (o : Outcome). o .answer .code) (away c y)) ∙ x) y
+      go (resend r) = absurd (n r)
+      go (taken t) = absurd (taken-not (subst (λ (o : Outcome). TakenCode (o .answer .code)) (sym (new-is t)) (stores t .code)))
+
+  stored-code : Legal b → IsResend b s → TakenCode (l .answer .code)
+  unfolding answerLegal
+  stored-code g r =
+      let w =
+      used-from b (asker b s) (ne-eqb (l .number) 0 (λ z. omega (arith, z, r .number .not-none)))
+      (stages-from b (g .rules) .players (askedPlayer s) (omega (arith, r .event .player))) in
+      test-code (l .answer .code) (and-left (takenCode (l .answer .code)) _ (w .1 .0))
+
+  code-range : (IsResend b s → Legal b) → TableCode (stepRecord b s .answer .code)
+  code-range g = go verdict
+    where
+      in-table : (o : Outcome) → TakenCode (o .answer .code) → TableCode (o .answer .code)
+      in-table o (inl z) = inl (omega (arith, z))
+      in-table o (inr z) = inr z
+
+      go : Verdict b s → TableCode (stepRecord b s .answer .code)
+      go (turned-away c y) = rw (away c y) (inl (against-range c y .1))
+      go (resend r) = rw (resent r) (in-table (record { answer = l .answer; book = b }) (stored-code (g r) r))
+      go (taken t) = rw (new-is t) (in-table (new t) (stores t .code))
+
+  answered : Answered b s
+  answered = record {
+    verdict = verdict;
+    turned-away = away;
+    only = only;
+    again = resent;
+    stored-code = stored-code;
+    taken = λ t. subst (Stored b s) (sym (new-is t)) (stores t);
+    code = code-range;
+  }
+
+-- ## Images
+
+header-code : (s : List ℕ) → ImageCode (headerBroken s)
+unfolding headerBroken
+header-code s =
+    stage (ltb (length s) (size headerStart)) 20 _ (omega arith) (omega arith)
+    (stage (not (markIn s)) 21 _ (omega arith) (omega arith)
+    (stage (not (between 1 newest (versionIn s))) 22 _ (omega arith) (omega arith)
+    (stage (ltb 64 (assetCountIn s) || ltb 64 (entryCountIn s) || ltb latestTime (timeIn s)) 23 _ (omega arith) (omega arith)
+    (stage (not (eqb (length s) (imageLength (versionIn s) (assetCountIn s) (entryCountIn s)))) 20 _ (omega arith) (omega arith)
+    (inl refl)))))
+
+rule-code : (b : Book) → ImageCode (ruleBroken b)
+unfolding ruleBroken
+rule-code b =
+    stage (not (assetsLegal b)) 24 _ (omega arith) (omega arith)
+    (stage (not (entriesLegal b)) 25 _ (omega arith) (omega arith)
+    (stage (not (playersLegal b)) 26 _ (omega arith) (omega arith)
+    (stage (not (metersLegal b)) 27 _ (omega arith) (omega arith)
+    (inl refl))))
+
+image-code : (s : List ℕ) → ImageCode (readCode s)
+unfolding readCode
+image-code s = on-test (eqb (headerBroken s) 0) (λ q. rw q (rule-code (bookIn s))) (λ q. rw q (header-code s))
+
+versions : (s : List ℕ) → readCode s ≡ 0 → (1 ≤ versionIn s) × (versionIn s ≤ newest)
+versions s z = let p = header-passed s (accepted-stages s z .0) in (p .oldest, p .known)
+
+accepted : (s : List ℕ) → Bytes s → (readCode s ≡ 0) × (versionIn s ≡ newest) ↔ IsImage s
+accepted s h = (
+  λ (z, v). record {
+    book = readBook noBook s;
+    legal = demand2 .acceptedLegal noBook s h z .0;
+    typed = demand2 .acceptedLegal noBook s h z .1;
+    bytes = demand2 .writesBack noBook s h z v;
+  },
+  λ i. (
+    sym (ap readCode (i .bytes)) ∙ demand2 .readsBack noBook (i .book) (i .legal) (i .typed) .0,
+    sym (ap versionIn (i .bytes)) ∙ demand2 .newestWritten (i .book) (i .legal),
+  ),
+)
+
+-- ## Demand 1
+
+pub demand1 : Demand1
+demand1 = record { records = answered; images = image-code; versions = versions; accepted = accepted }

@@ -1,0 +1,9 @@
+-- Demand 3 for every list of events.
+pub mod Checks
+pub mod Suitable
+pub mod Choice
+pub mod Until
+pub mod History
+pub mod Current
+pub mod Proof
+pub mod Premises

@@ -1,0 +1,298 @@
+-- What holds of every list of events: the invariant after it, hence the limits, and the answers from the ledger alone.
+-- Resends struck out leave the other answers and the book as they were.
+use mathlib.Core.Path.{_≡_, refl, sym, ap, _∙_}
+use Prim.Native.Nat.{ℕ, zero, suc, _+_, _≤_, zero-le}
+use mathlib.Core.Bool.{Bool, true, false, and-false}
+use mathlib.Core.List.{List, [], _∷_, map}
+use mathlib.Core.Option.{Option, none, some, Option·none-ne-some}
+use lib.ListN.{length}
+use lib.Seq.{ext-getD}
+use lib.Dec.{eqb}
+use native.Mathlib.Omega.{arith}
+use native.Mathlib.Nat.{add-zero, zero-add}
+use Rattle.numbers.specs.Count.{one}
+use Rattle.book.specs.declared.Limits.{Limits}
+use Rattle.book.specs.declared.Meters.{Meters}
+use Rattle.book.specs.declared.Entry.{Entry}
+use Rattle.book.specs.declared.Answer.{Answer}
+use Rattle.book.specs.declared.Last.{Last}
+use Rattle.book.specs.declared.Open.{Open}
+use Rattle.book.specs.declared.Player.{Player}
+use Rattle.book.specs.declared.Book.{Book}
+use Rattle.book.specs.declared.Event.{Event}
+use Rattle.book.specs.declared.Decoded.{Decoded}
+use Rattle.book.specs.declared.Decoded.the-variants.{Invalid, Valid}
+use Rattle.book.specs.declared.Gate.{Gate}
+use Rattle.book.specs.declared.Gate.the-variants.{Refuse, Resend, Take}
+use Rattle.book.specs.Blank.{noLimits, noMeters, noEntry}
+use Rattle.model.specs.Book.{limitsAt, metersAt, flagged, Fresh}
+use Rattle.model.specs.Choice.{asks, Catalog, catalogOf}
+use Rattle.model.specs.Meters.{where-flagged, settled}
+use Rattle.model.specs.Step.{done, lastAt, openAt, takenStep, stepBy, step, arrive, stepRecord}
+use Rattle.model.specs.Gate.{gate}
+use Rattle.model.specs.Record.{decoded}
+use Rattle.model.specs.Ledger.{Use, Account, empty, latestTaken, resent, timeOf, latest, sumOf, counts, countsTimed, countsSeconds}
+use Rattle.model.specs.Ledger.{earliest, sooner, noteArrival}
+use Rattle.model.specs.Demand3.{State, advance, after, Every, startOr, isSome, figures, filledFrom, filled, UseInside, Limited}
+use Rattle.model.specs.Demand3.{isResend, struck, kept, heldIn, lastOf, predictBy, predict, predicted}
+use Rattle.model.specs.History.{answers, final, recordAnswers, recordFinal}
+use Rattle.model.proofs.Ledger.Facts.{on-test, clash, eqb-self, flag-on, meters-path}
+use Rattle.model.proofs.Ledger.Sums.{all-both}
+use Rattle.model.proofs.Ledger.Invariant.{Invariant, Sound, Spanned, Dated, all-earliest}
+use Rattle.model.proofs.Ledger.Concrete.{settled-held, settled-limits, settled-size}
+use Rattle.model.proofs.Ledger.WellFormed.{WellFormed, Static, static-self, static-trans, catalog-static, arrive-static}
+use Rattle.model.proofs.Ledger.Steps.{Inv, gate-take, resent-is, note-skip, arrive-keeps}
+
+-- ## The invariant holds after every list
+
+flag-zero : (f : Bool) → 0 ≡ where-flagged f 0
+flag-zero true = refl
+flag-zero false = refl
+
+figures-none : (at : ℕ → ℕ) (i : ℕ) (l : Limits) → noMeters ≡ figures at [] i l
+unfolding figures sumOf earliest
+figures-none at i l = meters-path (flag-zero (flagged 1 l)) (flag-zero (flagged 2 l)) (ap one (sym (and-false (flagged 16 l))))
+    (flag-zero (flagged 16 l)) (flag-zero (flagged 32 l))
+
+pub fresh-inv : (b : Book) → WellFormed b → Fresh b → Inv b empty
+unfolding timeOf latestTaken latest
+fresh-inv b g f = record {
+  time = f .time;
+  lasts = λ p. ap (λ (x : Player). x .last) (f .players p);
+  numbered = λ p x e. absurd (Option·none-ne-some x e);
+  held = record {
+    opens = λ p. ap (λ (x : Player). x .current) (f .players p);
+    meters = λ i. f .meters i ∙ figures-none _ i _;
+    tidy = tt;
+    sound = tt;
+    spans = tt;
+    within = λ i. rw (f .meters i) (record { count = λ x. zero-le; timed = λ x. zero-le; seconds = λ x. zero-le });
+  };
+  formed = g;
+}
+
+pub after-inv : (ds : List Decoded) (s : State) → Inv (s .book) (s .account) → Inv (after s ds .book) (after s ds .account)
+unfolding after advance
+after-inv [] s h = h
+after-inv (d ∷ ds) s h = after-inv ds (advance s d) (arrive-keeps (s .book) (s .account) d h)
+
+pub after-static : (ds : List Decoded) (s : State) → Static (s .book) (after s ds .book)
+unfolding after advance
+after-static [] s = static-self (s .book)
+after-static (d ∷ ds) s = static-trans (arrive-static (s .book) d) (after-static ds (advance s d))
+
+-- ## The limits
+
+earliest-first : (us : List Use) → Every (λ u. startOr 0 (earliest (u .entry) us) ≤ u .begin) us
+unfolding earliest
+earliest-first [] = tt
+earliest-first (v ∷ us) = (
+  rw (eqb-self (v .entry)) (sooner-le (v .begin) (earliest (v .entry) us)),
+  all-both (λ u h k. on-test (eqb (v .entry) (u .entry)) (λ q. rw q (sooner-some (v .begin) (u .begin) (earliest (u .entry) us) k h))
+      (λ q. rw q h)) us (earliest-first us) (all-earliest us),
+)
+  where
+    sooner-le : (b : ℕ) (s : Option ℕ) → sooner b s ≤ b
+    sooner-le b none = omega arith
+    sooner-le b (some c) = omega arith
+
+    sooner-some : (b x : ℕ) (s : Option ℕ) → isSome s ≡ true → startOr 0 s ≤ x → sooner b s ≤ x
+    sooner-some b x none k h = clash k refl
+    sooner-some b x (some c) k h = omega arith
+
+record UseFits (l : Limits) (s : Option ℕ) (u : Use) : Type 0 where
+  dates : Dated l u
+  span : Spanned s l u
+
+use-inside : (l : Limits) (us : List Use) (u : Use) → UseFits l (earliest (u .entry) us) u → startOr 0 (earliest (u .entry) us) ≤ u
+    .begin → UseInside l us u
+use-inside l us u z p = record {
+  begin = record { start = z .dates .from; end = z .dates .upto; from = λ f. p; until = z .span .from };
+  seconds = λ x lo hi. record {
+    start = λ f. omega (arith, z .dates .from f);
+    end = λ f. omega (arith, z .dates .last f);
+    from = λ f. omega arith;
+    until = λ f. omega (arith, z .span .last f);
+  };
+}
+
+pub limited : (T k n : ℕ) (es : List Entry) (met : ℕ → Meters) (opn : ℕ → Open) (us : List Use) → Invariant T k n (limitsAt es) met opn
+    us → Limited T us es
+unfolding figures
+limited T k n es met opn us h = record {
+  count = λ i f. omega (
+    arith,
+    ap (λ (m : Meters). m .count) (h .meters i),
+    flag-on (flagged 1 (limitsAt es i)) (sumOf (counts i) us) f,
+    h .within i .count f,
+  );
+  timed = λ i f. omega (
+    arith,
+    ap (λ (m : Meters). m .timed) (h .meters i),
+    flag-on (flagged 2 (limitsAt es i))
+        (sumOf (countsTimed (λ p. T) (limitsAt es i .timer) i) us) f,
+    h .within i .timed f,
+  );
+  seconds = λ i f. omega (
+    arith,
+    ap (λ (m : Meters). m .seconds) (h .meters i),
+    flag-on (flagged 32 (limitsAt es i))
+        (sumOf (countsSeconds i) us) f,
+    h .within i .seconds f,
+  );
+  inside =
+      all-both {P = λ u. UseFits (limitsAt es (u .entry)) (earliest (u .entry) us) u}
+      (λ u z p. use-inside (limitsAt es (u .entry)) us u z p) us
+      (all-both {P = Sound T k n (limitsAt es)} (λ u x y. record { dates = x .dates; span = y }) us (h .sound) (h .spans))
+      (earliest-first us);
+}
+
+-- ## Resends
+
+resent-stays : (b : Book) (a : Account) (e : Event) → Inv b a → resent a e ≡ true → step b e .book ≡ b
+unfolding step stepBy
+resent-stays b a e h r = go (gate (b .time) (lastAt (b .players) (e .player)) e) refl
+  where
+    go : (g : Gate) → gate (b .time) (lastAt (b .players) (e .player)) e ≡ g → stepBy g b e .book ≡ b
+    go (Refuse c) q = refl
+    go Resend q = refl
+    go Take q = clash r (resent-is b a e h ∙ gate-take _ _ e q .fresh)
+
+resend-book : (s : State) (d : Decoded) → Inv (s .book) (s .account) → isResend (s .account) d ≡ true → arrive (s .book) d .book ≡ s .book
+unfolding arrive
+resend-book s (Invalid code) h r = refl
+resend-book s (Valid e) h r = resent-stays (s .book) (s .account) e h r
+
+resend-account : (s : State) (d : Decoded) → isResend (s .account) d ≡ true → noteArrival (s .account) d (arrive (s .book) d .answer) ≡
+    s .account
+unfolding noteArrival
+resend-account s (Invalid code) r = refl
+resend-account s (Valid e) r = note-skip (s .account) e (arrive (s .book) (Valid e) .answer) (rw r)
+
+resend-same : (s : State) (d : Decoded) → Inv (s .book) (s .account) → isResend (s .account) d ≡ true → advance s d ≡ s
+unfolding advance
+resend-same s d h r = λ i. record { book = resend-book s d h r i; account = resend-account s d r i }
+
+pub struck-answers : (ds : List Decoded) (s : State) → Inv (s .book) (s .account) → answers (s .book) (struck s ds) ≡ kept s ds
+unfolding answers struck kept advance
+struck-answers [] s h = refl
+struck-answers (d ∷ ds) s h =
+    on-test (isResend (s .account) d)
+    (λ r. rw (r, resend-same s d h r) (struck-answers ds s h))
+    (λ r. rw r (ap (λ (x : List Answer). arrive (s .book) d .answer ∷ x)
+    (struck-answers ds (advance s d) (arrive-keeps (s .book) (s .account) d h))))
+
+pub struck-book : (ds : List Decoded) (s : State) → Inv (s .book) (s .account) → final (s .book) (struck s ds) ≡ final (s .book) ds
+unfolding final struck advance
+struck-book [] s h = refl
+struck-book (d ∷ ds) s h =
+    on-test (isResend (s .account) d)
+    (λ r. rw (r, resend-same s d h r, resend-book s d h r) (struck-book ds s h))
+    (λ r. rw r (struck-book ds (advance s d) (arrive-keeps (s .book) (s .account) d h)))
+
+-- ## The entries with the ledger's figures
+
+filled-size : (T : ℕ) (us : List Use) (q : ℕ) (es : List Entry) → length (filledFrom T us q es) ≡ length es
+unfolding filledFrom
+filled-size T us q [] = refl
+filled-size T us q (x ∷ es) = ap suc (filled-size T us (suc q) es)
+
+pub filled-limits : (T : ℕ) (us : List Use) (q : ℕ) (es : List Entry) (i : ℕ) → limitsAt (filledFrom T us q es) i ≡ limitsAt es i
+unfolding filledFrom
+filled-limits T us q [] i = refl
+filled-limits T us q (x ∷ es) zero = refl
+filled-limits T us q (x ∷ es) (suc i) = filled-limits T us (suc q) es i
+
+figures-blank : (at : ℕ → ℕ) (us : List Use) (i : ℕ) → noMeters ≡ figures at us i noLimits
+unfolding figures flagged
+figures-blank at us i = refl
+
+filled-from : (T : ℕ) (us : List Use) (q : ℕ) (es : List Entry) (i : ℕ) → metersAt (filledFrom T us q es) i ≡ figures (λ p. T) us
+    (q + i) (limitsAt es i)
+unfolding filledFrom
+filled-from T us q [] i = figures-blank (λ p. T) us (q + i)
+filled-from T us q (x ∷ es) zero = rw (add-zero q)
+filled-from T us q (x ∷ es) (suc i) = let y : q + suc i ≡ suc q + i = omega arith in rw y (filled-from T us (suc q) es i)
+
+pub filled-meters : (T : ℕ) (us : List Use) (es : List Entry) (i : ℕ) → metersAt (filled T us es) i ≡ figures (λ p. T) us i (limitsAt es i)
+filled-meters T us es i = filled-from T us 0 es i ∙ ap (λ (k : ℕ). figures (λ p. T) us k (limitsAt es i)) (zero-add i)
+
+entry-path : {x y : Entry} → x .limits ≡ y .limits → x .meters ≡ y .meters → x ≡ y
+entry-path p q = λ i. record { limits = p i; meters = q i }
+
+pub settled-filled : (S T : ℕ) (es : List Entry) (ps : List Player) (us : List Use) → S ≤ T
+    → Invariant S (length ps) (length es) (limitsAt es) (metersAt es) (openAt ps) us → settled T ps es ≡ filled T us es
+settled-filled S T es ps us later h =
+    let g = settled-held S T es ps us later h in
+    ext-getD noEntry (settled T ps es) (filled T us es) (settled-size T ps es ∙ sym (filled-size T us 0 es))
+    (λ i x. entry-path
+    (settled-limits T ps es i ∙ sym (filled-limits T us 0 es i))
+    (g .meters i ∙ ap (figures (λ p. T) us i) (settled-limits T ps es i) ∙ sym (filled-meters T us es i)))
+
+-- ## The answers are those of the ledger
+
+-- a taken event is judged on the ledger's figures
+pub judged : (b : Book) (a : Account) (e : Event) → Inv b a → gate (b .time) (lastAt (b .players) (e .player)) e ≡ Take
+    → takenStep b e .answer ≡ done (e .request) (catalogOf b) (filled (e .time) (a .uses) (b .entries))
+    (heldIn (e .time) (e .player) (a .uses)) (asks e) .answer
+unfolding takenStep
+judged b a e h q =
+    let k = gate-take _ _ e q in
+    rw (
+      settled-filled (b .time) (e .time) (b .entries) (b .players) (a .uses) (k .later) (h .held),
+      settled-held (b .time) (e .time) (b .entries) (b .players) (a .uses) (k .later) (h .held) .opens (e .player),
+    )
+
+arrive-predicted : (b : Book) (a : Account) (d : Decoded) → Inv b a → arrive b d .answer ≡ predict b a d
+unfolding arrive predict step stepBy predictBy
+arrive-predicted b a (Invalid code) h = refl
+arrive-predicted b a (Valid e) h = rw (← h .lasts (e .player), ← h .time) (go (gate (b .time) (lastAt (b .players) (e .player)) e) refl)
+  where
+    go : (g : Gate) → gate (b .time) (lastAt (b .players) (e .player)) e ≡ g → stepBy g b e .answer ≡ predictBy g b a e
+    go (Refuse c) q = refl
+    go Resend q = ap (λ (l : Last). l .answer) (h .lasts (e .player))
+    go Take q = judged b a e h q
+
+filled-same : (T : ℕ) (us : List Use) (es fs : List Entry) → length fs ≡ length es → ((i : ℕ) → limitsAt fs i ≡ limitsAt es i) → filled
+    T us fs ≡ filled T us es
+filled-same T us es fs n l =
+    ext-getD noEntry (filled T us fs) (filled T us es) (filled-size T us 0 fs ∙ n ∙ sym (filled-size T us 0 es))
+    (λ i x. entry-path
+    (filled-limits T us 0 fs i ∙ l i ∙ sym (filled-limits T us 0 es i))
+    (filled-meters T us fs i ∙ ap (figures (λ p. T) us i) (l i) ∙ sym (filled-meters T us es i)))
+
+predict-same : (b c : Book) (a : Account) (d : Decoded) → Static b c → predict c a d ≡ predict b a d
+unfolding predict predictBy
+predict-same b c a (Invalid code) s = refl
+predict-same b c a (Valid e) s = go (gate (timeOf (a .taken)) (lastOf (e .player) (a .taken)) e)
+  where
+    go : (g : Gate) → predictBy g c a e ≡ predictBy g b a e
+    go (Refuse x) = refl
+    go Resend = refl
+    go Take =
+        ap (λ (x : Catalog). done (e .request) x (filled (e .time) (a .uses) (c .entries)) (heldIn (e .time) (e .player) (a .uses))
+        (asks e) .answer) (catalog-static s) ∙
+        ap (λ (y : List Entry). done (e .request) (catalogOf b) y (heldIn (e .time) (e .player) (a .uses)) (asks e) .answer)
+        (filled-same (e .time) (a .uses) (b .entries) (c .entries) (s .entries) (s .limits))
+
+pub answers-predicted : (b : Book) (ds : List Decoded) (s : State) → Inv (s .book) (s .account) → Static b (s .book) → answers (s .book)
+    ds ≡ predicted b (s .account) ds
+unfolding answers predicted advance
+answers-predicted b [] s h k = refl
+answers-predicted b (d ∷ ds) s h k =
+    let q : arrive (s .book) d .answer ≡ predict b (s .account) d = arrive-predicted (s .book) (s .account) d h ∙ predict-same b
+    (s .book) (s .account) d k in
+    rw (← q) (ap (λ (x : List Answer). arrive (s .book) d .answer ∷ x)
+    (answers-predicted b ds (advance s d) (arrive-keeps (s .book) (s .account) d h) (static-trans k (arrive-static (s .book) d))))
+
+-- ## Records of bytes
+
+pub record-answers : (rs : List (List ℕ)) (b : Book) → recordAnswers b rs ≡ answers b (map decoded rs)
+unfolding recordAnswers answers stepRecord
+record-answers [] b = refl
+record-answers (r ∷ rs) b = ap (λ (x : List Answer). arrive b (decoded r) .answer ∷ x) (record-answers rs (arrive b (decoded r) .book))
+
+pub record-final : (rs : List (List ℕ)) (b : Book) → recordFinal b rs ≡ final b (map decoded rs)
+unfolding recordFinal final stepRecord
+record-final [] b = refl
+record-final (r ∷ rs) b = record-final rs (arrive b (decoded r) .book)

@@ -1,0 +1,353 @@
+-- Demand 3 holds of every legal fresh book.
+-- What is left for this file is begins: which of 10 to 13 each is answered, or else which entry and until.
+use mathlib.Core.Path.{_≡_, refl, sym, ap, _∙_, subst, fun-ext}
+use Prim.Native.Nat.{ℕ, _+_}
+use mathlib.Core.Bool.{Bool, true, false, not, _&&_, _||_}
+use mathlib.Core.List.{List, [], _∷_, map}
+use mathlib.Core.Option.{Option, none, some}
+use lib.Dec.{leb, ltb, eqb}
+use native.Mathlib.Omega.{arith}
+use borrow.Author.Tests.{eq-eqb, ne-eqb, leb-true, leb-false, lt-ltb, le-ltb}
+use Rattle.numbers.specs.Count.{one, howMany}
+use Rattle.numbers.proofs.Tests.{Fail, none-pass}
+use Rattle.book.specs.declared.Limits.{Limits}
+use Rattle.book.specs.declared.Entry.{Entry}
+use Rattle.book.specs.declared.Answer.{Answer}
+use Rattle.book.specs.declared.Open.{Open}
+use Rattle.book.specs.declared.Book.{Book}
+use Rattle.book.specs.declared.Event.{Event}
+use Rattle.book.specs.declared.Ask.{Ask}
+use Rattle.book.specs.declared.Grounds.{Grounds}
+use Rattle.book.specs.declared.Kind.{Kind}
+use Rattle.book.specs.declared.Request.the-variants.{Begin}
+use Rattle.book.specs.declared.Decoded.{Decoded}
+use Rattle.model.specs.Book.{limitsAt, entriesIn, flagged, Legal, Fresh}
+use Rattle.model.specs.Record.{kindNumber}
+use Rattle.model.specs.Meters.{where-flagged, isOn}
+use Rattle.model.specs.Choice.{Catalog, catalogOf, usable, parentOf, suitable, fails, groundsOf, groundList, grantable, asks, suits}
+use Rattle.model.specs.Choice.{allowed, goesBefore, Choice, nobody, chosen, anyOf, choose}
+use Rattle.model.specs.Step.{refusal, granted, doBegin, done, step}
+use Rattle.model.specs.Ledger.{Use, empty, spentCount, spentTimed, spentSeconds, earliest, over, Ground, count-spent, timed-spent}
+use Rattle.model.specs.Ledger.{seconds-spent, interval-over, before-start, after-end, stands}
+use Rattle.model.specs.Demand3.{State, after, starting, Takes, PastChecks, InBookWithKey, Suits, OutOrSpent, Left, NoneLeft, startOr}
+use Rattle.model.specs.Demand3.{isSome, figures, filled, chosenAnswer, Granted, Chosen, Begins, heldIn, Demand3}
+use Rattle.model.proofs.Ledger.Facts.{on-test, clash, and-left, and-right, and-both}
+use Rattle.model.proofs.Ledger.Concrete.{held-ext, choose-sound, choose-none, none-choose}
+use Rattle.model.proofs.Ledger.WellFormed.{legal-formed, static-self}
+use Rattle.model.proofs.Demand3.Checks.{checked}
+use Rattle.model.proofs.Ledger.Steps.{Inv}
+use Rattle.model.proofs.Demand3.Suitable.{any-sure, sure-any, usable-in, in-usable, suits-to, to-suits}
+use Rattle.model.proofs.Demand3.Choice.{choose-first, weightAt, before-weight, precedes}
+use Rattle.model.proofs.Demand3.Until.{grant-until}
+use Rattle.model.proofs.Demand3.Current.{answer-is, idle-on, on-idle, some-on, on-some, continues, stops}
+use Rattle.model.proofs.Demand3.History.{fresh-inv, after-inv, after-static, limited, struck-answers, struck-book, filled-limits}
+use Rattle.model.proofs.Demand3.History.{filled-meters, answers-predicted, record-answers, record-final}
+
+-- ## Grantable by the ledger
+
+not-ltb : (a b : ℕ) → not (ltb a b) ≡ leb b a
+not-ltb a b = on-test (leb b a) (λ q. rw (q, le-ltb a b (leb-true b a q))) (λ q. rw (q, lt-ltb a b (leb-false b a q)))
+
+not-leb : (a b : ℕ) → not (leb a b) ≡ ltb b a
+not-leb a b = on-test (leb a b) (λ q. rw (q, le-ltb b a (leb-true a b q))) (λ q. rw (q, lt-ltb b a (leb-false a b q)))
+
+meter-spent : (f : Bool) (c n : ℕ) → fails f (ltb (where-flagged f c) n) ≡ (f && leb n c)
+meter-spent true c n = not-ltb c n
+meter-spent false c n = refl
+
+span-over : (f : Bool) (T n : ℕ) (s : Option ℕ)
+    → fails f (not (eqb (one (f && isSome s)) 1) || ltb T (where-flagged f (startOr 0 s) + n)) ≡ (f && over T n s)
+span-over false T n s = refl
+span-over true T n none = refl
+span-over true T n (some c) = not-ltb T (c + n)
+
+-- a ground of the rules under the ledger's name
+abbrev named : Grounds → Ground → Bool
+named g count-spent = g .countspent
+named g timed-spent = g .timedspent
+named g seconds-spent = g .secondsspent
+named g interval-over = g .intervalover
+named g before-start = g .beforestart
+named g after-end = g .afterend
+
+-- the names in the order of `groundList`
+abbrev names : List Ground
+names = count-spent ∷ timed-spent ∷ before-start ∷ after-end ∷ interval-over ∷ seconds-spent ∷ []
+
+some-stands : (f : Ground → Bool) (gs : List Ground) → eqb (howMany (map f gs)) 0 ≡ false → (g : Ground) × (f g ≡ true)
+some-stands f [] e = clash refl e
+some-stands f (g ∷ gs) e =
+    on-test (f g) (λ q. (g, q)) (λ q.
+    some-stands f gs (ne-eqb (howMany (map f gs)) 0 (λ z.
+    clash (eq-eqb (one (f g) + howMany (map f gs)) 0 (omega (arith, z, ap one q))) e)))
+
+module _ (e : Event) (us : List Use) (i : ℕ) (l : Limits) where
+  -- the rules' grounds on the ledger's figures
+  abbrev figured : Grounds
+  figured = groundsOf (asks e) l (figures (λ p. e .time) us i l)
+
+  -- each is the ledger's
+  same-ground : (g : Ground) → named figured g ≡ stands e us i l g
+  unfolding groundsOf figures stands
+  same-ground count-spent = meter-spent (flagged 1 l) (spentCount us i) (l .count)
+  same-ground timed-spent = meter-spent (flagged 2 l) (spentTimed (e .time) us i l) (l .timed)
+  same-ground seconds-spent = meter-spent (flagged 32 l) (spentSeconds us i) (l .accumulated)
+  same-ground interval-over = span-over (flagged 16 l) (e .time) (l .interval) (earliest i us)
+  same-ground before-start = ap (λ (b : Bool). flagged 4 l && b) (not-leb (l .start) (e .time))
+  same-ground after-end = ap (λ (b : Bool). flagged 8 l && b) (not-leb (e .time) (l .end))
+
+  abbrev able : Bool
+  able = grantable (asks e) l (figures (λ p. e .time) us i l)
+
+  able-left : able ≡ true → (g : Ground) → stands e us i l g ≡ false
+  unfolding grantable
+  able-left h g = sym (same-ground g) ∙ off g
+    where
+      none : Fail (groundList figured)
+      none = none-pass (groundList figured) h
+
+      off : (g : Ground) → named figured g ≡ false
+      off count-spent = none .0
+      off timed-spent = none .1 .0
+      off before-start = none .1 .1 .0
+      off after-end = none .1 .1 .1 .0
+      off interval-over = none .1 .1 .1 .1 .0
+      off seconds-spent = none .1 .1 .1 .1 .1 .0
+
+  unable-stands : able ≡ false → (g : Ground) × (stands e us i l g ≡ true)
+  unfolding grantable
+  unable-stands h = let x = some-stands (named figured) names h in (x .0, sym (same-ground (x .0)) ∙ x .1)
+
+-- ## A begin, once all players are settled
+
+granted-answer : (t : ℕ) (es : List Entry) (o : Open) (c : Choice) → granted t es o c .answer ≡ chosenAnswer t es c
+granted-answer t es o nobody = refl
+granted-answer t es o (chosen i) = refl
+
+-- the four outcomes of a begin, each with its answer
+data Way (c : Catalog) (es : List Entry) (o : Open) (t : Ask) (asset kind : ℕ) : Type 0 where
+  is-busy : isOn o ≡ true → doBegin c es o t asset kind .answer ≡ refusal 11 → Way c es o t asset kind
+  is-unknown : isOn o ≡ false → usable c asset ≡ false → doBegin c es o t asset kind .answer ≡ refusal 10 → Way c es o t asset kind
+  is-unsuited : isOn o ≡ false → usable c asset ≡ true → anyOf (suits c es asset kind) (c .entryCount) ≡ false
+      → doBegin c es o t asset kind .answer ≡ refusal 12 → Way c es o t asset kind
+  is-past : isOn o ≡ false → usable c asset ≡ true → anyOf (suits c es asset kind) (c .entryCount) ≡ true
+      → doBegin c es o t asset kind .answer ≡ chosenAnswer (t .time) es (choose c es t asset kind) → Way c es o t asset kind
+
+way : (c : Catalog) (es : List Entry) (o : Open) (t : Ask) (asset kind : ℕ) → Way c es o t asset kind
+unfolding doBegin
+way c es o t asset kind =
+    on-test (isOn o) (λ q. is-busy q (rw q)) (λ q.
+    on-test (usable c asset)
+    (λ r.
+    on-test (anyOf (suits c es asset kind) (c .entryCount))
+    (λ u. is-past q r u (rw (q, r, u) (granted-answer (t .time) es _ (choose c es t asset kind))))
+    (λ u. is-unsuited q r u (rw (q, r, u))))
+    (λ r. is-unknown q r (rw (q, r))))
+
+chosen-past : (t : ℕ) (es : List Entry) (c : Choice) → PastChecks (chosenAnswer t es c)
+chosen-past t es nobody = record { not-10 = λ x. omega arith; not-11 = λ x. omega arith; not-12 = λ x. omega arith }
+chosen-past t es (chosen i) = record { not-10 = λ x. omega arith; not-11 = λ x. omega arith; not-12 = λ x. omega arith }
+
+-- ## A begin that is taken
+
+module _ (s : State) (e : Event) (h : Inv (s .book) (s .account)) (kind : Kind) (asset : ℕ) (x : e .request ≡ Begin kind asset)
+    (t : Takes s e) where
+  abbrev B : Book
+  B = s .book
+
+  abbrev F : List Entry
+  F = filled (e .time) (s .account .uses) (B .entries)
+
+  abbrev O : Open
+  O = heldIn (e .time) (e .player) (s .account .uses)
+
+  begin-is : step B e .answer ≡ doBegin (catalogOf B) F O (asks e) asset (kindNumber kind) .answer
+  unfolding done
+  begin-is = answer-is s e h t (Begin kind asset) x
+
+  suits-same : suits (catalogOf B) F asset (kindNumber kind) ≡ suits (catalogOf B) (B .entries) asset (kindNumber kind)
+  suits-same = fun-ext (λ j. ap (suitable asset (parentOf (catalogOf B) asset) (kindNumber kind))
+      (filled-limits (e .time) (s .account .uses) 0 (B .entries) j))
+
+  some-suits : anyOf (suits (catalogOf B) F asset (kindNumber kind)) (entriesIn B) ≡ true → (i : ℕ) × Suits B asset (kindNumber kind) i
+  some-suits u =
+      let y = any-sure (suits (catalogOf B) (B .entries) asset (kindNumber kind)) (entriesIn B) (rw suits-same at u) in
+      (y .0, suits-to B (h .formed) asset (kindNumber kind) (y .0) (y .1 .below) (y .1 .passes))
+
+  any-suits : (i : ℕ) → Suits B asset (kindNumber kind) i → anyOf (suits (catalogOf B) F asset (kindNumber kind)) (entriesIn B) ≡ true
+  any-suits i z =
+      rw suits-same
+      (sure-any (suits (catalogOf B) (B .entries) asset (kindNumber kind)) (entriesIn B) i (z .below)
+      (to-suits B (h .formed) asset (kindNumber kind) i z))
+
+  -- ## The choice
+
+  -- entry j is grantable by the ledger's figures
+  abbrev ableAt : ℕ → Bool
+  ableAt j = able e (s .account .uses) j (limitsAt (B .entries) j)
+
+  allowed-is : (j : ℕ) → allowed (catalogOf B) F (asks e) asset (kindNumber kind) j
+      ≡ (suits (catalogOf B) (B .entries) asset (kindNumber kind) j && ableAt j)
+  allowed-is j = rw (filled-limits (e .time) (s .account .uses) 0 (B .entries) j, filled-meters (e .time) (s .account .uses) (B .entries) j)
+
+  left-at : (j : ℕ) → ableAt j ≡ true → Left e s j
+  left-at j = able-left e (s .account .uses) j (limitsAt (B .entries) j)
+
+  unable-out : (j : ℕ) → ableAt j ≡ false → OutOrSpent e s j
+  unable-out j q = let x = unable-stands e (s .account .uses) j (limitsAt (B .entries) j) q in record { ground = x .0; holds = x .1 }
+
+  left-able : (j : ℕ) → Left e s j → ableAt j ≡ true
+  left-able j f = on-test (ableAt j) (λ q. q) (λ q. let o = unable-out j q in clash (o .holds) (f (o .ground)))
+
+  out-unable : (j : ℕ) → OutOrSpent e s j → ableAt j ≡ false
+  out-unable j o = on-test (ableAt j) (λ q. clash (o .holds) (left-at j q (o .ground))) (λ q. q)
+
+  goes-is : (i j : ℕ) → goesBefore F asset i j ≡ ltb (weightAt (B .entries) (s .account .uses) asset (h .formed .limits) i)
+      (weightAt (B .entries) (s .account .uses) asset (h .formed .limits) j)
+  goes-is i j =
+      rw (
+        filled-limits (e .time) (s .account .uses) 0 (B .entries) i,
+        filled-meters (e .time) (s .account .uses) (B .entries) i,
+        filled-limits (e .time) (s .account .uses) 0 (B .entries) j,
+        filled-meters (e .time) (s .account .uses) (B .entries) j,
+      )
+      (before-weight (B .entries) (s .account .uses) asset (h .formed .limits) (e .time) i j)
+
+  module _ (choice-is : step B e .answer ≡ chosenAnswer (e .time) F (choose (catalogOf B) F (asks e) asset (kindNumber kind))) where
+    thirteen : (c : Choice) → chosenAnswer (e .time) F c .code ≡ 13 → c ≡ nobody
+    thirteen nobody y = refl
+    thirteen (chosen i) y = absurd (omega arith)
+
+    none-left : step B e .answer .code ≡ 13 → NoneLeft s e asset (kindNumber kind)
+    unfolding choose catalogOf
+    none-left y j z =
+        let c : choose (catalogOf B) F (asks e) asset (kindNumber kind) ≡ nobody = thirteen _
+        (ap (λ (a : Answer). a .code) (sym choice-is) ∙ y) in
+        let q : allowed (catalogOf B) F (asks e) asset (kindNumber kind) j ≡ false = choose-none _ _ (entriesIn B) c j (z .below) in
+        unable-out j (rw (to-suits B (h .formed) asset (kindNumber kind) j z) at (sym (allowed-is j) ∙ q))
+
+    left-none : NoneLeft s e asset (kindNumber kind) → step B e .answer ≡ refusal 13
+    unfolding choose catalogOf
+    left-none y =
+        let c : choose (catalogOf B) F (asks e) asset (kindNumber kind) ≡ nobody =
+        none-choose _ _ (entriesIn B) (λ j z.
+        allowed-is j ∙
+        on-test (suits (catalogOf B) (B .entries) asset (kindNumber kind) j)
+        (λ q. rw (q, out-unable j (y j (suits-to B (h .formed) asset (kindNumber kind) j z q))))
+        (λ q. rw q)) in
+        choice-is ∙ ap (chosenAnswer (e .time) F) c
+
+    -- entry i is chosen
+    granted-entry : (i : ℕ) → choose (catalogOf B) F (asks e) asset (kindNumber kind) ≡ chosen i → Granted s e kind asset
+        (chosenAnswer (e .time) F (chosen i))
+    unfolding choose catalogOf
+    granted-entry i q =
+        let y = choose-sound (allowed (catalogOf B) F (asks e) asset (kindNumber kind)) _ (entriesIn B) i q in
+        let z : (suits (catalogOf B) (B .entries) asset (kindNumber kind) i && ableAt i) ≡ true = sym (allowed-is i) ∙ y .passes in
+        let v : Suits B asset (kindNumber kind) i = suits-to B (h .formed) asset (kindNumber kind) i (y .below)
+        (and-left (suits (catalogOf B) (B .entries) asset (kindNumber kind) i) _ z) in
+        record {
+          code = refl;
+          suits = v;
+          left = left-at i (and-right (suits (catalogOf B) (B .entries) asset (kindNumber kind) i) _ z);
+          first = λ j w l d.
+              precedes (B .entries) (s .account .uses) asset (h .formed .limits) i j d
+              (choose-first _ _ (weightAt (B .entries) (s .account .uses) asset (h .formed .limits)) goes-is (entriesIn B) i q j (w .below)
+              (allowed-is j ∙ and-both (to-suits B (h .formed) asset (kindNumber kind) j w) (left-able j l)));
+          until =
+              rw (filled-limits (e .time) (s .account .uses) 0 (B .entries) i, filled-meters (e .time) (s .account .uses) (B .entries) i)
+              (grant-until (e .time) (s .account .uses) i (limitsAt (B .entries) i) kind (v .kind-is));
+        }
+
+    granted-is : (step B e .answer .code ≡ 13 → ⊥) → Granted s e kind asset (step B e .answer)
+    granted-is y = go (choose (catalogOf B) F (asks e) asset (kindNumber kind)) refl
+      where
+        go : (c : Choice) → choose (catalogOf B) F (asks e) asset (kindNumber kind) ≡ c → Granted s e kind asset (step B e .answer)
+        go nobody q = absurd (y (ap (λ (a : Answer). a .code) (choice-is ∙ ap (chosenAnswer (e .time) F) q)))
+        go (chosen i) q = subst (Granted s e kind asset) (sym (choice-is ∙ ap (chosenAnswer (e .time) F) q)) (granted-entry i q)
+
+    choice : Chosen s e kind asset
+    choice = record { none = (none-left, left-none); granted = granted-is; answer = choice-is }
+
+  -- ## The four outcomes, in words
+
+  pub begins : Begins s e kind asset
+  unfolding catalogOf
+  begins = go (way (catalogOf B) F O (asks e) asset (kindNumber kind))
+    where
+      code-of : (a : Answer) → step B e .answer ≡ a → step B e .answer .code ≡ a .code
+      code-of a x = ap (λ (y : Answer). y .code) x
+
+      go : Way (catalogOf B) F O (asks e) asset (kindNumber kind) → Begins s e kind asset
+      go (is-busy q x) =
+          let y : step B e .answer .code ≡ 11 = code-of (refusal 11) (begin-is ∙ x) in
+          record {
+            busy = (λ z. some-on s e h t q, λ z. begin-is ∙ x);
+            unknown = (λ z. absurd (omega (arith, y, z)), λ z. clash q (on-idle s e h t (z .idle)));
+            unsuited = (λ z. absurd (omega (arith, y, z)), λ z. clash q (on-idle s e h t (z .idle)));
+            reaches = (λ n. absurd (n .not-11 y), λ m. clash q (on-idle s e h t (m .idle)));
+            choice = λ n. absurd (n .not-11 y);
+          }
+      go (is-unknown q r x) =
+          let y : step B e .answer .code ≡ 10 = code-of (refusal 10) (begin-is ∙ x) in
+          record {
+            busy = (λ z. absurd (omega (arith, y, z)), λ z. clash (on-some s e h t z) q);
+            unknown = (
+              λ z. record { idle = idle-on s e h t q; not-in = λ k. clash (in-usable B (h .formed) asset k) r },
+              λ z. begin-is ∙ x,
+            );
+            unsuited = (λ z. absurd (omega (arith, y, z)), λ z. clash (in-usable B (h .formed) asset (z .asset-in)) r);
+            reaches = (λ n. absurd (n .not-10 y), λ m. clash (in-usable B (h .formed) asset (m .asset-in)) r);
+            choice = λ n. absurd (n .not-10 y);
+          }
+      go (is-unsuited q r u x) =
+          let y : step B e .answer .code ≡ 12 = code-of (refusal 12) (begin-is ∙ x) in
+          let k : InBookWithKey B asset = usable-in B (h .formed) asset r in
+          record {
+            busy = (λ z. absurd (omega (arith, y, z)), λ z. clash (on-some s e h t z) q);
+            unknown = (λ z. absurd (omega (arith, y, z)), λ z. absurd (z .not-in k));
+            unsuited = (
+              λ z. record { idle = idle-on s e h t q; asset-in = k; none-suits = λ i v. clash (any-suits i v) u },
+              λ z. begin-is ∙ x,
+            );
+            reaches = (λ n. absurd (n .not-12 y), λ m. clash (any-suits (m .entry) (m .suits)) u);
+            choice = λ n. absurd (n .not-12 y);
+          }
+      go (is-past q r u x) =
+          let k : InBookWithKey B asset = usable-in B (h .formed) asset r in
+          let i = some-suits u in
+          let past : PastChecks (step B e .answer) = rw (begin-is ∙ x)
+          (chosen-past (e .time) F (choose (catalogOf B) F (asks e) asset (kindNumber kind))) in
+          record {
+            busy = (λ z. absurd (past .not-11 z), λ z. clash (on-some s e h t z) q);
+            unknown = (λ z. absurd (past .not-10 z), λ z. absurd (z .not-in k));
+            unsuited = (λ z. absurd (past .not-12 z), λ z. absurd (z .none-suits (i .0) (i .1)));
+            reaches = (
+              λ n. record { idle = idle-on s e h t q; asset-in = k; entry = i .0; suits = i .1 },
+              λ m. past,
+            );
+            choice = λ n. choice (begin-is ∙ x);
+          }
+
+-- ## Demand 3
+
+pub demand3 : (b : Book) → Legal b → Fresh b → Demand3 b
+demand3 b g f =
+    let start : Inv b empty = fresh-inv b (legal-formed b g) f in
+    let h : (ds : List Decoded) → Inv (after (starting b) ds .book) (after (starting b) ds .account) = λ ds. after-inv ds (starting b)
+    start in
+    record {
+      time = λ ds. h ds .time;
+      limits = λ ds.
+          rw (← h ds .time)
+          (limited _ _ _ (b .entries) _ _ _
+          (held-ext refl refl (λ i. sym (after-static ds (starting b) .limits i)) (λ i. refl) (λ p. refl) (h ds .held)));
+      checked = λ ds e. checked (after (starting b) ds) e (h ds);
+      begins = λ ds e kind asset x t. begins (after (starting b) ds) e (h ds) kind asset x t;
+      continues = λ ds e x t. continues (after (starting b) ds) e (h ds) t x;
+      stops = λ ds e x t. stops (after (starting b) ds) e (h ds) t x;
+      struckAnswers = λ ds. struck-answers ds (starting b) start;
+      struckBook = λ ds. struck-book ds (starting b) start;
+      predictable = λ ds. answers-predicted b ds (starting b) start (static-self b);
+      records = λ rs. (record-answers rs b, record-final rs b);
+    }

@@ -1,0 +1,12 @@
+-- Computed examples: runs on constants that the checker evaluates; and last books that meet the premises of the theorems.
+pub mod Computes
+pub mod Afternoon
+pub mod Cases
+pub mod BetweenRules
+pub mod BeginCodes
+pub mod AnswerCodes
+pub mod Printed
+pub mod Account
+pub mod Bounds
+pub mod Books
+pub mod Example

@@ -1,0 +1,88 @@
+-- Computed examples of the ledger: the uses that the afternoon leaves, its answers from the ledger alone, and single entries judged at
+-- a time, exactly at their bounds and just beside them.
+use mathlib.Core.Path.{_≡_, refl}
+use Prim.Native.Nat.{ℕ}
+use mathlib.Core.Bool.{Bool, true, false}
+use mathlib.Core.List.{List, [], _∷_, map}
+use Rattle.book.specs.declared.Limits.{Limits}
+use Rattle.book.specs.declared.Event.{Event}
+use Rattle.book.specs.declared.Request.the-variants.{Stop}
+use Rattle.model.specs.Book.{flagged}
+use Rattle.model.specs.Ledger.{Use, empty, latestTaken, resent, calledTaken, timeOf, latest, revise, posted, note, noteArrival}
+use Rattle.model.specs.Ledger.{isOpen, sumOf, earliest, count-spent, timed-spent, seconds-spent, interval-over, before-start}
+use Rattle.model.specs.Ledger.{after-end, stands}
+use Rattle.model.specs.Demand3.{advance, after, starting, figures, filledFrom, predictBy, predict, predicted}
+use Rattle.model.proofs.Examples.Afternoon.{start, events, expected, limits}
+use Rattle.model.proofs.Examples.Computes.{events-run}
+
+abbrev ran : ℕ → ℕ → ℕ → ℕ → Bool → Use
+ran entry player begin until stopped = record { entry = entry; player = player; begin = begin; until = until; stopped = stopped }
+
+-- newest first: player 2's was stopped, player 0's continued
+pub uses-left : after (starting start) events .account .uses
+    ≡ ran 2 7 1080 1140 false
+    ∷ ran 1 4 1045 1085 false
+    ∷ ran 1 3 1030 1070 false
+    ∷ ran 1 2 1020 1040 true
+    ∷ ran 0 1 1010 1070 false
+    ∷ ran 0 0 1000 1119 false
+    ∷ []
+unfolding events-run latestTaken resent calledTaken revise posted note noteArrival advance after
+uses-left = refl
+
+pub by-ledger : predicted start empty events ≡ expected
+unfolding events-run latestTaken resent calledTaken timeOf latest revise posted note noteArrival isOpen sumOf earliest figures
+    filledFrom predictBy predict predicted
+by-ledger = refl
+
+-- entry 0 was used for 30 seconds, stopped, and for 60
+abbrev uses : List Use
+uses = ran 0 1 100 160 false ∷ ran 0 0 10 40 true ∷ []
+
+-- an event at t
+abbrev at : ℕ → Event
+at t = record { player = 0; number = 1; request = Stop; time = t }
+
+-- count; timed count with its timer; accumulated; interval; an entry that was not used; limits that are not flagged
+abbrev judged : List Bool
+judged =
+    stands (at 159) uses 0 (limits 1 1 1 2 0 0 0 0 0 0) count-spent
+    ∷ stands (at 159) uses 0 (limits 1 1 1 3 0 0 0 0 0 0) count-spent
+    ∷ stands (at 159) uses 0 (limits 1 1 2 0 2 30 0 0 0 0) timed-spent
+    ∷ stands (at 159) uses 0 (limits 1 1 2 0 3 30 0 0 0 0) timed-spent
+    ∷ stands (at 159) uses 0 (limits 1 1 2 0 2 31 0 0 0 0) timed-spent
+    ∷ stands (at 159) uses 0 (limits 1 1 2 0 1 61 0 0 0 0) timed-spent
+    ∷ stands (at 160) uses 0 (limits 1 1 2 0 1 61 0 0 0 0) timed-spent
+    ∷ stands (at 39) uses 0 (limits 1 1 2 0 2 61 0 0 0 0) timed-spent
+    ∷ stands (at 159) uses 0 (limits 1 1 32 0 0 0 0 0 0 90) seconds-spent
+    ∷ stands (at 159) uses 0 (limits 1 1 32 0 0 0 0 0 0 91) seconds-spent
+    ∷ stands (at 109) uses 0 (limits 1 1 16 0 0 0 0 0 100 0) interval-over
+    ∷ stands (at 110) uses 0 (limits 1 1 16 0 0 0 0 0 100 0) interval-over
+    ∷ []
+
+pub entries-spent : judged ≡ (true ∷ false ∷ true ∷ false ∷ false ∷ true ∷ false ∷ false ∷ true ∷ false ∷ false ∷ true ∷ [])
+unfolding flagged isOpen sumOf earliest stands
+entries-spent = refl
+
+-- all grounds against an entry, in turn
+abbrev every : ℕ → ℕ → Limits → List Bool
+every t i l = map (stands (at t) uses i l) (count-spent ∷ timed-spent ∷ seconds-spent ∷ interval-over ∷ before-start ∷ after-end ∷ [])
+
+abbrev nothing : List Bool
+nothing = false ∷ false ∷ false ∷ false ∷ false ∷ false ∷ []
+
+-- an entry that was not used, and one without a flag
+pub unused : every 159 1 (limits 1 1 51 1 1 0 0 0 1 1) ≡ nothing
+unfolding flagged isOpen sumOf earliest stands
+unused = refl
+
+pub unlimited : every 159 0 (limits 1 1 0 0 0 0 2000 0 0 0) ≡ nothing
+unfolding flagged isOpen sumOf earliest stands
+unlimited = refl
+
+-- the seconds around start and end
+pub dates :
+    map (λ (t : ℕ). every t 1 (limits 1 1 12 0 0 0 100 200 0 0)) (99 ∷ 100 ∷ 200 ∷ 201 ∷ [])
+    ≡ ((false ∷ false ∷ false ∷ false ∷ true ∷ false ∷ []) ∷ nothing ∷ nothing ∷ (false ∷ false ∷ false ∷ false ∷ false ∷ true ∷ []) ∷ [])
+unfolding flagged isOpen sumOf earliest stands
+dates = refl

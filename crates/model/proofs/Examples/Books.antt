@@ -1,0 +1,304 @@
+-- Books that meet the premises of demand 2, from the empty one to one of the greatest size; and the reader run on images of a
+-- small book, intact and damaged, one for each of its answers. The bytes of that book are written out: a round trip alone does
+-- not notice two swapped fields.
+use Prim.Native.Nat.{ℕ, suc, _+_, _*_, _-_, _%_, _<_}
+use mathlib.Core.Path.{_≡_, refl, sym, ap, subst, _∙_}
+use mathlib.Core.List.{List, [], _∷_, _++_, append-nil}
+use native.Mathlib.Omega.{arith}
+use lib.ListN.{getD, set, take, replicate, List·getD-eq-default}
+use Rattle.numbers.specs.Count.{first, joined, listed}
+use Rattle.numbers.specs.Fields.{Width, size, Fit}
+use Rattle.numbers.proofs.FieldLaws.{zeros-fit}
+use Rattle.numbers.proofs.TableLaws.{below-or-not, blanks, listed-at, length-listed}
+use Rattle.book.specs.declared.Asset.{Asset}
+use Rattle.book.specs.declared.Entry.{Entry}
+use Rattle.book.specs.declared.Player.{Player}
+use Rattle.book.specs.declared.Book.{Book}
+use Rattle.book.specs.Blank.{noAsset, noEntry, noPlayer, noMeters, noBook}
+use Rattle.model.specs.Book.{assetsIn, entriesIn}
+use Rattle.model.specs.Book.{Legal, Fresh}
+use Rattle.model.specs.Image.{newest, headerStart, headerTail, assetWidths, assetValues, entryWidths, entryValues, playerWidths}
+use Rattle.model.specs.Image.{playerValues, headerSize, assetSize, entrySize, playerSize, imageLength, headerBytes, assetBytes}
+use Rattle.model.specs.Image.{entryBytes, playerBytes, image, lengthOf}
+use Rattle.model.specs.Image.{readCode, readBook, Typed}
+use Rattle.model.proofs.Image.RoundTrip.{demand2}
+use Rattle.model.proofs.Examples.Computes.{image-run, legal-run}
+
+-- ## The empty book
+
+pub noBook-legal : Legal noBook
+unfolding legal-run
+noBook-legal = record {
+  assetSlots = refl;
+  entrySlots = refl;
+  playerSlots = refl;
+  assetCount = omega arith;
+  entryCount = omega arith;
+  time = omega arith;
+  assetsBlank = λ i h. blanks 64 i noAsset;
+  entriesBlank = λ i h. blanks 64 i noEntry;
+  rules = refl;
+}
+
+pub noBook-typed : Typed noBook
+noBook-typed = record {
+  header = zeros-fit (headerTail newest);
+  assets = λ i. subst (λ (x : Asset). Fit (assetWidths newest) (assetValues x)) (sym (blanks 64 i noAsset))
+      (zeros-fit (assetWidths newest));
+  entries = λ i. subst (λ (x : Entry). Fit (entryWidths newest) (entryValues x)) (sym (blanks 64 i noEntry))
+      (zeros-fit (entryWidths newest));
+  players = λ i. subst (λ (x : Player). Fit (playerWidths newest) (playerValues x)) (sym (blanks 16 i noPlayer))
+      (zeros-fit (playerWidths newest));
+}
+
+pub noBook-fresh : Fresh noBook
+noBook-fresh = record {
+  time = refl;
+  meters = λ i. ap (λ (x : Entry). x .meters) (blanks 64 i noEntry);
+  players = λ p. blanks 16 p noPlayer;
+}
+
+-- ## A book of the greatest size: every slot filled, every limit flagged and used up, every player with an open use
+
+abbrev greatAsset : ℕ → Asset
+greatAsset i = record { number = 65535 - i; inherit = 65535; key = 1 }
+
+abbrev greatEntry : ℕ → Entry
+greatEntry i = record {
+  limits = record {
+    object = 65535;
+    asset = 65535 - i;
+    kind = 1 + i % 3;
+    flags = 63;
+    count = 1000000;
+    timed = 1000000;
+    timer = 1000000;
+    start = 3999999990;
+    end = 4000000000;
+    interval = 100000000;
+    accumulated = 100000000;
+  };
+  meters = record { count = 1000000; timed = 1000000; first = 3999999990; seconds = 100000000; started = 1 };
+}
+
+abbrev greatPlayer : ℕ → Player
+greatPlayer p = record {
+  last = record {
+    number = 4294967295;
+    operation = 1;
+    asset = 65535;
+    kind = 5;
+    answer = record { code = 0; entry = 63; until = 4294967295 };
+  };
+  current = record { on = 1; entry = 48 + p; begin = 3999999990; until = 4000000001 };
+}
+
+unfoldable pub greatest : Book
+greatest = record {
+  time = 4000000000;
+  assetcount = 64;
+  entrycount = 64;
+  assets = listed greatAsset 64;
+  entries = listed greatEntry 64;
+  players = listed greatPlayer 16;
+}
+
+pub greatest-legal : Legal greatest
+unfolding legal-run greatest
+greatest-legal = record {
+  assetSlots = refl;
+  entrySlots = refl;
+  playerSlots = refl;
+  assetCount = omega arith;
+  entryCount = omega arith;
+  time = omega arith;
+  assetsBlank = λ i h. List·getD-eq-default (greatest .assets) noAsset h;
+  entriesBlank = λ i h. List·getD-eq-default (greatest .entries) noEntry h;
+  rules = refl;
+}
+
+-- what holds at every position of a list of n, if it holds of each element listed and of the blank one
+at-each : {A : Type 0} (P : A → Type 0) (f : ℕ → A) (n : ℕ) (d : A) → ((i : ℕ) → i < n → P (f i)) → P d → (i : ℕ) → P
+    (getD (listed f n) i d)
+at-each P f n d each blank i =
+    below-or-not i n
+    (λ h. subst P (sym (ap (λ l. getD l i d) (sym (append-nil (listed f n))) ∙ listed-at f n i d [] h)) (each i h))
+    (λ h. subst P (sym (List·getD-eq-default (listed f n) d (rw (length-listed) h))) blank)
+
+pub greatest-typed : Typed greatest
+unfolding greatest
+greatest-typed = record {
+  header = tt;
+  assets = at-each (λ (x : Asset). Fit (assetWidths newest) (assetValues x)) greatAsset 64 noAsset (λ i h. omega arith)
+      (zeros-fit (assetWidths newest));
+  entries = at-each (λ (x : Entry). Fit (entryWidths newest) (entryValues x)) greatEntry 64 noEntry (λ i h. omega arith)
+      (zeros-fit (entryWidths newest));
+  players = at-each (λ (x : Player). Fit (playerWidths newest) (playerValues x)) greatPlayer 16 noPlayer (λ i h. omega arith)
+      (zeros-fit (playerWidths newest));
+}
+
+-- the reader run on its 3,979 bytes
+pub greatest-read : readCode (image greatest) ≡ 0
+unfolding legal-run image-run greatest
+greatest-read = refl
+
+-- and demand 2 holds of it
+pub greatest-back : readBook noBook (image greatest) ≡ greatest
+greatest-back = demand2 .readsBack noBook greatest greatest-legal greatest-typed .1
+
+pub greatest-length : lengthOf greatest ≡ 3979
+unfolding greatest assetsIn entriesIn imageLength headerSize assetSize entrySize playerSize lengthOf
+greatest-length = refl
+
+-- ## A small book: an asset with a parent, an entry with every limit, a print without limits, one player with an open use
+
+unfoldable pub small : Book
+small = record {
+  time = 168496141;
+  assetcount = 2;
+  entrycount = 2;
+  assets = record { number = 258; inherit = 2; key = 1 } ∷ record { number = 2; inherit = 0; key = 0 } ∷ replicate 62 noAsset;
+  entries =
+      record {
+        limits = record {
+          object = 1286;
+          asset = 258;
+          kind = 2;
+          flags = 63;
+          count = 10;
+          timed = 11;
+          timer = 12;
+          start = 168496129;
+          end = 168496383;
+          interval = 200;
+          accumulated = 100000;
+        };
+        meters = record { count = 3; timed = 4; first = 168496130; seconds = 100; started = 1 };
+      }
+      ∷ record {
+        limits = record {
+          object = 7;
+          asset = 2;
+          kind = 4;
+          flags = 0;
+          count = 0;
+          timed = 0;
+          timer = 0;
+          start = 0;
+          end = 0;
+          interval = 0;
+          accumulated = 0;
+        };
+        meters = noMeters;
+      }
+      ∷ replicate 62 noEntry;
+  players =
+      record {
+        last = record {
+          number = 286397204;
+          operation = 1;
+          asset = 5398;
+          kind = 3;
+          answer = record { code = 0; entry = 1; until = 421141276 };
+        };
+        current = record { on = 1; entry = 0; begin = 168496136; until = 168496142 };
+      }
+      ∷ replicate 15 noPlayer;
+}
+
+-- its bytes, one line for each of the header, the assets, the entries and the players
+pub small-bytes : image small
+    ≡ 82 ∷ 66 ∷ 75 ∷ 0 ∷ 1 ∷ 2 ∷ 2 ∷ 10 ∷ 11 ∷ 12 ∷ 13 ∷ []
+    ++ 1 ∷ 2 ∷ 0 ∷ 2 ∷ 1 ∷ []
+    ++ 0 ∷ 2 ∷ 0 ∷ 0 ∷ 0 ∷ []
+    ++ 5 ∷ 6 ∷ 1 ∷ 2 ∷ 2 ∷ 63 ∷ 0 ∷ 0 ∷ 0 ∷ 10 ∷ 0 ∷ 0 ∷ 0 ∷ 11 ∷ 0 ∷ 0 ∷ 0 ∷ 12 ∷ 10 ∷ 11 ∷ 12 ∷ 1 ∷ 10 ∷ 11 ∷ 12 ∷ 255 ∷ 0 ∷ 0 ∷ 0 ∷
+    200 ∷ 0 ∷ 1 ∷ 134 ∷ 160
+    ∷ 0 ∷ 0 ∷ 0 ∷ 3 ∷ 0 ∷ 0 ∷ 0 ∷ 4 ∷ 10 ∷ 11 ∷ 12 ∷ 2 ∷ 0 ∷ 0 ∷ 0 ∷ 100 ∷ 1 ∷ []
+    ++ 0 ∷ 7 ∷ 0 ∷ 2 ∷ 4 ∷ replicate 46 0
+    ++ 17 ∷ 18 ∷ 19 ∷ 20 ∷ 1 ∷ 21 ∷ 22 ∷ 3 ∷ 0 ∷ 1 ∷ 25 ∷ 26 ∷ 27 ∷ 28 ∷ 1 ∷ 0 ∷ 10 ∷ 11 ∷ 12 ∷ 8 ∷ 10 ∷ 11 ∷ 12 ∷ 14 ∷ []
+    ++ replicate 360 0
+unfolding small joined headerBytes assetBytes entryBytes playerBytes assetsIn entriesIn image
+small-bytes = refl
+
+-- ## Its image damaged, by record and field
+
+-- the last byte of field k of a record, counted from its start; fields are counted from 0, in the order of the layout
+abbrev lastByte : List Width → ℕ → ℕ
+lastByte ws k = size (take (suc k) ws) - 1
+
+abbrev inHeader : ℕ → ℕ
+inHeader k = lastByte headerStart k
+
+abbrev inAsset : ℕ → ℕ → ℕ
+inAsset i k = headerSize newest + assetSize newest * i + lastByte (assetWidths newest) k
+
+abbrev inEntry : ℕ → ℕ → ℕ
+inEntry i k = headerSize newest + assetSize newest * 2 + entrySize newest * i + lastByte (entryWidths newest) k
+
+abbrev inPlayer : ℕ → ℕ → ℕ
+inPlayer p k = headerSize newest + assetSize newest * 2 + entrySize newest * 2 + playerSize newest * p + lastByte (playerWidths newest) k
+
+-- the reader's answer with one byte of the image changed
+abbrev with : ℕ → ℕ → ℕ
+with k v = readCode (set (image small) k v)
+
+abbrev setHeader : ℕ → ℕ → ℕ
+setHeader k v = with (inHeader k) v
+
+abbrev setAsset : ℕ → ℕ → ℕ → ℕ
+setAsset i k v = with (inAsset i k) v
+
+abbrev setEntry : ℕ → ℕ → ℕ → ℕ
+setEntry i k v = with (inEntry i k) v
+
+abbrev setPlayer : ℕ → ℕ → ℕ → ℕ
+setPlayer p k v = with (inPlayer p k) v
+
+-- one group for each of 20 to 25, two for 26, one for 27; the last are accepted, most of them exactly at a bound
+pub damaged :
+    (readCode (take 10 (image small)) ∷ readCode (take (lengthOf small - 1) (image small)) ∷ readCode (image small ++ (0 ∷ []))
+    ∷ setHeader 5 1 ∷ [])
+    ∷ (setHeader 0 83 ∷ setHeader 1 75 ∷ setHeader 2 66 ∷ readCode (replicate 11 0) ∷ [])
+    ∷ (with (inHeader 3 - 1) 1 ∷ setHeader 3 0 ∷ setHeader 3 (suc newest) ∷ [])
+    ∷ (setHeader 4 65 ∷ setHeader 5 65 ∷ with (inHeader 6 - 3) 239 ∷ [])
+    ∷ (setAsset 0 2 2 ∷ with (inAsset 1 0 - 1) 1 ∷ setAsset 1 0 0 ∷ [])
+    ∷ (setEntry 0 2 0 ∷ setEntry 0 2 4 ∷ setEntry 0 2 6 ∷ setEntry 0 3 64 ∷ setEntry 0 4 0 ∷ setEntry 0 5 0 ∷ setEntry 0 8 0
+    ∷ setEntry 0 9 0 ∷ setEntry 1 0 0 ∷ setEntry 1 1 9 ∷ setEntry 1 2 0 ∷ setEntry 1 3 1 ∷ setEntry 1 4 1 ∷ [])
+    ∷ (setPlayer 0 1 2 ∷ setPlayer 0 1 4 ∷ setPlayer 0 3 0 ∷ setPlayer 0 3 6 ∷ setPlayer 0 4 9 ∷ setPlayer 0 4 16
+    ∷ setPlayer 0 4 10 ∷ setPlayer 0 5 2 ∷ setPlayer 0 7 0 ∷ setPlayer 0 7 2 ∷ setPlayer 0 8 1 ∷ setPlayer 0 8 2
+    ∷ setPlayer 1 1 1 ∷ [])
+    ∷ (setPlayer 0 9 14 ∷ setPlayer 0 10 13 ∷ setPlayer 0 10 74 ∷ setEntry 0 7 9 ∷ setEntry 0 8 12 ∷ setEntry 0 13 9
+    ∷ setEntry 0 9 11 ∷ setEntry 0 15 0 ∷ [])
+    ∷ (setEntry 0 11 0 ∷ setEntry 0 11 11 ∷ setEntry 0 12 0 ∷ setEntry 0 12 12 ∷ setEntry 0 14 5 ∷ with (inEntry 0 14 - 3) 1
+    ∷ setEntry 1 15 1 ∷ [])
+    ∷ (readCode (image small) ∷ setPlayer 0 9 13 ∷ setPlayer 0 10 73 ∷ setEntry 0 7 8 ∷ setEntry 0 8 13 ∷ setEntry 0 13 8
+    ∷ setEntry 0 9 12 ∷ setEntry 0 11 10 ∷ setEntry 0 12 11 ∷ setEntry 0 14 6 ∷ setPlayer 0 5 0 ∷ [])
+    ∷ []
+    ≡ replicate 4 20
+    ∷ replicate 4 21
+    ∷ replicate 3 22
+    ∷ replicate 3 23
+    ∷ replicate 3 24
+    ∷ replicate 13 25
+    ∷ replicate 13 26
+    ∷ replicate 8 26
+    ∷ replicate 7 27
+    ∷ replicate 11 0
+    ∷ []
+unfolding legal-run image-run small
+damaged = refl
+
+-- the reader's answer with two bytes of the image changed
+abbrev both : ℕ → ℕ → ℕ → ℕ → ℕ
+both i v j w = readCode (set (set (image small) i v) j w)
+
+-- if two neighbouring stages fail, the first is reported, from "20 wrong length, 24 asset rules" on; the header's are in `BetweenRules`
+pub two-faults :
+    readCode (take (lengthOf small - 1) (set (image small) (inAsset 0 2) 2))
+    ∷ both (inAsset 0 2) 2 (inEntry 0 2) 0
+    ∷ both (inEntry 0 2) 0 (inPlayer 0 1) 4
+    ∷ both (inPlayer 0 1) 4 (inEntry 0 11) 11
+    ∷ []
+    ≡ 20 ∷ 24 ∷ 25 ∷ 26 ∷ []
+unfolding legal-run image-run small
+two-faults = refl

@@ -1,0 +1,206 @@
+-- The image's rules on single records, exactly at each bound of document 01 and just beside it: computed examples.
+-- The theorems would hold with a wrong bound too, since they speak of every legal book; these examples would not.
+use mathlib.Core.Path.{_≡_, refl}
+use Prim.Native.Nat.{ℕ}
+use mathlib.Core.Bool.{Bool, true, false}
+use mathlib.Core.List.{[], _∷_}
+use Rattle.numbers.specs.Count.{first}
+use Rattle.book.specs.declared.Asset.{Asset}
+use Rattle.model.specs.Book.{grantLength, flagged, momentary, limit, assetPosition, assetLegal, rangesLegal, limitsLegal, takenCode}
+use Rattle.model.specs.Book.{answerLegal, insideDates, insideInterval, useLegal, meterLegal, startLegal, metersCover}
+use Rattle.model.proofs.Examples.Afternoon.{limits}
+
+-- ## Assets
+
+-- "number (1 to 65535, each once), key (0 or 1 ..)"
+abbrev asset : ℕ → ℕ → Bool
+asset number key =
+    let a : Asset = record { number = number; inherit = 0; key = key } in
+    assetLegal (a ∷ []) 1 0 a
+
+pub assets : asset 1 0 ∷ asset 65535 1 ∷ asset 0 1 ∷ asset 65536 1 ∷ asset 1 2 ∷ [] ≡ true ∷ true ∷ false ∷ false ∷ false ∷ []
+unfolding first assetPosition assetLegal
+assets = refl
+
+-- ## Entries
+
+abbrev ranges : ℕ → ℕ → ℕ → ℕ → ℕ → ℕ → ℕ → ℕ → Bool
+ranges flags count timed timer start end interval accumulated = rangesLegal
+    (limits 1 1 flags count timed timer start end interval accumulated)
+
+-- "Count and timed count are 1 to 1,000,000; timer 0 to 1,000,000; interval and accumulated 1 to 100,000,000"; times to 4,000,000,000
+pub on-bounds : ranges 63 1 1 0 0 0 1 1 ∷ ranges 63 1000000 1000000 1000000 4000000000 4000000000 100000000 100000000 ∷ ranges 0 0 0 0 0
+    0 0 0 ∷ []
+    ≡ true ∷ true ∷ true ∷ []
+unfolding flagged limit rangesLegal
+on-bounds = refl
+
+-- one number too small or too large at a time, and one that is not flagged
+pub beside-bounds :
+    ranges 63 0 1 0 0 0 1 1
+    ∷ ranges 63 1 0 0 0 0 1 1
+    ∷ ranges 63 1 1 0 0 0 0 1
+    ∷ ranges 63 1 1 0 0 0 1 0
+    ∷ ranges 63 1000001 1 0 0 0 1 1
+    ∷ ranges 63 1 1000001 0 0 0 1 1
+    ∷ ranges 63 1 1 1000001 0 0 1 1
+    ∷ ranges 63 1 1 0 4000000001 0 1 1
+    ∷ ranges 63 1 1 0 0 4000000001 1 1
+    ∷ ranges 63 1 1 0 0 0 100000001 1
+    ∷ ranges 63 1 1 0 0 0 1 100000001
+    ∷ ranges 62 1 1 0 0 0 1 1
+    ∷ ranges 61 1 1 0 0 0 1 1
+    ∷ ranges 61 1 0 1 0 0 1 1
+    ∷ ranges 59 1 1 0 1 0 1 1
+    ∷ ranges 55 1 1 0 0 1 1 1
+    ∷ ranges 47 1 1 0 0 0 1 1
+    ∷ ranges 31 1 1 0 0 0 1 1
+    ∷ []
+    ≡ false ∷ false ∷ false ∷ false ∷ false ∷ false ∷ false ∷ false ∷ false ∷ false ∷ false ∷ false ∷ false ∷ false ∷ false ∷ false ∷
+    false ∷ false ∷ []
+unfolding flagged limit rangesLegal
+beside-bounds = refl
+
+-- its asset is in the book
+abbrev known : ℕ → ℕ → ℕ → ℕ → ℕ → ℕ → ℕ → ℕ → ℕ → ℕ → Bool
+known object kind flags count timed timer start end interval accumulated = limitsLegal true (record {
+  object = object;
+  asset = 1;
+  kind = kind;
+  flags = flags;
+  count = count;
+  timed = timed;
+  timer = timer;
+  start = start;
+  end = end;
+  interval = interval;
+  accumulated = accumulated;
+})
+
+-- "rights object number (1 to 65535), asset (in the book), kind .., flags"; "start at most end where both are flagged";
+-- momentary: "no accumulated, timer 0"
+pub entries :
+    known 1 1 0 0 0 0 0 0 0 0
+    ∷ known 65535 5 31 1 1 0 7 7 1 0
+    ∷ known 1 3 63 1 1 1 7 7 1 1
+    ∷ known 1 4 2 0 1 0 0 0 0 0
+    ∷ known 0 1 0 0 0 0 0 0 0 0
+    ∷ known 65536 1 0 0 0 0 0 0 0 0
+    ∷ known 1 0 0 0 0 0 0 0 0 0
+    ∷ known 1 6 0 0 0 0 0 0 0 0
+    ∷ known 1 1 64 0 0 0 0 0 0 0
+    ∷ known 1 1 12 0 0 0 8 7 0 0
+    ∷ known 1 4 2 0 1 1 0 0 0 0
+    ∷ known 1 5 2 0 1 1 0 0 0 0
+    ∷ known 1 4 32 0 0 0 0 0 0 1
+    ∷ known 1 5 32 0 0 0 0 0 0 1
+    ∷ limitsLegal false (limits 1 1 0 0 0 0 0 0 0 0)
+    ∷ []
+    ≡ true ∷ true ∷ true ∷ true ∷ false ∷ false ∷ false ∷ false ∷ false ∷ false ∷ false ∷ false ∷ false ∷ false ∷ false ∷ []
+unfolding flagged momentary limit rangesLegal limitsLegal
+entries = refl
+
+-- ## Players
+
+-- "code 0 or 10 to 15; entry a position if code 0, else entry 255 and until 0"; there are two entries
+abbrev stored : ℕ → ℕ → ℕ → Bool
+stored code entry until = answerLegal 2 (record { code = code; entry = entry; until = until })
+
+pub answers :
+    stored 0 1 7
+    ∷ stored 10 255 0
+    ∷ stored 15 255 0
+    ∷ stored 0 2 7
+    ∷ stored 9 255 0
+    ∷ stored 16 255 0
+    ∷ stored 10 254 0
+    ∷ stored 10 256 0
+    ∷ stored 10 255 1
+    ∷ []
+    ≡ true ∷ true ∷ true ∷ false ∷ false ∷ false ∷ false ∷ false ∷ false ∷ []
+unfolding takenCode answerLegal
+answers = refl
+
+-- "begin ≤ book time < until ≤ book time + 60, an open entry that is a position of kind 1 to 3, and [begin, until) inside its flagged
+-- dates and, where flagged, an interval with started 1": book time 100, two entries, dates 40 to 109, interval 50 to 110
+abbrev used : ℕ → ℕ → ℕ → ℕ → ℕ → ℕ → Bool
+used kind flags started entry begin until = useLegal 100 2 (record {
+  limits = record {
+    object = 1;
+    asset = 1;
+    kind = kind;
+    flags = flags;
+    count = 0;
+    timed = 0;
+    timer = 0;
+    start = 40;
+    end = 109;
+    interval = 60;
+    accumulated = 0;
+  };
+  meters = record { count = 0; timed = 0; first = 50; seconds = 0; started = started };
+}) (record { on = 1; entry = entry; begin = begin; until = until })
+
+pub uses :
+    used 1 0 0 1 100 101
+    ∷ used 3 0 0 0 0 160
+    ∷ used 2 12 0 0 40 110
+    ∷ used 2 16 1 0 50 110
+    ∷ used 1 0 0 1 101 102
+    ∷ used 1 0 0 1 90 100
+    ∷ used 1 0 0 1 100 161
+    ∷ used 1 0 0 2 100 101
+    ∷ used 0 0 0 1 100 101
+    ∷ used 4 0 0 1 100 101
+    ∷ used 2 12 0 0 39 110
+    ∷ used 2 12 0 0 40 111
+    ∷ used 2 16 1 0 49 110
+    ∷ used 2 16 1 0 50 111
+    ∷ used 2 16 0 0 50 110
+    ∷ used 2 16 2 0 50 110
+    ∷ []
+    ≡ true ∷ true ∷ true ∷ true ∷ false ∷ false ∷ false ∷ false ∷ false ∷ false ∷ false ∷ false ∷ false ∷ false ∷ false ∷ false ∷ []
+unfolding grantLength flagged insideDates insideInterval useLegal
+uses = refl
+
+-- ## Meters
+
+-- "no meter above its limit, unflagged meters 0"
+pub meters : meterLegal true 5 5 ∷ meterLegal false 5 0 ∷ meterLegal true 5 6 ∷ meterLegal false 5 1 ∷ [] ≡ true ∷ true ∷ false ∷ false ∷ []
+unfolding meterLegal
+meters = refl
+
+-- "started 0 or 1, first 0 if not, first ≤ book time"; book time 100
+abbrev begun : ℕ → ℕ → ℕ → Bool
+begun flags started first = startLegal 100 (limits 1 1 flags 0 0 0 0 0 0 0)
+    (record { count = 0; timed = 0; first = first; seconds = 0; started = started })
+
+pub starts :
+    begun 16 1 100
+    ∷ begun 16 0 0
+    ∷ begun 0 0 0
+    ∷ begun 16 1 101
+    ∷ begun 16 2 100
+    ∷ begun 16 0 1
+    ∷ begun 0 1 0
+    ∷ []
+    ≡ true ∷ true ∷ true ∷ false ∷ false ∷ false ∷ false ∷ []
+unfolding flagged startLegal
+starts = refl
+
+-- "Where flagged, used count and used timed are at least the entry's open uses, and used seconds at least their until − begin summed.":
+-- two open uses of 70 seconds
+abbrev covered : ℕ → ℕ → ℕ → ℕ → Bool
+covered flags count timed seconds =
+    metersCover 2 70 (limits 1 1 flags 0 0 0 0 0 0 0) (record { count = count; timed = timed; first = 0; seconds = seconds; started = 0 })
+
+pub covers :
+    covered 35 2 2 70
+    ∷ covered 0 0 0 0
+    ∷ covered 1 1 2 70
+    ∷ covered 2 2 1 70
+    ∷ covered 32 2 2 69
+    ∷ []
+    ≡ true ∷ true ∷ false ∷ false ∷ false ∷ []
+unfolding flagged metersCover
+covers = refl

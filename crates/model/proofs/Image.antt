@@ -1,0 +1,3 @@
+-- Demand 2: what is written reads back.
+pub mod Header
+pub mod RoundTrip

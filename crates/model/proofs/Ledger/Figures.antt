@@ -1,0 +1,281 @@
+-- How the ledger's figures change when a use is added, continued, stopped or comes to its end.
+-- Each change is what the rules do to an entry's meters.
+use mathlib.Core.Path.{_≡_, refl, sym, ap, _∙_}
+use Prim.Native.Nat.{ℕ, suc, _+_, _-_, _≤_, _<_, min}
+use mathlib.Core.Bool.{Bool, true, false, not, _&&_, cond}
+use mathlib.Core.List.{List, [], _∷_}
+use mathlib.Core.Option.{Option, none, some, Option·none-ne-some}
+use lib.Dec.{leb, ltb, eqb}
+use native.Mathlib.Omega.{arith}
+use borrow.Author.Tests.{ne-eqb, ltb-true, ltb-false, lt-ltb, le-ltb, leb-true, leb-false}
+use Rattle.book.specs.declared.Limits.{Limits}
+use Rattle.numbers.specs.Count.{one}
+use Rattle.model.specs.Book.{flagged}
+use Rattle.model.specs.Meters.{where-flagged, begun, continued, ended}
+use Rattle.model.proofs.Ledger.Facts.{on-test, and-left, and-right, and-both, eqb-self, flag-add, meters-path}
+use Rattle.model.specs.Ledger.{Use, isOpen, ran, latest, revise, sumOf, counts, countsTimed, countsSeconds, earliest, sooner, stopAt}
+use Rattle.model.specs.Ledger.{goOn}
+use Rattle.model.specs.Demand3.{Every, isSome, startOr, figures}
+use Rattle.model.proofs.Ledger.Sums.{latest-player, sum-revise, Kept, earliest-revise, Tidy, open-falls, all-shut, sum-latest}
+use Rattle.model.proofs.Ledger.Sums.{sum-nobody}
+
+pub stopAt-keeps : (e : ℕ) → Kept (stopAt e)
+stopAt-keeps e = record { entry = λ u. refl; player = λ u. refl; begin = λ u. refl }
+
+pub goOn-keeps : (v : ℕ) → Kept (goOn v)
+goOn-keeps v = record { entry = λ u. refl; player = λ u. refl; begin = λ u. refl }
+
+-- ## Weights
+
+pub timed-open : (at : ℕ → ℕ) (r : ℕ) (u : Use) → isOpen (at (u .player)) u ≡ true → countsTimed at r (u .entry) u ≡ 1
+timed-open at r u e = rw (eqb-self (u .entry), e)
+
+pub timed-shut : (at : ℕ → ℕ) (r : ℕ) (u : Use) → isOpen (at (u .player)) u ≡ false → countsTimed at r (u .entry) u ≡ one (leb r (ran u))
+timed-shut at r u e = rw (eqb-self (u .entry), e)
+
+pub timed-other : (at : ℕ → ℕ) (r j : ℕ) (u : Use) → (u .entry ≡ j → ⊥) → countsTimed at r j u ≡ 0
+timed-other at r j u h = rw (ne-eqb (u .entry) j h)
+
+pub counts-other : (j : ℕ) (u : Use) → (u .entry ≡ j → ⊥) → counts j u ≡ 0
+counts-other j u h = rw (ne-eqb (u .entry) j h)
+
+pub seconds-other : (j : ℕ) (u : Use) → (u .entry ≡ j → ⊥) → countsSeconds j u ≡ 0
+seconds-other j u h = rw (ne-eqb (u .entry) j h)
+
+pub counts-own : (u : Use) → counts (u .entry) u ≡ 1
+counts-own u = rw (eqb-self (u .entry))
+
+pub seconds-own : (u : Use) → countsSeconds (u .entry) u ≡ ran u
+seconds-own u = rw (eqb-self (u .entry))
+
+-- a timed count goes back if the use ran for less than the timer
+pub timed-back : (f : Bool) (a b r x : ℕ) → b + 1 ≡ a + one (leb r x) → where-flagged f b ≡ where-flagged f a - where-flagged
+    (f && ltb x r) 1
+timed-back false a b r x e = omega arith
+timed-back true a b r x e =
+    on-test (leb r x)
+    (λ q. rw (le-ltb x r (leb-true r x q)) (omega (arith, rw q at e)))
+    (λ q. rw (lt-ltb x r (leb-false r x q)) (omega (arith, rw q at e)))
+
+pub seconds-back : (f : Bool) (a b x : ℕ) → b + x ≡ a → where-flagged f b ≡ where-flagged f a - where-flagged f x
+seconds-back true a b x e = omega arith
+seconds-back false a b x e = omega arith
+
+pub open-until : (T : ℕ) (u : Use) → isOpen T u ≡ true → T < u .until
+unfolding isOpen
+open-until T u e = ltb-true T (u .until) (and-right (not (u .stopped)) (ltb T (u .until)) e)
+
+pub open-on : (T v : ℕ) (u : Use) → u .until ≤ v → isOpen T u ≡ true → isOpen T (goOn v u) ≡ true
+unfolding isOpen
+open-on T v u h e = and-both (and-left (not (u .stopped)) (ltb T (u .until)) e) (lt-ltb T v (omega (arith, open-until T u e)))
+
+pub stopped-shut : (T e : ℕ) (u : Use) → isOpen T (stopAt e u) ≡ false
+unfolding isOpen
+stopped-shut T e u = refl
+
+-- ## Revisions
+
+module _ (at : ℕ → ℕ) (us : List Use) (l : Limits) where
+  pub figures-other : (f : Use → Use) → Kept f → (p : ℕ) (u : Use) → latest p us ≡ some u → (j : ℕ) → (u .entry ≡ j → ⊥) → figures at
+      (revise p f us) j l ≡ figures at us j l
+  unfolding figures
+  figures-other f k p u e j h =
+      let g : (f u) .entry ≡ j → ⊥ = λ z. h (sym (k .entry u) ∙ z) in
+      meters-path
+      (ap (where-flagged (flagged 1 l)) (omega (arith, sum-revise (counts j) p f us u e, counts-other j u h, counts-other j (f u) g)))
+      (ap (where-flagged (flagged 2 l)) (omega (
+        arith,
+        sum-revise (countsTimed at (l .timer) j) p f us u e,
+        timed-other at (l .timer) j
+            u h,
+        timed-other at (l .timer) j (f u) g,
+      )))
+      (rw (earliest-revise f k j p us))
+      (rw (earliest-revise f k j p us))
+      (ap (where-flagged (flagged 32 l)) (omega (
+        arith,
+        sum-revise (countsSeconds j) p f us u e,
+        seconds-other j u h,
+        seconds-other j
+            (f u) g,
+      )))
+
+  -- the use of entry u .entry is stopped at e
+  pub figures-ended : (p : ℕ) (u : Use) (e : ℕ) → latest p us ≡ some u → isOpen (at (u .player)) u ≡ true → u .begin ≤ e → e ≤ u .until →
+      figures at (revise p (stopAt e) us) (u .entry) l ≡ ended (u .begin) (u .until) e l (figures at us (u .entry) l)
+  unfolding figures ended
+  figures-ended p u e s o h k =
+      meters-path
+      (ap (where-flagged (flagged 1 l)) (omega (arith, sum-revise (counts (u .entry)) p (stopAt e) us u s)))
+      (timed-back (flagged 2 l) _ _ (l .timer) (e - u .begin)
+      (omega (
+        arith,
+        sum-revise (countsTimed at (l .timer) (u .entry)) p (stopAt e) us u s,
+        timed-open at (l .timer) u o,
+        timed-shut at
+            (l .timer) (stopAt e u) (stopped-shut (at (u .player)) e u),
+      )))
+      (rw (earliest-revise (stopAt e) (stopAt-keeps e) (u .entry) p us))
+      (rw (earliest-revise (stopAt e) (stopAt-keeps e) (u .entry) p us))
+      (seconds-back (flagged 32 l) _ _ (u .until - e) (omega (
+        arith,
+        sum-revise (countsSeconds (u .entry)) p (stopAt e) us u s,
+        seconds-own u,
+        seconds-own (stopAt e u),
+      )))
+
+  pub figures-continued : (p : ℕ) (u : Use) (v : ℕ) → latest p us ≡ some u → isOpen (at (u .player)) u ≡ true → u .begin ≤ u .until → u
+      .until ≤ v →
+      figures at (revise p (goOn v) us) (u .entry) l ≡ continued (u .until) v l (figures at us (u .entry) l)
+  unfolding figures continued
+  figures-continued p u v s o h k =
+      meters-path
+      (ap (where-flagged (flagged 1 l)) (omega (arith, sum-revise (counts (u .entry)) p (goOn v) us u s)))
+      (ap (where-flagged (flagged 2 l)) (omega (
+        arith,
+        sum-revise (countsTimed at (l .timer) (u .entry)) p (goOn v) us u s,
+        timed-open
+            at (l .timer) u o,
+        timed-open at (l .timer) (goOn v u) (open-on (at (u .player)) v u k o),
+      )))
+      (rw (earliest-revise (goOn v) (goOn-keeps v) (u .entry) p us))
+      (rw (earliest-revise (goOn v) (goOn-keeps v) (u .entry) p us))
+      (ap (where-flagged (flagged 32 l)) (omega (
+        arith,
+        sum-revise (countsSeconds (u .entry)) p (goOn v) us u s,
+        seconds-own u,
+        seconds-own (goOn v u),
+      )) ∙ flag-add (flagged 32 l) _ (v - u .until))
+
+-- ## A new use
+
+pub earliest-le : (T i : ℕ) (us : List Use) (c : ℕ) → Every (λ u. u .begin ≤ T) us → earliest i us ≡ some c → c ≤ T
+unfolding earliest
+earliest-le T i [] c h e = absurd (Option·none-ne-some c e)
+earliest-le T i (u ∷ us) c h e =
+    on-test (eqb (u .entry) i)
+    (λ q. go (earliest i us) (rw q at e))
+    (λ q. earliest-le T i us c (h .1) (rw q at e))
+  where
+    go : (s : Option ℕ) → _≡_ {A = Option ℕ} (some (sooner (u .begin) s)) (some c) → c ≤ T
+    go none z = let y : u .begin ≡ c = cc in omega arith
+    go (some d) z = let y : min (u .begin) d ≡ c = cc in omega arith
+
+started-begun : (f : Bool) → one (f && true) ≡ one f
+started-begun true = refl
+started-begun false = refl
+
+first-begun : (f : Bool) (b : ℕ) (s : Option ℕ) → ((c : ℕ) → s ≡ some c → c ≤ b)
+    → where-flagged f (sooner b s) ≡ where-flagged f (cond (eqb (one (f && isSome s)) 1) (where-flagged f (startOr 0 s)) b)
+first-begun false b s h = refl
+first-begun true b none h = refl
+first-begun true b (some c) h = omega (arith, h c refl)
+
+module _ (at : ℕ → ℕ) (us : List Use) (l : Limits) where
+  pub figures-new-other : (u : Use) (j : ℕ) → (u .entry ≡ j → ⊥) → figures at (u ∷ us) j l ≡ figures at us j l
+  unfolding figures sumOf earliest
+  figures-new-other u j h =
+      meters-path
+      (ap (where-flagged (flagged 1 l)) (omega (arith, counts-other j u h)))
+      (ap (where-flagged (flagged 2 l)) (omega (arith, timed-other at (l .timer) j u h)))
+      (rw (ne-eqb (u .entry) j h))
+      (rw (ne-eqb (u .entry) j h))
+      (ap (where-flagged (flagged 32 l)) (omega (arith, seconds-other j u h)))
+
+  -- a begin no earlier than any other
+  pub figures-begun : (u : Use) → Every (λ v. v .begin ≤ u .begin) us → countsTimed at (l .timer) (u .entry) u ≡ 1 →
+      figures at (u ∷ us) (u .entry) l ≡ begun (u .begin) (u .until) l (figures at us (u .entry) l)
+  unfolding figures begun sumOf earliest
+  figures-begun u h o =
+      meters-path
+      (ap (where-flagged (flagged 1 l)) (omega (arith, counts-own u)) ∙ flag-add (flagged 1 l) _ 1)
+      (ap (where-flagged (flagged 2 l)) (omega (arith, o)) ∙ flag-add (flagged 2 l) _ 1)
+      (rw (eqb-self (u .entry)) (started-begun (flagged 16 l)))
+      (rw (eqb-self (u .entry)) (first-begun (flagged 16 l) (u .begin) (earliest (u .entry) us)
+      (λ c e. earliest-le (u .begin) (u .entry) us c h e)))
+      (ap (where-flagged (flagged 32 l)) (omega (arith, seconds-own u)) ∙ flag-add (flagged 32 l) _ (u .until - u .begin))
+
+-- ## Settling one player: the time at which its uses are judged moves from S to T
+
+-- players below q are judged at T, the others at S
+unfoldable pub stage : ℕ → ℕ → ℕ → ℕ → ℕ
+stage S T q p = cond (ltb p q) T S
+
+pub stage-done : (S T q p : ℕ) → p < q → stage S T q p ≡ T
+unfolding stage
+stage-done S T q p h = rw (lt-ltb p q h)
+
+pub stage-left : (S T q p : ℕ) → q ≤ p → stage S T q p ≡ S
+unfolding stage
+stage-left S T q p h = rw (le-ltb p q h)
+
+pub stage-other : (S T q p : ℕ) → (p ≡ q → ⊥) → stage S T (suc q) p ≡ stage S T q p
+unfolding stage
+stage-other S T q p h =
+    on-test (ltb p q)
+    (λ e. rw (e, lt-ltb p (suc q) (omega (arith, ltb-true p q e))))
+    (λ e. rw (e, le-ltb p (suc q) (omega (arith, ltb-false p q e))))
+
+pub stage-shut : (S T q p : ℕ) (u : Use) → S ≤ T → isOpen S u ≡ false → isOpen (stage S T q p) u ≡ false
+unfolding stage
+stage-shut S T q p u h e = on-test (ltb p q) (λ z. rw z (open-falls S T u h e)) (λ z. rw z e)
+
+module _ (S T q : ℕ) (us : List Use) (l : Limits) (later : S ≤ T) (tidy : Tidy S us) where
+  weights-other : (j : ℕ) (u : Use) → (u .player ≡ q → ⊥) → countsTimed (stage S T q) (l .timer) j u ≡ countsTimed (stage S T (suc q))
+      (l .timer) j u
+  weights-other j u h = rw (stage-other S T q (u .player) h)
+
+  weights-shut : (j : ℕ) (u : Use) → isOpen S u ≡ false → countsTimed (stage S T q) (l .timer) j u ≡ countsTimed (stage S T (suc q))
+      (l .timer) j u
+  weights-shut j u e = rw (stage-shut S T q (u .player) u later e, stage-shut S T (suc q) (u .player) u later e)
+
+  only-timed : (j : ℕ) → sumOf (countsTimed (stage S T (suc q)) (l .timer) j) us ≡ sumOf (countsTimed (stage S T q) (l .timer) j) us →
+      figures (stage S T (suc q)) us j l ≡ figures (stage S T q) us j l
+  unfolding figures
+  only-timed j e = meters-path refl (ap (where-flagged (flagged 2 l)) e) refl refl refl
+
+  -- nothing of player q was open
+  pub settle-nobody : (j : ℕ) → ((u : Use) → latest q us ≡ some u → isOpen S u ≡ false) → figures (stage S T (suc q)) us j l ≡ figures
+      (stage S T q) us j l
+  settle-nobody j g = only-timed j (sum-nobody _ _ S q (weights-other j) (weights-shut j) us (all-shut S q us tidy g))
+
+  -- player q's use u goes on
+  pub settle-open : (j : ℕ) (u : Use) → latest q us ≡ some u → isOpen S u ≡ true → isOpen T u ≡ true → figures (stage S T (suc q)) us j
+      l ≡ figures (stage S T q) us j l
+  settle-open j u s o z =
+      let a : isOpen (stage S T q (u .player)) u ≡ true = rw (stage-left S T q (u .player) (omega (arith, latest-player q us u s))) o in
+      let b : isOpen (stage S T (suc q) (u .player)) u ≡ true = rw
+      (stage-done S T (suc q) (u .player) (omega (arith, latest-player q us u s))) z in
+      let c : countsTimed (stage S T q) (l .timer) j u ≡ countsTimed (stage S T (suc q)) (l .timer) j u = rw (a, b) in
+      only-timed j (omega (arith, sum-latest _ _ S q (weights-other j) (weights-shut j) us u tidy s))
+
+  -- it is of another entry
+  pub settle-other : (j : ℕ) (u : Use) → latest q us ≡ some u → (u .entry ≡ j → ⊥) → figures (stage S T (suc q)) us j l ≡ figures
+      (stage S T q) us j l
+  settle-other j u s h =
+      only-timed j (omega (
+        arith,
+        sum-latest _ _ S q (weights-other j) (weights-shut j) us u tidy s,
+        timed-other (stage S T q)
+            (l .timer) j u h,
+        timed-other (stage S T (suc q)) (l .timer) j u h,
+      ))
+
+  -- it has come to its end
+  pub settle-ended : (u : Use) → latest q us ≡ some u → isOpen S u ≡ true → isOpen T u ≡ false →
+      figures (stage S T (suc q)) us (u .entry) l ≡ ended (u .begin) (u .until) (u .until) l (figures (stage S T q) us (u .entry) l)
+  unfolding figures ended
+  settle-ended u s o z =
+      let a : isOpen (stage S T q (u .player)) u ≡ true = rw (stage-left S T q (u .player) (omega (arith, latest-player q us u s))) o in
+      let b : isOpen (stage S T (suc q) (u .player)) u ≡ false = rw
+      (stage-done S T (suc q) (u .player) (omega (arith, latest-player q us u s))) z in
+      meters-path refl
+      (timed-back (flagged 2 l) _ _ (l .timer) (ran u) (omega (
+        arith,
+        sum-latest _ _ S q (weights-other (u .entry)) (weights-shut (u .entry)) us u tidy s,
+        timed-open (stage S T q) (l .timer) u
+            a,
+        timed-shut (stage S T (suc q)) (l .timer) u b,
+      )))
+      refl refl
+      (seconds-back (flagged 32 l) _ _ (u .until - u .until) (omega arith))

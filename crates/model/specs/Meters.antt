@@ -1,0 +1,88 @@
+-- The only ways in which an event changes an entry, and settling.
+-- Document 01, section "Events". Quotations are that document's.
+use Prim.Native.Nat.{ℕ, _+_, _-_}
+use mathlib.Core.Bool.{Bool, true, false, _&&_, cond}
+use mathlib.Core.List.{List, [], _∷_}
+use lib.ListN.{set}
+use lib.Dec.{leb, ltb, eqb}
+use Rattle.numbers.specs.Count.{one}
+use Rattle.book.specs.declared.Limits.{Limits}
+use Rattle.book.specs.declared.Meters.{Meters}
+use Rattle.book.specs.declared.Entry.{Entry}
+use Rattle.book.specs.declared.Open.{Open}
+use Rattle.book.specs.declared.Player.{Player}
+use Rattle.book.specs.Blank.{closed}
+use Rattle.model.specs.Book.{limitsAt, metersAt, flagged}
+use Rattle.model.specs.Book.{countFlag, timedFlag, intervalFlag, accumulatedFlag}
+
+-- ## The only ways in which an event changes an entry
+
+-- the meters of entry i become g of its limits and meters
+unfoldable pub amend : ℕ → (Limits → Meters → Meters) → List Entry → List Entry
+amend i g es = set es i (record { limits = limitsAt es i; meters = g (limitsAt es i) (metersAt es i) })
+
+-- v if the flag is set, otherwise 0: "A meter whose flag is missing stays 0."
+abbrev pub where-flagged : Bool → ℕ → ℕ
+where-flagged true v = v
+where-flagged false v = 0
+
+-- whether the interval has started
+abbrev pub isStarted : Meters → Bool
+isStarted m = eqb (m .started) 1
+
+-- "first is t if not started"
+abbrev pub intervalFrom : ℕ → Meters → ℕ
+intervalFrom t m = cond (isStarted m) (m .first) t
+
+-- begin at t until u: "Used count and used timed rise by 1, used seconds by until − t, an interval starts."
+unfoldable pub begun : ℕ → ℕ → Limits → Meters → Meters
+begun t u l m = record {
+  count = m .count + where-flagged (flagged countFlag l) 1;
+  timed = m .timed + where-flagged (flagged timedFlag l) 1;
+  first = where-flagged (flagged intervalFlag l) (intervalFrom t m);
+  seconds = m .seconds + where-flagged (flagged accumulatedFlag l) (u - t);
+  started = one (flagged intervalFlag l);
+}
+
+-- continue from until u to v: "used seconds rise by the difference"
+unfoldable pub continued : ℕ → ℕ → Limits → Meters → Meters
+continued u v l m = record {
+  count = m .count;
+  timed = m .timed;
+  first = m .first;
+  seconds = m .seconds + where-flagged (flagged accumulatedFlag l) (v - u);
+  started = m .started;
+}
+
+-- a use that began at b, with its seconds counted until u, ends at e: "until − t seconds go back";
+-- "When a use ends, however it ends, with end − begin < timer, its timed count goes back. A count never does."
+unfoldable pub ended : ℕ → ℕ → ℕ → Limits → Meters → Meters
+ended b u e l m = record {
+  count = m .count;
+  timed = m .timed - where-flagged (flagged timedFlag l && ltb (e - b) (l .timer)) 1;
+  first = m .first;
+  seconds = m .seconds - where-flagged (flagged accumulatedFlag l) (u - e);
+  started = m .started;
+}
+
+-- ## Settling
+
+abbrev pub isOn : Open → Bool
+isOn o = eqb (o .on) 1
+
+-- "each open use of any player with until ≤ t ends at its until, players 0 to 15 in turn"
+unfoldable pub expired : ℕ → Open → Bool
+expired t o = isOn o && leb (o .until) t
+
+-- "One player's record is settled on its own, the others untouched."
+unfoldable pub shut : ℕ → Player → Player
+shut t p = record { last = p .last; current = cond (expired t (p .current)) closed (p .current) }
+
+-- the entries after one player's use is settled
+unfoldable pub released : ℕ → Open → List Entry → List Entry
+released t o es = cond (expired t o) (amend (o .entry) (ended (o .begin) (o .until) (o .until)) es) es
+
+-- the entries after the players' uses are settled in turn
+unfoldable pub settled : ℕ → List Player → List Entry → List Entry
+settled t [] es = es
+settled t (p ∷ ps) es = settled t ps (released t (p .current) es)

@@ -1,0 +1,157 @@
+-- What an event does to the book.
+-- Document 01, section "Events", in its order. Quotations are that document's.
+-- Every definition is total, on every book value: what a book does not hold reads as blank, and a subtraction stops at 0.
+use Prim.Native.Nat.{ℕ}
+use mathlib.Core.Bool.{not, cond}
+use mathlib.Core.List.{List, map}
+use lib.ListN.{set}
+use lib.Dec.{leb}
+use Rattle.book.specs.declared.Entry.{Entry}
+use Rattle.book.specs.declared.Ask.{Ask}
+use Rattle.book.specs.declared.Answer.{Answer}
+use Rattle.book.specs.declared.Last.{Last}
+use Rattle.book.specs.declared.Open.{Open}
+use Rattle.book.specs.declared.Player.{Player}
+use Rattle.book.specs.declared.Book.{Book}
+use Rattle.book.specs.declared.Event.{Event}
+use Rattle.book.specs.declared.Request.{Request}
+use Rattle.book.specs.declared.Request.the-variants.{Begin, Continue, Stop}
+use Rattle.book.specs.declared.Decoded.{Decoded}
+use Rattle.book.specs.declared.Decoded.the-variants.{Invalid, Valid}
+use Rattle.book.specs.declared.Gate.{Gate}
+use Rattle.book.specs.declared.Gate.the-variants.{Refuse, Resend, Take}
+use Rattle.book.specs.declared.Outcome.{Outcome}
+use Rattle.book.specs.Blank.{closed}
+use Rattle.book.specs.Changed.{changed}
+use Rattle.model.specs.Book.{limitsAt, metersAt, playerAt, momentary}
+use Rattle.model.specs.Record.{kindNumber, operationNumber, requestAsset, requestKind, decoded}
+use Rattle.model.specs.Gate.{gate}
+use Rattle.model.specs.Meters.{amend, begun, continued, ended, isOn, shut, settled}
+use Rattle.model.specs.Choice.{Catalog, catalogOf, usable, asks, Choice, anyOf, suits, choose, nobody, chosen, grantUntil, moreUntil}
+
+-- ## Begin, continue, stop
+
+-- "Each of 1 to 15 returns entry 255 and until 0."
+abbrev pub refusal : ℕ → Answer
+refusal code = record { code = code; entry = 255; until = 0 }
+
+-- "13 | suitable, none grantable"
+abbrev pub noneGrantable : ℕ
+noneGrantable = 13
+
+-- what a taken event does once all players are settled: the answer, the entries, the asking player's use
+pub record Done : Type 0 where
+  pub answer : Answer
+  pub entries : List Entry
+  pub current : Open
+
+-- "*Taken* leaves entries' meters as settling made them."
+abbrev pub unchanged : ℕ → List Entry → Open → Done
+unchanged code es o = record { answer = refusal code; entries = es; current = o }
+
+-- what a begin does with the choice
+abbrev pub granted : ℕ → List Entry → Open → Choice → Done
+granted t es o nobody = unchanged noneGrantable es o
+granted t es o (chosen i) =
+    let u : ℕ = grantUntil t (limitsAt es i) (metersAt es i) in
+    record {
+      answer = record { code = 0; entry = i; until = u };
+      entries = amend i (begun t u) es;
+      current = cond (momentary (limitsAt es i .kind)) o (record { on = 1; entry = i; begin = t; until = u });
+    }
+
+-- "**Begin**, in order: 11, 10, 12, 13."
+unfoldable pub doBegin : Catalog → List Entry → Open → Ask → ℕ → ℕ → Done
+doBegin c es o ask asset kind =
+    cond (isOn o) (unchanged 11 es o)
+    (cond (not (usable c asset)) (unchanged 10 es o)
+    (cond (not (anyOf (suits c es asset kind) (c .entryCount))) (unchanged 12 es o)
+    (granted (ask .time) es o (choose c es ask asset kind))))
+
+-- the new until of the open use
+abbrev pub more : List Entry → Open → ℕ → ℕ
+more es o t = moreUntil t (o .until) (limitsAt es (o .entry)) (metersAt es (o .entry))
+
+-- a continue until v
+abbrev pub lengthened : ℕ → List Entry → Open → Done
+lengthened v es o = record {
+  answer = record { code = 0; entry = o .entry; until = v };
+  entries = amend (o .entry) (continued (o .until) v) es;
+  current = record { on = 1; entry = o .entry; begin = o .begin; until = v };
+}
+
+-- "**Continue**: 14 if nothing is open. ... Equal to the old: 15." (On a legal book no new until is below the old one.)
+unfoldable pub doContinue : List Entry → Open → ℕ → Done
+doContinue es o t =
+    cond (not (isOn o)) (unchanged 14 es o)
+    (cond (leb (more es o t) (o .until)) (unchanged 15 es o)
+    (lengthened (more es o t) es o))
+
+-- a stop at t
+abbrev pub halted : ℕ → List Entry → Open → Done
+halted t es o = record {
+  answer = record { code = 0; entry = o .entry; until = t };
+  entries = amend (o .entry) (ended (o .begin) (o .until) t) es;
+  current = closed;
+}
+
+-- "**Stop**: 14 if nothing is open. The use ends at t; until − t seconds go back. Answer: its entry, until t."
+unfoldable pub doStop : List Entry → Open → ℕ → Done
+doStop es o t = cond (not (isOn o)) (unchanged 14 es o) (halted t es o)
+
+-- what the operation does
+unfoldable pub done : Request → Catalog → List Entry → Open → Ask → Done
+done (Begin kind asset) c es o ask = doBegin c es o ask asset (kindNumber kind)
+done Continue c es o ask = doContinue es o (ask .time)
+done Stop c es o ask = doStop es o (ask .time)
+
+-- ## The step
+
+abbrev pub lastAt : List Player → ℕ → Last
+lastAt ps p = playerAt ps p .last
+
+abbrev pub openAt : List Player → ℕ → Open
+openAt ps p = playerAt ps p .current
+
+-- "its number, request (operation, asset, kind) and answer are stored"
+abbrev pub noted : Event → Answer → Last
+noted e a = record {
+  number = e .number;
+  operation = operationNumber (e .request);
+  asset = requestAsset (e .request);
+  kind = requestKind (e .request);
+  answer = a;
+}
+
+-- "From here the event is *taken*: ... are stored, the book's time becomes t"
+abbrev pub stored : Book → Event → List Player → Done → Outcome
+stored b e ps d = record {
+  answer = d .answer;
+  book = changed b (e .time) (d .entries) (set ps (e .player) (record { last = noted e (d .answer); current = d .current }));
+}
+
+-- an event that is taken: all players are settled, then the operation, then the store
+unfoldable pub takenStep : Book → Event → Outcome
+takenStep b e =
+    let ps : List Player = map (shut (e .time)) (b .players) in
+    let es : List Entry = settled (e .time) (b .players) (b .entries) in
+    stored b e ps (done (e .request) (catalogOf b) es (openAt ps (e .player)) (asks e))
+
+-- a resend "gets the stored answer, t is not read, and nothing changes"
+unfoldable pub stepBy : Gate → Book → Event → Outcome
+stepBy (Refuse code) b e = record { answer = refusal code; book = b }
+stepBy Resend b e = record { answer = lastAt (b .players) (e .player) .answer; book = b }
+stepBy Take b e = takenStep b e
+
+-- an event on a book: the answer, and the book after it
+unfoldable pub step : Book → Event → Outcome
+step b e = stepBy (gate (b .time) (lastAt (b .players) (e .player)) e) b e
+
+-- whatever was decoded, an event or a refusal
+unfoldable pub arrive : Book → Decoded → Outcome
+arrive b (Invalid code) = record { answer = refusal code; book = b }
+arrive b (Valid e) = step b e
+
+-- a record of arbitrary bytes
+unfoldable pub stepRecord : Book → List ℕ → Outcome
+stepRecord b s = arrive b (decoded s)

@@ -1,0 +1,4 @@
+-- General definitions, and laws about them.
+pub mod Buffer
+pub mod Count
+pub mod Fields

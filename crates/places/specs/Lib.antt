@@ -1,2 +1,0 @@
--- The assets by number.
-pub mod Places

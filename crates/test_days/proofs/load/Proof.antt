@@ -1,0 +1,35 @@
+-- `load` lends the first n bytes of the buffer, which the test before it shows to be there.
+use borrow.Author.Needs.{needs}
+use mathlib.Core.Path.{sym}
+use lib.Seq.{length-take-le}
+use Rattle.test_days.proofs.load.Statement.{statement}
+use Rattle.test_days.proofs.load.Tie as tie
+
+blank-book-requires : tie.Need-blank-book-requires
+blank-book-requires c κs = search needs
+
+slice-aggregate-read : tie.Need-slice-aggregate-read
+slice-aggregate-read c = sym (length-take-le _ _ (c .before .if1 .taken))
+
+read-requires : tie.Need-read-requires
+read-requires c κs = search needs
+
+returns : tie.Need-returns
+returns c = search needs
+
+read-requires-2 : tie.Need-read-requires-2
+read-requires-2 c κs = search needs
+
+returns-2 : tie.Need-returns-2
+returns-2 c = search needs
+
+pub load-spec : {M : Type 1} → statement M
+load-spec =
+    tie.close
+    (tie.spec
+    blank-book-requires
+    slice-aggregate-read
+    read-requires
+    returns
+    read-requires-2
+    returns-2)

@@ -1,0 +1,169 @@
+// Reads the stored days of days.bin in turn and prints, for each, a line `day N` and what the run program prints for that day.
+// Each day is answered twice: as one block, as the run program does it, and one event at a time on a book passed by value. If the two
+// differ, in the text or in the final book, a line says so.
+// A day is stored as the image's length (32 bits, big-endian), the image, the length of the event bytes (32 bits), and those bytes.
+ghost use Prim.Native.Nat.{_<_, _≤_};
+use batch::Block;
+use book::Book;
+use image_read::Loaded;
+use text::put_line;
+
+struct Head {
+    more: bool,
+    length: usize,
+}
+
+// The length in the next four bytes of the file, if there are that many.
+fn read_head(fd: i32) -> Head {
+    let mut h = [0u8; 4];
+    let n = io::read_full(fd, &mut h);
+    Head {
+        more: n == 4,
+        length: numbers::join32(h[0], h[1], h[2], h[3]) as usize,
+    }
+}
+
+// Reads the next n bytes of the file to the start of buf. False if buf has no room for them or the file ends first.
+fn fill(fd: i32, n: usize, buf: &mut [u8]) -> bool {
+    if n <= buf.len() {
+        return io::read_full(fd, &mut buf[..n]) == n;
+    }
+    false
+}
+
+// Reads the image in the first n bytes of buf.
+fn load(n: usize, buf: &[u8]) -> Loaded {
+    let blank = book::blank_book();
+    if n <= buf.len() {
+        return image_read::read(blank, &buf[..n]);
+    }
+    image_read::read(blank, buf)
+}
+
+fn print_number(n: u64) {
+    io::print_decimal(1, n);
+    io::write_all(1, b"\n");
+}
+
+// Writes the first n bytes of text.
+fn send(text: &[u8], n: usize) {
+    if n <= text.len() {
+        io::write_all(1, &text[..n]);
+    }
+}
+
+// The end offset of the record that begins at `from`.
+fn record_end(from: usize, size: usize) -> usize
+    requires { ⌜ from < size ⌝ }
+    ensures { λ r. ⌜ (from < r) × (r ≤ size) ⌝ }
+{
+    if 13 < size - from { from + 13 } else { size }
+}
+
+// Answers the events one at a time, each on the book that the one before it left.
+fn answer_singly(b: Book, events: &[u8], out: &mut [u8]) -> Block {
+    let mut book = b;
+    let mut at: usize = 0;
+    let mut from: usize = 0;
+    while from < events.len() {
+        let to = record_end(from, events.len());
+        let o = step::step_record(book, &events[from..to]);
+        let next = o.book;
+        book = next;
+        let answer = o.answer;
+        at = put_line(out, at, answer);
+        from = to;
+    }
+    Block {
+        book: book,
+        written: at,
+    }
+}
+
+fn same(a: &[u8], b: &[u8]) -> bool {
+    if a.len() != b.len() {
+        return false;
+    }
+    let mut i: usize = 0;
+    while i < a.len() {
+        if a[i] != b[i] {
+            return false;
+        }
+        i = i + 1;
+    }
+    true
+}
+
+fn same_book(a: Book, b: Book) -> bool {
+    let mut first = [0u8; 3979];
+    let mut second = [0u8; 3979];
+    let n = image_write::write(a, &mut first);
+    let m = image_write::write(b, &mut second);
+    (n == m) & same(&first, &second)
+}
+
+// Prints the answers to the events in the first n bytes of buf.
+fn print_answers(b: Book, n: usize, buf: &[u8]) {
+    let mut out = [0u8; 95798];
+    let mut singly = [0u8; 95798];
+    if n <= buf.len() {
+        let r = batch::answer_block(b, &buf[..n], &mut out);
+        let q = answer_singly(b, &buf[..n], &mut singly);
+        send(&out, r.written);
+        if !(same(&out, &singly)) {
+            io::write_all(1, b"other answers one event at a time\n");
+        }
+        let last = r.book;
+        let other = q.book;
+        if !same_book(last, other) {
+            io::write_all(1, b"another book one event at a time\n");
+        }
+    }
+}
+
+// Prints the next day, if there is one.
+fn one_day(fd: i32, number: u64) -> bool {
+    let first = read_head(fd);
+    if !first.more {
+        return false;
+    }
+    io::write_all(1, b"day ");
+    print_number(number);
+    let mut image = io::large_buffer();
+    let mut events = io::large_buffer();
+    let has_image = fill(fd, first.length, &mut image);
+    let second = read_head(fd);
+    let has_events = fill(fd, second.length, &mut events);
+    if !(has_image & second.more & has_events) {
+        io::write_all(1, b"cut short or too long\n");
+        return false;
+    }
+    let l = load(first.length, &image);
+    if l.code != 0 {
+        print_number(l.code as u64);
+        return true;
+    }
+    let b = l.book;
+    print_answers(b, second.length, &events);
+    true
+}
+
+// A proved loop has to end, and nothing guarantees that a file does: no more days than this are read.
+fn all_days(fd: i32) {
+    let mut number: u64 = 1;
+    while number < 1000000 {
+        if !one_day(fd, number) {
+            return;
+        }
+        number = number + 1;
+    }
+}
+
+fn main() {
+    let fd = os::open_read(b"days.bin");
+    if fd < 0 {
+        io::write_all(1, b"no days.bin\n");
+        return;
+    }
+    all_days(fd);
+}

@@ -1,0 +1,95 @@
+"""Why a begin would be answered as it would (`why`): the answer, and what stands against each suitable entry."""
+
+import time
+
+import rights
+from rights import Event
+
+from .files import read_image
+from .library import judged
+from .records import answer_words
+from .state import settled, stop_helps, told_time
+from .texts import refusal
+from .words import KINDS, Mistake, Trouble, Words, date, kind_name, number, when
+
+
+def why(path, player, asset, kind, at=None):
+    asked = int(time.time()) if at is None else told_time(at)
+    player, asset, kind = told_request(player, asset, kind)
+    image = read_image(path)
+    code, book = rights.read(image)
+    if code != 0:
+        raise Trouble(refusal(path, image, code))
+    t = max(asked, book.time)
+    clock = "this machine's clock" if at is None else "as asked"
+    late = "" if t == asked else f", the book's time (at {when(asked)}, {clock}, it would be turned away with 5)"
+    print(f"Player {player} asks to {kind_name(kind)} asset {asset} at {when(t)}, UTC{late or f', {clock}'}.")
+    for line in why_lines(image, book, player, asset, kind, t):
+        print(line)
+
+
+def told_request(player, asset, kind):
+    try:
+        return (number(player, rights.PLAYERS - 1, "the player"), number(asset, 65_535, "the asset"),
+                Words(kind).of(KINDS, "kind"))
+    except Mistake as mistake:
+        raise Trouble(f"why: {mistake}") from None
+
+
+def why_lines(image, book, player, asset, kind, t):
+    """The answer to the begin, and a line for each suitable entry. Answer and grounds are the proved library's; the book is as
+    it stands in the image."""
+    last = book.players[player].number
+    record = rights.encode(Event(player, last + 1 if last < rights.LAST_NUMBER else 0, rights.BEGIN, asset, kind, t))
+    answer, grounds = judged(image, record, player, t)
+    book = settled(book, t)
+    told = answer_words(rights.BEGIN, kind, *answer)
+    yield f"The answer would be {answer[0]}, {told}{because(book, player, asset, kind, answer[0])}."
+    for position in suitable(book, asset, kind):
+        yield f"  {entry_words(book, position, asset)}: {verdict(book, position, grounds[position], answer, t)}"
+
+
+def suitable(book, asset, kind):
+    found = book.asset(asset)
+    return rights.suitable_entries(book, found, kind) if found is not None and found.key else []
+
+
+def because(book, player, asset, kind, code):
+    """What the answer's words leave open, for those that no line below explains."""
+    found, user = book.asset(asset), book.players[player]
+    if code == 3:
+        return f": it has used all of them, up to {rights.LAST_NUMBER}"
+    if code == 10:
+        return f": asset {asset} {'is not in the book' if found is None else 'is a parent' if found.is_parent() else 'has no key'}"
+    if code == 11:
+        return f": entry {user.open_entry}, since {date(user.begin)}, until {date(user.until)}"
+    if code == 12:
+        others = sorted({entry_kind for entry_kind in KINDS.values() if suitable(book, asset, entry_kind)})
+        return f": it has {', '.join(map(kind_name, others)) or 'none of any kind'}"
+    return ""
+
+
+def entry_words(book, position, asset):
+    entry = book.entries[position]
+    whose = "its own" if entry.asset == asset else f"inherited from {entry.asset}"
+    return f"entry {position} ({whose}, rights object {entry.object})"
+
+
+def verdict(book, position, grounds, answer, t):
+    stands = [words for words, against in zip(ground_words(book.entries[position]), grounds, strict=True) if against]
+    if stands:
+        back = " (a stop of an open use gives some back)" if stop_helps(book, position, t) else ""
+        return "; ".join(stands) + back
+    if answer[0] != 0:
+        return "nothing stands against it"
+    return "can be granted; would be chosen" if position == answer[1] else f"can be granted; entry {answer[1]} goes first"
+
+
+def ground_words(entry):
+    """The grounds against an entry in words, in the order of rights.h, as they would read if they stood."""
+    return [f"count: {entry.used_count} of {entry.count} used",
+            f"timed count: {entry.used_timed} of {entry.timed} used",
+            f"not before {date(entry.start)}",
+            f"not after {date(entry.end)}",
+            f"interval over since {date(entry.first + entry.interval)}",
+            f"seconds: {entry.used_seconds} of {entry.accumulated} used"]
