@@ -13,6 +13,7 @@ use book::Answer;
 use book::Asset;
 use book::Book;
 use book::Entry;
+use book::LATEST_TIME;
 use book::Last;
 use book::Limits;
 use book::Meters;
@@ -247,7 +248,7 @@ fn header_broken(s: &[u8]) -> u8
     }
     let assets = s[5];
     let entries = s[6];
-    if (64 < assets) | (64 < entries) | (4000000000 < read32(s, 7)) {
+    if (64 < assets) | (64 < entries) | (LATEST_TIME < read32(s, 7)) {
         return 23;
     }
     if s.len() != image_length(v, assets, entries) {
