@@ -234,7 +234,8 @@ pub fn chosen(es: [Entry; 64], count: u8, asset: u16, parent: u16, kind: u8, ask
     best
 }
 
-// The code that refuses a begin, or 0 if it is granted at that position: the only place in code that says 10, 11, 12 or 13.
+// The code that refuses a begin, or 0 if it is granted at that position, for both owners of the book.
+// (`uses::begin_on` is total, so it answers 13 too, for an entry that is not grantable; neither owner calls it with one.)
 // Rules out: 10 before 11, 13 where nothing is suitable.
 pub fn begin_code(on: bool, usable: bool, suits: bool, at: usize) -> u8
     ensures { λ r. ⌜ r ≡ beginCode on usable suits (ltb at 64) ⌝ }
