@@ -104,6 +104,14 @@ momentary kind = between 4 5 kind
 abbrev pub leastLimit : ℕ
 leastLimit = 1
 
+-- the greatest count, timed count and timer
+abbrev pub mostTimes : ℕ
+mostTimes = 1000000
+
+-- the greatest interval and accumulated
+abbrev pub mostSeconds : ℕ
+mostSeconds = 100000000
+
 -- a flagged limit is between a and z; "An unflagged limit is 0."
 unfoldable pub limit : Bool → ℕ → ℕ → ℕ → Bool
 limit flag a z v = cond flag (between a z v) (eqb v 0)
@@ -128,13 +136,13 @@ assetsLegal b = all (λ i. assetLegal (b .assets) (assetsIn b) i (assetAt (b .as
 -- start and end are times
 unfoldable pub rangesLegal : Limits → Bool
 rangesLegal l =
-    limit (flagged countFlag l) leastLimit 1000000 (l .count)
-    && limit (flagged timedFlag l) leastLimit 1000000 (l .timed)
-    && limit (flagged timedFlag l) 0 1000000 (l .timer)
+    limit (flagged countFlag l) leastLimit mostTimes (l .count)
+    && limit (flagged timedFlag l) leastLimit mostTimes (l .timed)
+    && limit (flagged timedFlag l) 0 mostTimes (l .timer)
     && limit (flagged startFlag l) 0 latestTime (l .start)
     && limit (flagged endFlag l) 0 latestTime (l .end)
-    && limit (flagged intervalFlag l) leastLimit 100000000 (l .interval)
-    && limit (flagged accumulatedFlag l) leastLimit 100000000 (l .accumulated)
+    && limit (flagged intervalFlag l) leastLimit mostSeconds (l .interval)
+    && limit (flagged accumulatedFlag l) leastLimit mostSeconds (l .accumulated)
 
 -- "rights object number (1 to 65535), asset (in the book), kind ..., flags, limits"; "start at most end where both are flagged";
 -- momentary: "no accumulated, timer 0". Whether the asset is in the book is passed in.

@@ -1,0 +1,9 @@
+-- Order 1 of document 02: what a rights object in XML is answered, for every byte string.
+pub mod Repeat
+pub mod Bytes
+pub mod Tags
+pub mod Elements
+pub mod Calendar
+pub mod Values
+pub mod State
+pub mod Text
