@@ -1,0 +1,8 @@
+-- Laws of the definitions in specs/, theorems about the reader of XML rights objects, and runs on constants.
+pub mod Repeats
+pub mod Runs
+pub mod Units
+pub mod Counts
+pub mod Legal
+pub mod Decides
+pub mod Examples
