@@ -8,11 +8,18 @@
 --     S        = space, tab, line feed, carriage return
 --     C        = S and bytes from 32 on, except < and &
 use Prim.Native.Nat.{ℕ, zero, suc, _+_, _-_}
+use Prim.Native.String as N
+use Prim.Native.Char.{code}
 use mathlib.Core.Bool.{Bool, true, false, cond, _&&_, _||_, not}
 use mathlib.Core.List.{List, [], _∷_}
 use lib.ListN.{length, getD, take, drop}
 use lib.Dec.{ltb, leb, eqb}
 use Rattle.model.specs.Book.{between}
+
+-- a quoted text as its bytes, for the names and constants of the definitions: ASCII only
+abbrev pub bytes : N.String → List ℕ
+bytes N.[] = []
+bytes (N._∷_ c s) = code c ∷ bytes s
 
 -- the byte at i; 256 at the end of the text, which no rule takes for a byte
 unfoldable pub byteAt : List ℕ → ℕ → ℕ

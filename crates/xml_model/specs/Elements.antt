@@ -7,107 +7,85 @@ use lib.ListN.{getD}
 use lib.Dec.{eqb, leb}
 use Rattle.numbers.specs.Count.{first}
 use Rattle.model.specs.Book.{between}
-use Rattle.xml_model.specs.Bytes.{same}
+use Rattle.xml_model.specs.Bytes.{bytes, same}
 
 -- ## Names, as bytes
 
--- o-ex:rights
 abbrev pub rightsBytes : List ℕ
-rightsBytes = 111 ∷ 45 ∷ 101 ∷ 120 ∷ 58 ∷ 114 ∷ 105 ∷ 103 ∷ 104 ∷ 116 ∷ 115 ∷ []
+rightsBytes = bytes "o-ex:rights"
 
--- o-ex:context
 abbrev pub contextBytes : List ℕ
-contextBytes = 111 ∷ 45 ∷ 101 ∷ 120 ∷ 58 ∷ 99 ∷ 111 ∷ 110 ∷ 116 ∷ 101 ∷ 120 ∷ 116 ∷ []
+contextBytes = bytes "o-ex:context"
 
--- o-dd:version
 abbrev pub versionBytes : List ℕ
-versionBytes = 111 ∷ 45 ∷ 100 ∷ 100 ∷ 58 ∷ 118 ∷ 101 ∷ 114 ∷ 115 ∷ 105 ∷ 111 ∷ 110 ∷ []
+versionBytes = bytes "o-dd:version"
 
--- o-dd:uid
 abbrev pub uidBytes : List ℕ
-uidBytes = 111 ∷ 45 ∷ 100 ∷ 100 ∷ 58 ∷ 117 ∷ 105 ∷ 100 ∷ []
+uidBytes = bytes "o-dd:uid"
 
--- o-ex:agreement
 abbrev pub agreementBytes : List ℕ
-agreementBytes = 111 ∷ 45 ∷ 101 ∷ 120 ∷ 58 ∷ 97 ∷ 103 ∷ 114 ∷ 101 ∷ 101 ∷ 109 ∷ 101 ∷ 110 ∷ 116 ∷ []
+agreementBytes = bytes "o-ex:agreement"
 
--- o-ex:asset
 abbrev pub assetBytes : List ℕ
-assetBytes = 111 ∷ 45 ∷ 101 ∷ 120 ∷ 58 ∷ 97 ∷ 115 ∷ 115 ∷ 101 ∷ 116 ∷ []
+assetBytes = bytes "o-ex:asset"
 
--- o-ex:inherit
 abbrev pub inheritBytes : List ℕ
-inheritBytes = 111 ∷ 45 ∷ 101 ∷ 120 ∷ 58 ∷ 105 ∷ 110 ∷ 104 ∷ 101 ∷ 114 ∷ 105 ∷ 116 ∷ []
+inheritBytes = bytes "o-ex:inherit"
 
--- ds:KeyInfo
 abbrev pub keyInfoBytes : List ℕ
-keyInfoBytes = 100 ∷ 115 ∷ 58 ∷ 75 ∷ 101 ∷ 121 ∷ 73 ∷ 110 ∷ 102 ∷ 111 ∷ []
+keyInfoBytes = bytes "ds:KeyInfo"
 
--- o-ex:permission
 abbrev pub permissionBytes : List ℕ
-permissionBytes = 111 ∷ 45 ∷ 101 ∷ 120 ∷ 58 ∷ 112 ∷ 101 ∷ 114 ∷ 109 ∷ 105 ∷ 115 ∷ 115 ∷ 105 ∷ 111 ∷ 110 ∷ []
+permissionBytes = bytes "o-ex:permission"
 
--- o-dd:play
 abbrev pub playBytes : List ℕ
-playBytes = 111 ∷ 45 ∷ 100 ∷ 100 ∷ 58 ∷ 112 ∷ 108 ∷ 97 ∷ 121 ∷ []
+playBytes = bytes "o-dd:play"
 
--- o-dd:display
 abbrev pub displayBytes : List ℕ
-displayBytes = 111 ∷ 45 ∷ 100 ∷ 100 ∷ 58 ∷ 100 ∷ 105 ∷ 115 ∷ 112 ∷ 108 ∷ 97 ∷ 121 ∷ []
+displayBytes = bytes "o-dd:display"
 
--- o-dd:execute
 abbrev pub executeBytes : List ℕ
-executeBytes = 111 ∷ 45 ∷ 100 ∷ 100 ∷ 58 ∷ 101 ∷ 120 ∷ 101 ∷ 99 ∷ 117 ∷ 116 ∷ 101 ∷ []
+executeBytes = bytes "o-dd:execute"
 
--- o-dd:print
 abbrev pub printBytes : List ℕ
-printBytes = 111 ∷ 45 ∷ 100 ∷ 100 ∷ 58 ∷ 112 ∷ 114 ∷ 105 ∷ 110 ∷ 116 ∷ []
+printBytes = bytes "o-dd:print"
 
--- oma-dd:export
 abbrev pub exportBytes : List ℕ
-exportBytes = 111 ∷ 109 ∷ 97 ∷ 45 ∷ 100 ∷ 100 ∷ 58 ∷ 101 ∷ 120 ∷ 112 ∷ 111 ∷ 114 ∷ 116 ∷ []
+exportBytes = bytes "oma-dd:export"
 
--- o-ex:constraint
 abbrev pub constraintBytes : List ℕ
-constraintBytes = 111 ∷ 45 ∷ 101 ∷ 120 ∷ 58 ∷ 99 ∷ 111 ∷ 110 ∷ 115 ∷ 116 ∷ 114 ∷ 97 ∷ 105 ∷ 110 ∷ 116 ∷ []
+constraintBytes = bytes "o-ex:constraint"
 
--- o-dd:count
 abbrev pub countBytes : List ℕ
-countBytes = 111 ∷ 45 ∷ 100 ∷ 100 ∷ 58 ∷ 99 ∷ 111 ∷ 117 ∷ 110 ∷ 116 ∷ []
+countBytes = bytes "o-dd:count"
 
--- oma-dd:timed-count
 abbrev pub timedCountBytes : List ℕ
-timedCountBytes = 111 ∷ 109 ∷ 97 ∷ 45 ∷ 100 ∷ 100 ∷ 58 ∷ 116 ∷ 105 ∷ 109 ∷ 101 ∷ 100 ∷ 45 ∷ 99 ∷ 111 ∷ 117 ∷ 110 ∷ 116 ∷ []
+timedCountBytes = bytes "oma-dd:timed-count"
 
--- o-dd:datetime
 abbrev pub datetimeBytes : List ℕ
-datetimeBytes = 111 ∷ 45 ∷ 100 ∷ 100 ∷ 58 ∷ 100 ∷ 97 ∷ 116 ∷ 101 ∷ 116 ∷ 105 ∷ 109 ∷ 101 ∷ []
+datetimeBytes = bytes "o-dd:datetime"
 
--- o-dd:start
 abbrev pub startBytes : List ℕ
-startBytes = 111 ∷ 45 ∷ 100 ∷ 100 ∷ 58 ∷ 115 ∷ 116 ∷ 97 ∷ 114 ∷ 116 ∷ []
+startBytes = bytes "o-dd:start"
 
--- o-dd:end
 abbrev pub endBytes : List ℕ
-endBytes = 111 ∷ 45 ∷ 100 ∷ 100 ∷ 58 ∷ 101 ∷ 110 ∷ 100 ∷ []
+endBytes = bytes "o-dd:end"
 
--- o-dd:interval
 abbrev pub intervalBytes : List ℕ
-intervalBytes = 111 ∷ 45 ∷ 100 ∷ 100 ∷ 58 ∷ 105 ∷ 110 ∷ 116 ∷ 101 ∷ 114 ∷ 118 ∷ 97 ∷ 108 ∷ []
+intervalBytes = bytes "o-dd:interval"
 
--- o-dd:accumulated
 abbrev pub accumulatedBytes : List ℕ
-accumulatedBytes = 111 ∷ 45 ∷ 100 ∷ 100 ∷ 58 ∷ 97 ∷ 99 ∷ 99 ∷ 117 ∷ 109 ∷ 117 ∷ 108 ∷ 97 ∷ 116 ∷ 101 ∷ 100 ∷ []
+accumulatedBytes = bytes "o-dd:accumulated"
 
--- attributes: o-ex:id, o-ex:idref, oma-dd:timer
+-- attributes
 abbrev pub idBytes : List ℕ
-idBytes = 111 ∷ 45 ∷ 101 ∷ 120 ∷ 58 ∷ 105 ∷ 100 ∷ []
+idBytes = bytes "o-ex:id"
 
 abbrev pub idrefBytes : List ℕ
-idrefBytes = 111 ∷ 45 ∷ 101 ∷ 120 ∷ 58 ∷ 105 ∷ 100 ∷ 114 ∷ 101 ∷ 102 ∷ []
+idrefBytes = bytes "o-ex:idref"
 
 abbrev pub timerBytes : List ℕ
-timerBytes = 111 ∷ 109 ∷ 97 ∷ 45 ∷ 100 ∷ 100 ∷ 58 ∷ 116 ∷ 105 ∷ 109 ∷ 101 ∷ 114 ∷ []
+timerBytes = bytes "oma-dd:timer"
 
 -- the names of elements, in the order of their numbers, which start from 1
 unfoldable pub known : List (List ℕ)

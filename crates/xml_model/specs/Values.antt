@@ -7,7 +7,7 @@ use lib.Dec.{eqb, leb, ltb}
 use Rattle.model.specs.Book.{between, latestTime, leastLimit, mostTimes, mostSeconds}
 use Rattle.xml_model.specs.declared.Value.{Value}
 use Rattle.xml_model.specs.declared.Piece.{Piece}
-use Rattle.xml_model.specs.Bytes.{byteAt, part, same, digits, runEnd}
+use Rattle.xml_model.specs.Bytes.{bytes, byteAt, part, same, digits, runEnd}
 use Rattle.xml_model.specs.Elements.{versionRole, objectUidRole, assetUidRole, inheritUidRole, countRole, timedCountRole, startRole, endRole}
 use Rattle.xml_model.specs.Calendar.{inCalendar, monthDays, daysBefore}
 
@@ -39,7 +39,7 @@ numberIn least most v = valueIf (isNumber v && between least most (numberOf v)) 
 unfoldable pub uidOf : List ℕ → Value
 uidOf v =
     let n = numberIn 1 65535 (drop 4 v) in
-    cond (same (take 4 v) (99 ∷ 105 ∷ 100 ∷ 58 ∷ []) || same (take 4 v) (112 ∷ 105 ∷ 100 ∷ 58 ∷ []))
+    cond (same (take 4 v) (bytes "cid:") || same (take 4 v) (bytes "pid:"))
     n
     (valueIf false 0)
 
@@ -120,7 +120,7 @@ durationOf v =
 
 unfoldable pub valueOf : ℕ → List ℕ → Value
 valueOf role v =
-    cond (eqb role versionRole) (valueIf (same v (50 ∷ 46 ∷ 50 ∷ [])) 0)
+    cond (eqb role versionRole) (valueIf (same v (bytes "2.2")) 0)
     (cond (eqb role objectUidRole) (numberIn 1 65535 v)
     (cond (eqb role assetUidRole || eqb role inheritUidRole) (uidOf v)
     (cond (eqb role countRole || eqb role timedCountRole) (numberIn leastLimit mostTimes v)
