@@ -9,73 +9,7 @@ use turn::IMAGE;
 use turn::INPUT;
 use turn::OUT;
 
-// Whether to retry a read or a write that failed: a non-blocking descriptor was not ready yet, or a
-// signal came first.
-fn waited() -> bool {
-    let e = os::errno();
-    if e == libc::EAGAIN {
-        pause::pause();
-        return true;
-    }
-    e == libc::EINTR
-}
-
-// One read into s from an offset: how many bytes came, 0 at the end of the input, negative if the read failed.
-fn read_once(fd: i32, s: &mut [u8], from: usize) -> isize
-    requires { ⌜ from ≤ length (now s) ⌝ }
-{
-    libc::read(fd, &mut s[from..])
-}
-
-// The same, retried until there are bytes, the end of the input, or a failure that waiting does not cure.
-// A proved loop has to end, and nothing guarantees that the waiting does: it counts down from a number that no run uses up.
-fn read_more(fd: i32, s: &mut [u8], from: usize) -> isize
-    requires { ⌜ from ≤ length (now s) ⌝ }
-{
-    let mut left = u64::MAX;
-    while left > 0 {
-        let got = read_once(fd, s, from);
-        if got >= 0 {
-            return got;
-        }
-        if !waited() {
-            return got;
-        }
-        left = left - 1;
-    }
-    -1
-}
-
-// How many bytes s holds after appending `got` bytes to the first ones.
-fn filled(s: &[u8], from: usize, got: isize) -> usize
-    requires { ⌜ from ≤ length (now s) ⌝ }
-    ensures { λ r. ⌜ r ≤ length (now (s .entry)) ⌝ }
-{
-    from + io::count(got, &s[from..])
-}
-
-// Reads the file to the start of image until the file ends or image is full, and returns how many bytes. An unreadable file counts as
-// empty.
-fn read_file(fd: i32, image: &mut [u8]) -> usize
-    ensures { λ r. ⌜ r ≤ length (now (image .exit)) ⌝ }
-{
-    let mut n: usize = 0;
-    while n < image.len() {
-        let got = read_more(fd, image, n);
-        if got < 0 {
-            os::fail(b"rights.rbk");
-            return 0;
-        }
-        let there = filled(image, n, got);
-        if there <= n {
-            return n;
-        }
-        n = there;
-    }
-    n
-}
-
-// Reads rights.rbk to the start of image, and returns how many bytes. A missing file counts as empty.
+// Reads rights.rbk to the start of image, and returns how many bytes. A missing file counts as empty, and so does one that cannot be read.
 fn read_image(image: &mut [u8; IMAGE]) -> usize {
     let fd = os::open_read(b"rights.rbk");
     if fd < 0 {
@@ -84,62 +18,31 @@ fn read_image(image: &mut [u8; IMAGE]) -> usize {
         }
         return 0;
     }
-    let n = read_file(fd, image);
+    let i = stream::read_all(fd, b"rights.rbk", image);
     libc::close(fd);
-    n
-}
-
-// One write of text from an offset: how many bytes were written, negative if it failed.
-fn write_once(text: &[u8], from: usize) -> isize
-    requires { ⌜ from ≤ length (now text) ⌝ }
-{
-    libc::write(1, &text[from..])
-}
-
-// Writes all of text, in as many writes as it takes.
-fn write_text(text: &[u8]) -> bool {
-    let mut done: usize = 0;
-    let mut left = u64::MAX;
-    while left > 0 {
-        if done >= text.len() {
-            return true;
-        }
-        let put = write_once(text, done);
-        if put == 0 {
-            return false;
-        }
-        if put < 0 {
-            if !waited() {
-                return false;
-            }
-        }
-        done = filled(text, done, put);
-        left = left - 1;
-    }
-    false
-}
-
-// Writes text, or reports why that failed.
-fn send(text: &[u8]) -> bool {
-    if write_text(text) {
-        return true;
-    }
-    os::fail(b"standard output");
-    false
-}
-
-fn send_first(text: &[u8], n: usize) -> bool
-    requires { ⌜ n ≤ length (now text) ⌝ }
-{
-    send(&text[..n])
+    i.length
 }
 
 fn print_refusal(code: u8) {
     let mut digits = [0u8; 20];
     let n = io::decimal(code as u64, &mut digits);
-    if send(&digits[..n]) {
-        send(b"\n");
+    if stream::send(1, b"standard output", &digits[..n]) {
+        stream::send(1, b"standard output", b"\n");
     }
+}
+
+// One read of the input behind the bytes that are kept, for which there is room.
+fn read_behind(input: &mut [u8], kept: usize) -> isize
+    requires { ⌜ kept ≤ length (now input) ⌝ }
+{
+    stream::read_more(0, input, kept)
+}
+
+// Writes the first n bytes, which are there.
+fn print_first(out: &[u8], n: usize) -> bool
+    requires { ⌜ n ≤ length (now out) ⌝ }
+{
+    stream::send_first(1, b"standard output", out, n)
 }
 
 // Answers each read until the input ends. An incomplete record is kept and completed by the next read.
@@ -149,15 +52,15 @@ fn answer_reads(b: Book, input: &mut [u8; INPUT], out: &mut [u8; OUT]) {
     let mut kept: usize = 0;
     let mut left = u64::MAX;
     while left > 0 {
-        let got = read_more(0, input, kept);
+        let got = read_behind(input, kept);
         if got < 0 {
             os::fail(b"standard input");
             return;
         }
         let ended = got == 0;
-        let there = filled(input, kept, got);
+        let there = stream::filled(input, kept, got);
         let t = turn::turn(book, input, there, ended, out);
-        if !send_first(out, t.written) {
+        if !print_first(out, t.written) {
             return;
         }
         if ended {

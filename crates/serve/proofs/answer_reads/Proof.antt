@@ -29,8 +29,8 @@ abbrev μ-loop : tie.MeasureT-loop
 loop-holds : tie.Need-loop-holds Inv-loop μ-loop
 loop-holds c = search needs
 
-read-more-requires : tie.Need-read-more-requires Inv-loop μ-loop
-read-more-requires c κs = search needs
+read-behind-requires : tie.Need-read-behind-requires Inv-loop μ-loop
+read-behind-requires c κs = search needs
 
 slice-aggregate-fail : tie.Need-slice-aggregate-fail Inv-loop μ-loop
 slice-aggregate-fail c = search needs
@@ -47,8 +47,8 @@ filled-requires c κs = search needs
 turn-requires : tie.Need-turn-requires Inv-loop μ-loop
 turn-requires c κs = search needs
 
-send-first-requires : tie.Need-send-first-requires Inv-loop μ-loop
-send-first-requires c κs = let t = c .before .before .turn in text-there _ _ _ _ _ _ _ (t .ensures .1 .1 .0) (t .ensures .1 .1 .1 .1 .1)
+print-first-requires : tie.Need-print-first-requires Inv-loop μ-loop
+print-first-requires c κs = let t = c .before .before .turn in text-there _ _ _ _ _ _ _ (t .ensures .1 .1 .0) (t .ensures .1 .1 .1 .1 .1)
 
 returns-2 : tie.Need-returns-2 Inv-loop μ-loop
 returns-2 c = search needs
@@ -75,13 +75,13 @@ answer-reads-spec =
     Inv-loop
     μ-loop
     loop-holds
-    read-more-requires
+    read-behind-requires
     slice-aggregate-fail
     fail-requires
     returns
     filled-requires
     turn-requires
-    send-first-requires
+    print-first-requires
     returns-2
     returns-3
     sub-left

@@ -2,14 +2,14 @@
 use Prim.Native.Nat.{_≤_}
 use lib.ListN.{length}
 use borrow.Author.Needs.{needs}
-use Rattle.serve.proofs.write_text.Statement.{statement}
-use Rattle.serve.proofs.write_text.Tie as tie
+use Rattle.stream.proofs.write_text.Statement.{statement}
+use Rattle.stream.proofs.write_text.Tie as tie
 
 abbrev Inv-loop : tie.InvT-loop
-Inv-loop text done₀ left₀ done left = done ≤ length text
+Inv-loop fd text done₀ left₀ done left = done ≤ length text
 
 abbrev μ-loop : tie.MeasureT-loop
-μ-loop text done₀ left₀ done left = left
+μ-loop fd text done₀ left₀ done left = left
 
 loop-holds : tie.Need-loop-holds Inv-loop μ-loop
 loop-holds c = search needs

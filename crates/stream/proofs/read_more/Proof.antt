@@ -1,28 +1,21 @@
--- `read_file` ends: every turn but the last adds bytes.
+-- `read_more` ends: the count of tries falls.
 use mathlib.Core.Path.{_≡_}
-use Prim.Native.Nat.{_-_, _≤_}
 use lib.ListN.{length}
 use borrow.Author.Needs.{needs}
-use Rattle.serve.proofs.read_file.Statement.{statement}
-use Rattle.serve.proofs.read_file.Tie as tie
+use Rattle.stream.proofs.read_more.Statement.{statement}
+use Rattle.stream.proofs.read_more.Tie as tie
 
 abbrev Inv-loop : tie.InvT-loop
-Inv-loop fd image₀ n₀ t6 image n = (n ≤ length image) × (length image ≡ length image₀)
+Inv-loop fd s₀ from left₀ s left = length s ≡ length s₀
 
 abbrev μ-loop : tie.MeasureT-loop
-μ-loop fd image₀ n₀ t6 image n = length image - n
+μ-loop fd s₀ from left₀ s left = left
 
 loop-holds : tie.Need-loop-holds Inv-loop μ-loop
 loop-holds c = search needs
 
-read-more-requires : tie.Need-read-more-requires Inv-loop μ-loop
-read-more-requires c κs = search needs
-
-slice-aggregate-fail : tie.Need-slice-aggregate-fail Inv-loop μ-loop
-slice-aggregate-fail c = search needs
-
-fail-requires : tie.Need-fail-requires Inv-loop μ-loop
-fail-requires c κs = search needs
+read-once-requires : tie.Need-read-once-requires Inv-loop μ-loop
+read-once-requires c κs = search needs
 
 same-length : tie.Need-same-length Inv-loop μ-loop
 same-length c = search needs
@@ -30,14 +23,17 @@ same-length c = search needs
 returns : tie.Need-returns Inv-loop μ-loop
 returns c = search needs
 
-filled-requires : tie.Need-filled-requires Inv-loop μ-loop
-filled-requires c κs = search needs
+waited-requires : tie.Need-waited-requires Inv-loop μ-loop
+waited-requires c κs = search needs
 
 same-length-2 : tie.Need-same-length-2 Inv-loop μ-loop
 same-length-2 c = search needs
 
 returns-2 : tie.Need-returns-2 Inv-loop μ-loop
 returns-2 c = search needs
+
+sub-left : tie.Need-sub-left Inv-loop μ-loop
+sub-left c = search needs
 
 loop-less : tie.Need-loop-less Inv-loop μ-loop
 loop-less c = search needs
@@ -51,21 +47,20 @@ same-length-3 c = search needs
 returns-3 : tie.Need-returns-3 Inv-loop μ-loop
 returns-3 c = search needs
 
-pub read-file-spec : {M : Type 1} → statement M
-read-file-spec =
+pub read-more-spec : {M : Type 1} → statement M
+read-more-spec =
     tie.close
     (tie.spec
     Inv-loop
     μ-loop
     loop-holds
-    read-more-requires
-    slice-aggregate-fail
-    fail-requires
+    read-once-requires
     same-length
     returns
-    filled-requires
+    waited-requires
     same-length-2
     returns-2
+    sub-left
     loop-less
     loop-again
     same-length-3
