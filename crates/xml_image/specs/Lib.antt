@@ -1,0 +1,2 @@
+-- A rights object in XML to the image of its book.
+pub mod Imported
