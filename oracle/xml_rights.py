@@ -10,11 +10,12 @@ in a tag goes before everything else about it.
 """
 
 import copy
+import math
 import re
 from datetime import date
 
-from rights import LATEST, MOST, Asset, Book, Entry, entry_is_good
 import rights
+from rights import LATEST, MOST, Asset, Book, Entry
 
 DEPTH = 12                      # of rights, which is 1, and everything in it
 ELEMENTS = 256
@@ -235,7 +236,7 @@ def duration_in(text):
 
 def slots(line):
     """A line of LINES as (name in the text, name here, how often at least, how often at most) for each child."""
-    often = {"?": (0, 1), "*": (0, ELEMENTS), "+": (1, ELEMENTS)}
+    often = {"?": (0, 1), "*": (0, math.inf), "+": (1, math.inf)}
     return [(NAMES[word.rstrip("?*+")], word.rstrip("?*+"), *often.get(word[-1], (1, 1))) for word in line.split()]
 
 
@@ -397,7 +398,7 @@ class Reader:
         for number in self.references or [asset.number for asset in self.book.assets]:
             entry = copy.copy(self.entry)
             entry.asset = number
-            if not entry_is_good(self.book, entry):
+            if not rights.entry_is_good(self.book, entry):
                 raise not_accepted()
             self.book.entries.append(entry)
         return len(self.book.entries) > MOST
