@@ -623,7 +623,8 @@ def timers():
         good(11, f"timer {digits[-8:]} of {len(digits)} digits", timed(digits), f"1 | 1 play timed 5 timer {number}")
     for digits in ("1000001", "9" * 60, "4294967296", "18446744073709551616", "", " ", " 30", "30 ", "-1", "+1", "3x", "x", "1.0",
                    "30s", "\xb2"):
-        bad(41, f"timer {digits[:30]!r}", timed(digits))
+        bad(41, f"timer {digits[:30]!r}", upto(timed(digits), timer(digits) + ">"))
+    bad(41, "timer 1000001 in a whole text", timed("1000001"))
     good(11, "a timer on a count is skipped", limited(el("count", "5", timer("x"))), "1 | 1 play count 5")
     good(9, "a timer on a kind is skipped", permitted(empty("play", timer("2000000"))), "1 | 1 play")
     good(11, "a timer in other words is skipped", limited(el("timed-count", "5", ' timer="30" o-dd:timer="x"')), "1 | 1 play timed 5")
@@ -659,15 +660,18 @@ def values():
     for text in ("1", "cid:0", "pid:000", "cid:65536", "pid:65537", "gid:1", "CID:1", "Cid:1", "pID:1", "cid", "cid:", "pid:", "cid1",
                  "cid:cid:1", "cid:1@a.b", "cidd:1", "ci:1", ":1", "cid: 1", "cid:1 ", " cid:1", "cid:+1", "cid:-1", "cid:x",
                  "cid:" + "9" * 60, "cid:\xb9", *("cid:" + digits for digits in WRAPS)):
-        bad(41, f"asset uid {text[:40]!r}", upto(agreed(asset(text)), "</o-ex:asset>"))
+        bad(41, f"asset uid {text[:40]!r}", f"{HEAD}<o-ex:asset><o-ex:context>{el('uid', text)}")
+    bad(41, "asset uid cid:0 in a whole text", agreed(asset("cid:0")))
     for text in ("9", "cid:0", "pid:65536", "gid:9", "PID:9", "pid:", "pid:9 ", " pid:9", "", "pid:x"):
-        bad(41, f"inherit uid {text!r}", agreed(asset(more=inherit(text))))
+        bad(41, f"inherit uid {text!r}", upto(agreed(asset(more=inherit(text))), "<o-ex:inherit><o-ex:context>" + el("uid", text)))
+    bad(41, "inherit uid pid:0 in a whole text", agreed(asset(more=inherit("pid:0"))))
     for name, field in (("count", "count"), ("timed-count", "timed")):
         for digits, number in (("1", 1), ("1000000", 1_000_000), ("007", 7), ("0" * 60 + "3", 3), ("0001000000", 1_000_000)):
             good(11, f"{name} {digits[-10:]} of {len(digits)} digits", limited(el(name, digits)), f"1 | 1 play {field} {number}")
         for text in ("0", "00", "1000001", "9" * 60, *WRAPS, *NO_NUMBERS[:None if name == "count" else 6]):
             bad(41, f"{name} {text[:40]!r}", upto(limited(el(name, text)), f"</{FULL[name]}>"))
         bad(41, f"{name}, an empty-element tag", limited(empty(name)))
+        bad(41, f"{name} 1000001 in a whole text", limited(el(name, "1000001")))
     times()
     durations()
 
@@ -698,7 +702,8 @@ def times():
             "-200-01-01T00:00:00Z", "2000-01-01T00:00:+1Z", "2000-01- 1T00:00:00Z", "946684800", ""):
         bad(41, f"start {text!r}", upto(limited(dated(text)), "</o-dd:start>"))
     for text in ("2096-10-02T07:06:41Z", "2100-02-29T00:00:00Z", "2000-02-30T00:00:00Z", "1969-12-31T23:59:59Z", ""):
-        bad(41, f"end {text!r}", limited(dated(None, text)))
+        bad(41, f"end {text!r}", upto(limited(dated(None, text)), "</o-dd:end>"))
+    bad(41, "a start too late in a whole text", limited(dated("2096-10-02T07:06:41Z")))
     for month, days, before in ((1, 31, 0), (2, 28, 31), (3, 31, 59), (4, 30, 90), (5, 31, 120), (6, 30, 151), (7, 31, 181), (8, 31, 212),
                                 (9, 30, 243), (10, 31, 273), (11, 30, 304), (12, 31, 334)):
         good(12, f"the last day of month {month} of 1970", limited(dated(f"1970-{month:02}-{days}T00:00:00Z")),
@@ -727,7 +732,9 @@ def durations():
             "PT1152921504606846976H1S", "PT4611686018427387904M1S", "P1DT18446744073709465217S", "5", "PT1S\n", "PT\xb9S"):
         bad(41, f"interval {text[:30]!r}", upto(limited(el("interval", text)), "</o-dd:interval>"))
     for text in ("", "P", "PT", "P1DT", "P0D", "PT0S", "PT100000001S", "P1M", "PT1S1M", " PT1S", "PT1S "):
-        bad(41, f"accumulated {text!r}", limited(el("accumulated", text)))
+        bad(41, f"accumulated {text!r}", upto(limited(el("accumulated", text)), "</o-dd:accumulated>"))
+    bad(41, "an interval of 0 in a whole text", limited(el("interval", "PT0S")))
+    bad(41, "accumulated too long in a whole text", limited(el("accumulated", "PT100000001S")))
     bad(41, "interval, an empty-element tag", limited(empty("interval")))
     bad(41, "accumulated, an empty-element tag", limited(empty("accumulated")))
 
