@@ -50,7 +50,8 @@ def digits(rng, number):
 
 def around(rng, least, greatest):
     """A number within the bounds, often at one of them."""
-    return rng.choice((least, least + 1, greatest, greatest - 1, rng.randint(least, greatest), rng.randint(least, min(greatest, least + 9))))
+    return rng.choice((least, least + 1, greatest, greatest - 1, rng.randint(least, greatest),
+                       rng.randint(least, min(greatest, least + 9))))
 
 
 def a_time(rng):
@@ -97,7 +98,8 @@ class Maker:
     def attributes(self, given=""):
         made = given
         if self.extra and some(self.rng, self.extra):
-            made += self.attribute(self.rng.choice(("xmlns:a", "id", "timer", "o-ex:mode", "_")), self.rng.choice(("", "1", "> x", "\t\xff" if self.odd else "\t")))
+            made += self.attribute(self.rng.choice(("xmlns:a", "id", "timer", "o-ex:mode", "_")),
+                                   self.rng.choice(("", "1", "> x", "\t\xff" if self.odd else "\t")))
         if self.own and not given and some(self.rng, self.own):
             made += self.attribute("o-ex:id", self.new_id())
         return made
@@ -116,7 +118,10 @@ class Maker:
         rng, made = self.rng, []
         for _ in range(rng.choice((0, 0, 1, 1, 2, 3)) if depth < 8 else 0):
             name = rng.choice(("a", "ds:KeyInfo", "xenc:CipherValue", "o-dd:uid", "_.-9", "\xe9" if self.odd else "\xc3\xa9"))
-            made.append(f"<{name}{self.attributes()}>{self.key(depth + rng.choice((1, 1, 3)))}</{name}>" if some(rng, 0.6) else f"<{name}/>")
+            if some(rng, 0.6):
+                made.append(f"<{name}{self.attributes()}>{self.key(depth + rng.choice((1, 1, 3)))}</{name}>")
+            else:
+                made.append(f"<{name}/>")
             if some(rng, 0.3):
                 made.append(rng.choice(("c2VjcmV0", " ", ">", "'\"=/", *(("]]>", "\x7f\x80\xff") if self.odd else ()))))
         return "".join(made)
@@ -146,7 +151,8 @@ class Maker:
             made.append(self.el("timed-count", digits(rng, around(rng, 1, 1_000_000)), given))
         if some(rng, 0.4):
             start, end = sorted((a_time(rng), a_time(rng)))
-            made.append(self.el("datetime", (self.el("start", start) if some(rng, 0.6) else "") + (self.el("end", end) if some(rng, 0.6) else "")))
+            dates = (self.el("start", start) if some(rng, 0.6) else "") + (self.el("end", end) if some(rng, 0.6) else "")
+            made.append(self.el("datetime", dates))
         if some(rng, 0.3):
             made.append(self.el("interval", a_duration(rng)))
         if some(rng, 0.3) and not momentary:
@@ -196,7 +202,8 @@ class Maker:
         if sort == "elements":
             more = rng.choice(("", self.el("permission"), self.el("permission", self.el("play"))))
             elements = 7 + 1 + more.count("<") - more.count("</")
-            return self.finish(self.asset(1, None, "<a/>" * (256 - elements + rng.choice((-1, 0, 1, 1, 2)))) + more).replace("<o-dd:version>2.2</o-dd:version>", "")
+            key = "<a/>" * (256 - elements + rng.choice((-1, 0, 1, 1, 2)))
+            return self.finish(self.asset(1, None, key) + more).replace("<o-dd:version>2.2</o-dd:version>", "")
         if sort == "assets":
             made = "".join(self.asset(number) for number in range(1, rng.choice((63, 64, 65, 65)) + 1))
             return self.finish(made + rng.choice(("", self.el("permission", self.el("play")), "<a/>")))
@@ -205,7 +212,8 @@ class Maker:
             made = "".join(self.asset(number, name) for number, name in enumerate(names, 1))
             chosen = "".join(self.reference(rng.choice(names)) for _ in range(rng.choice((32, 63, 64, 65, 66))))
             kinds = "".join(self.kind(name) for name in KINDS if some(rng, 0.3))
-            return self.finish(made + self.el("permission", chosen + kinds) + rng.choice(("", self.el("permission", self.el("play")))))
+            last = rng.choice(("", self.el("permission", self.el("play"))))
+            return self.finish(made + self.el("permission", chosen + kinds) + last)
         assets = rng.choice((4, 5, 8, 13, 16))
         wanted = 64 // assets + rng.choice((0, 1, 1, 1))
         made, kinds = "".join(self.asset(number) for number in range(1, assets + 1)), []
@@ -222,18 +230,21 @@ PIECES = re.compile(r"<[^>]*>|[^<]+")
 VALUE = re.compile(r"(<(?:o-dd|oma-dd):([a-z-]+)[^>]*>)([^<]*)(</)")
 BYTES = ["<", ">", "&", '"', "'", "/", " ", "\x01", "x", "\x80", "0", "=", "!", "\0", "\n"]
 ODD_NUMBERS = ["", "0", "00", " 1", "1 ", "+1", "-1", "1.0", "x", "65535", "65536", "1000000", "1000001", "100000000", "4294967297",
-               "18446744073709551617", "9" * 40, "0" * 40 + "1", "cid:1", "pid:65535", "cid:0", "cid:65536", "gid:1", "CID:1", "2.2"]
+               "18446744073709551617", "9" * 40, "0" * 40 + "1", "cid:1", "pid:65535", "cid:0", "cid:65536", "gid:1", "CID:1",
+               "2.2"]
 ODD_TIMES = ["1970-01-01T00:00:00Z", "1969-12-31T23:59:59Z", "2096-10-02T07:06:40Z", "2096-10-02T07:06:41Z", "2096-10-03T00:00:00Z",
              "2000-02-29T00:00:00Z", "2001-02-29T00:00:00Z", "2096-02-29T23:59:59Z", "2100-02-29T00:00:00Z", "2000-02-30T00:00:00Z",
              "2000-04-31T00:00:00Z", "2000-13-01T00:00:00Z", "2000-01-01T24:00:00Z", "2000-01-01T00:60:00Z", "2000-01-01T00:00:60Z",
              "2000-01-01T00:00:00", "2000-00-01T00:00:00Z", "2000-01-00T00:00:00Z"]
-ODD_DURATIONS = ["P", "PT", "P1DT", "PT0S", "P0D", "PT100000000S", "PT100000001S", "P1157DT9H46M40S", "P1157DT9H46M41S", "P1158D", "P1M",
-                 "PT1M1H", "PT1S1M", "PT1H1S", "P1D1H", "P1DT1S", "PT27777H46M40S", "PT1666667M", "p1d", "P1Y", "PT1.5S"]
-ODD_TAGS = ["<a/>", "<a>", "</a>", "<o-ex:constraint/>", "<o-dd:play/>", "<o-dd:print/>", "<o-ex:permission/>", "<o-ex:asset/>", "<ds:KeyInfo/>",
-            "<o-ex:context>", "<o-dd:version>2.2</o-dd:version>", "<o-dd:count>5</o-dd:count>", "<!-- -->", "<?x?>", "&amp;", "x", " ", "\n",
+ODD_DURATIONS = ["P", "PT", "P1DT", "PT0S", "P0D", "PT100000000S", "PT100000001S", "P1157DT9H46M40S", "P1157DT9H46M41S", "P1158D",
+                 "P1M", "PT1M1H", "PT1S1M", "PT1H1S", "P1D1H", "P1DT1S", "PT27777H46M40S", "PT1666667M", "p1d", "P1Y", "PT1.5S"]
+ODD_TAGS = ["<a/>", "<a>", "</a>", "<o-ex:constraint/>", "<o-dd:play/>", "<o-dd:print/>", "<o-ex:permission/>", "<o-ex:asset/>",
+            "<ds:KeyInfo/>", "<o-ex:context>", "<o-dd:version>2.2</o-dd:version>", "<o-dd:count>5</o-dd:count>", "<!-- -->",
+            "<?x?>", "&amp;", "x", " ", "\n",
             "<o-dd:datetime/>", "</o-ex:rights>", "<o-dd:uid>cid:1</o-dd:uid>", "<o-ex:permission><o-dd:play/></o-ex:permission>"]
-ODD_ATTRIBUTES = [' o-ex:id="x"', ' o-ex:id="id1"', ' o-ex:idref="id1"', " o-ex:idref='x'", ' oma-dd:timer="30"', ' oma-dd:timer="1000001"',
-                  ' oma-dd:timer="0"', ' a="1"', ' a="1" a="2"', " a='&amp;'", ' a="<"', " a=1", " a", ' id="id1"', ' a=""', " a='\x02'", "\n", "&"]
+ODD_ATTRIBUTES = [' o-ex:id="x"', ' o-ex:id="id1"', ' o-ex:idref="id1"', " o-ex:idref='x'", ' oma-dd:timer="30"',
+                  ' oma-dd:timer="1000001"', ' oma-dd:timer="0"', ' a="1"', ' a="1" a="2"', " a='&amp;'", ' a="<"', " a=1", " a",
+                  ' id="id1"', ' a=""', " a='\x02'", "\n", "&"]
 
 
 def broken_tags(rng, text):
@@ -301,7 +312,8 @@ def broken_attributes(rng, text):
         if how == 0:
             tag = tag.replace(name, rng.choice((" id", " o-ex:id", " o-ex:idref", " oma-dd:timer", " x")), 1)
         elif how == 1:
-            tag = re.sub(r"""(["'])[^"']*["']""", lambda found: found[1] + rng.choice(("", "x", "id1", "1", "-1", " ")) + found[1], tag, count=1)
+            value = rng.choice(("", "x", "id1", "1", "-1", " "))
+            tag = re.sub(r"""(["'])[^"']*["']""", lambda found: found[1] + value + found[1], tag, count=1)
         elif how == 2:
             tag = re.sub(r"""\s[^\s=]+\s*=\s*(["'])[^"']*\1""", "", tag, count=1)
         else:
@@ -529,7 +541,8 @@ def on_its_own(count, seed):
             parsed += elements_by_expat(text) is not None
         codes[code] = codes.get(code, 0) + 1
         size += len(text)
-    print(f"{count} texts, {size // max(count, 1)} bytes on average: {shares(codes)}; {parsed} of the accepted ones taken by Python's parser too")
+    print(f"{count} texts, {size // max(count, 1)} bytes on average: {shares(codes)}; "
+          f"{parsed} of the accepted ones taken by Python's parser too")
 
 
 def main():

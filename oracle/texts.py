@@ -239,6 +239,9 @@ def key_info():
     good(15, "a whole rights object in KeyInfo", keyed(BARE), "1 key")
     good(10, "values in KeyInfo are not read", keyed(el("count", "x") + el("uid", "")), "1 key")
     good(11, "names of all sorts in KeyInfo", keyed("<_/><:-.9/><\x80\xff/>"), "1 key")
+    good(10, "the outermost letters and digits in names", keyed(
+        "<AZaz_:.-09\x80\xff/><\xff AZaz_:.-09\x80\xff='' :='' Z='' \x80=''></\xff>"),
+         "1 key")
     good(8, "bytes of all sorts in KeyInfo", keyed("".join(map(chr, [9, 10, 13, *range(0x20, 0x26), *range(0x27, 0x3c),
                                                                      *range(0x3d, 0x100)]))), "1 key")
     good(9, "bytes of all sorts in an attribute", keyed("<a b='" + "".join(map(chr, [
@@ -299,7 +302,7 @@ def not_well_formed():
             ("nothing", ""), ("white space only", " \n"), ("a letter", "x"), ("a zero byte", "\0"), ("a single <", "<"),
             ("a closing tag first", "</a>"), ("a closing tag of rights first", "</o-ex:rights>"), ("no name", "<>"),
             ("white space in front of the name", "< o-ex:rights/>"), ("a digit for a name", "<1/>"),
-            ("a hyphen for a name", "<-/>"), ("a full stop for a name", "<./>"), ("an at sign behind the name", "<a@/>"),
+            ("a hyphen for a name", "<-/>"), ("a full stop for a name", "<./>"),
             ("cut in the name", "<o-ex:rights"), ("cut behind the name", "<o-ex:rights "), ("cut in an attribute's name", "<a b"),
             ("cut behind an attribute's name", "<a b "), ("cut behind the equals sign", "<a b="),
             ("cut behind the equals sign and a space", "<a b= "), ("cut in a value", "<a b='c"),
@@ -330,6 +333,12 @@ def not_well_formed():
             ("an exclamation mark in a closing tag", ROOT + "</!>"), ("a question mark in a closing tag", ROOT + "</?>"),
             ("an exclamation mark in a tag", "<a !>"), ("a question mark in a tag", "<a ?>")):
         bad(40, name, text)
+    for byte in "@[`{^~\x7f;,#":
+        bad(40, f"{byte!r} in a name", f"<a{byte}/>")
+        bad(40, f"{byte!r} first in a name", f"<{byte}/>")
+    for byte in "09-.":
+        bad(40, f"{byte!r} first in an attribute's name", f"<a {byte}b=''/>")
+        bad(40, f"{byte!r} first in a closing name", f"{ROOT}</{byte}>")
     for byte in (0x00, 0x01, 0x08, 0x0b, 0x0c, 0x0e, 0x1f):
         bad(40, f"control byte {byte} in KeyInfo", keyed(chr(byte)))
     bad(40, "a control byte in a value", limited(el("count", "5\x01")))
@@ -377,9 +386,12 @@ def marks():
             (40, "no white space between attributes, then &", "<a b='1'c='&'/>"),
             (40, "an attribute twice, then &", "<a b='1' b='2' c='&'/>"), (40, "an attribute twice, then & in the tag",
                                                                            "<a b='1' b='2' &"),
-            (40, "an attribute twice, & behind its quote", "<a b='1' b='2'&"), (41, "an attribute twice, & in the second", "<a b='1' b='&'/>"),
-            (41, "an attribute twice, & in the first", "<a b='&' b='1'/>"), (41, "an attribute twice, & for the second's value", "<a b='1' b=&"),
-            (41, "an attribute twice, <! in the second", "<a b='1' b='<!'/>"), (40, "an attribute twice, < in the second", "<a b='1' b='<'/>"),
+            (40, "an attribute twice, & behind its quote", "<a b='1' b='2'&"),
+            (41, "an attribute twice, & in the second", "<a b='1' b='&'/>"),
+            (41, "an attribute twice, & in the first", "<a b='&' b='1'/>"),
+            (41, "an attribute twice, & for the second's value", "<a b='1' b=&"),
+            (41, "an attribute twice, <! in the second", "<a b='1' b='<!'/>"),
+            (40, "an attribute twice, < in the second", "<a b='1' b='<'/>"),
             (40, "a space in a closing tag, then &", ROOT + "</ &"), (40, "another closing tag, then &", ROOT + "</a>&"),
             (41, "& in another closing tag", ROOT + "</a&>"), (40, "a control byte in text, then &", ROOT + "\x01&"),
             (41, "& in text, then a control byte", ROOT + "&\x01"), (40, "a slash and a space, then &", "<a/ &"),
@@ -408,7 +420,8 @@ def elements():
     bad(41, "rights, an empty-element tag", empty("rights"))
     for name, inside in (
             ("without children", ""), ("with a version only", el("version", "2.2")), ("with two uids", el("uid", "1") * 2),
-            ("with two versions", el("version", "2.2") * 2 + el("uid", "1")), ("with the uid first", el("uid", "1") + el("version", "2.2")),
+            ("with two versions", el("version", "2.2") * 2 + el("uid", "1")),
+            ("with the uid first", el("uid", "1") + el("version", "2.2")),
             ("with another element", "<a/>" + el("uid", "1")), ("with another element last", el("uid", "1") + "<a/>"),
             ("with a context", context("1"))):
         bad(41, f"rights context {name}", el("rights", el("context", inside) + el("agreement", asset())))
@@ -454,7 +467,8 @@ def permissions():
             else:
                 bad(41, f"{one}, then {other}", upto(text, "</o-ex:permission>"))
     bad(41, "a reference behind a kind", agreed(ONE, el("permission", empty("play") + references("a"))))
-    bad(41, "a reference between kinds", agreed(ONE, el("permission", references("a") + empty("play") + references("a") + empty("print"))))
+    bad(41, "a reference between kinds", agreed(
+        ONE, el("permission", references("a") + empty("play") + references("a") + empty("print"))))
     for name in ("o-ex:constraint", "oma-dd:access", "o-ex:context", "o-ex:permission", "a"):
         bad(41, f"permission with {name}", permitted(el(name)))
     bad(41, "permission with a constraint in front of a kind", permitted(el("constraint", el("count", "5")), empty("play")))
@@ -484,7 +498,8 @@ def constraints():
         bad(41, f"{name} with a requirement", permitted(el(name, empty("constraint") + empty("o-ex:requirement"))))
     start, end = el("start", "1970-01-01T00:00:05Z"), el("end", "1970-01-01T00:00:06Z")
     for name, inside in (("end, then start", end + start), ("two starts", start * 2), ("two ends", end * 2),
-                         ("another element", start + "<a/>"), ("start, end, start", start + end + start), ("a count", el("count", "5"))):
+                         ("another element", start + "<a/>"), ("start, end, start", start + end + start),
+                         ("a count", el("count", "5"))):
         bad(41, f"datetime with {name}", limited(el("datetime", inside)))
     for name, value in (("version", "2.2"), ("uid", "1")):
         text = el("rights", el("context", el(name, value + "<a/>")) + el("agreement", asset()))
@@ -535,7 +550,8 @@ def attributes():
             ("rights and an asset", agreed(ONE, attributes=named("a"))),
             ("an asset and its context", agreed(el("asset", el("context", el("uid", "cid:1"), named("a")), named("a")))),
             ("an asset and a uid", agreed(ONE, el("asset", el("context", el("uid", "cid:2", named("a")))))),
-            ("an asset and a version", agreed(ONE, el("asset", el("context", el("version", "2.2", named("a")) + el("uid", "cid:2"))))),
+            ("an asset and a version", agreed(
+                ONE, el("asset", el("context", el("version", "2.2", named("a")) + el("uid", "cid:2"))))),
             ("an asset and its KeyInfo", agreed(asset(more=empty("KeyInfo", named("a")), attributes=named("a")))),
             ("an asset and its inherit", agreed(asset(more=el("inherit", context("pid:9"), named("a")), attributes=named("a")))),
             ("two KeyInfos", agreed(asset(more=empty("KeyInfo", named("a"))), asset("cid:2", empty("KeyInfo", named("a"))))),
@@ -545,7 +561,8 @@ def attributes():
             ("an asset and a constraint", agreed(ONE, el("permission", el("play", empty("constraint", named("a")))))),
             ("an asset and a count", agreed(ONE, el("permission", kind(el("count", "5", named("a")))))),
             ("an asset and a timed count", agreed(ONE, el("permission", kind(el("timed-count", "5", named("a")))))),
-            ("an asset and a start", agreed(ONE, el("permission", kind(el("datetime", el("start", "1970-01-01T00:00:05Z", named("a"))))))),
+            ("an asset and a start", agreed(
+                ONE, el("permission", kind(el("datetime", el("start", "1970-01-01T00:00:05Z", named("a"))))))),
             ("an asset and an interval", agreed(ONE, el("permission", kind(el("interval", "PT5S", named("a")))))),
             ("two kinds", permitted(empty("play", named("a")), empty("print", named("a")))),
             ("two empty ids", agreed(asset(attributes=named("")), asset("cid:2", attributes=named("")))),
@@ -600,7 +617,8 @@ def idrefs():
             ("on a version, of nothing", el("rights", el("context", el("version", "2.2", other("x")) + el("uid", "1"))
                                             + el("agreement", asset())))):
         bad(41, f"an idref {name}", text)
-    good(11, "an idref on a second asset and its KeyInfo", agreed(ONE, asset("cid:2", empty("KeyInfo", other("a")), other("a"))), "1; 2 key")
+    good(11, "an idref on a second asset and its KeyInfo", agreed(
+        ONE, asset("cid:2", empty("KeyInfo", other("a")), other("a"))), "1; 2 key")
     good(12, "an idref on a permission, a kind, a constraint, a count and a datetime makes no reference",
          agreed(ONE, el("permission", el("play", el("constraint", el("count", "5", other("a")) + el("datetime", "", other("a")),
                                                     other("a")), other("a")), other("a"))), "1 | 1 play count 5")
@@ -627,7 +645,8 @@ def timers():
     bad(41, "timer 1000001 in a whole text", timed("1000001"))
     good(11, "a timer on a count is skipped", limited(el("count", "5", timer("x"))), "1 | 1 play count 5")
     good(9, "a timer on a kind is skipped", permitted(empty("play", timer("2000000"))), "1 | 1 play")
-    good(11, "a timer in other words is skipped", limited(el("timed-count", "5", ' timer="30" o-dd:timer="x"')), "1 | 1 play timed 5")
+    good(11, "a timer in other words is skipped", limited(el("timed-count", "5", ' timer="30" o-dd:timer="x"')),
+         "1 | 1 play timed 5")
     for name in ("print", "export"):
         good(11, f"timer 0 on {name}", timed("0", name), f"1 | 1 {name} timed 5")
         bad(41, f"timer 1 on {name}", timed("1", name))
@@ -649,7 +668,8 @@ def values():
     bad(41, "version, an empty-element tag", versioned("").replace("<o-dd:version></o-dd:version>", "<o-dd:version/>"))
     bad(41, "version 2.1 in an asset's context", agreed(el("asset", context("cid:1", "2.1"))))
     for digits, number in (("65535", 65535), ("00065535", 65535), ("0" * 60 + "9", 9)):
-        good(9, f"rights uid {digits[-8:]} of {len(digits)} digits", agreed(asset(), el("permission", empty("play")), object=digits),
+        good(9, f"rights uid {digits[-8:]} of {len(digits)} digits", agreed(
+            asset(), el("permission", empty("play")), object=digits),
              f"1 | 1 play object {number}")
     for text in ("0", "000", "65536", "65537", "99999", "9" * 60, "cid:1", "pid:1", *WRAPS, *NO_NUMBERS):
         bad(41, f"rights uid {text[:40]!r}", upto(agreed(asset(), object=text), "</o-dd:uid>"))
@@ -657,7 +677,8 @@ def values():
     for text, number in (("cid:65535", 65535), ("pid:1", 1), ("pid:65535", 65535), ("cid:0001", 1), ("pid:" + "0" * 60 + "12", 12)):
         good(7, f"asset uid {text[:8]} of {len(text)} bytes", agreed(asset(text)), str(number))
         good(10, f"inherit uid {text[:8]} of {len(text)} bytes", agreed(asset(more=inherit(text))), f"1 inherits {number}")
-    for text in ("1", "cid:0", "pid:000", "cid:65536", "pid:65537", "gid:1", "CID:1", "Cid:1", "pID:1", "cid", "cid:", "pid:", "cid1",
+    for text in ("1", "cid:0", "pid:000", "cid:65536", "pid:65537", "gid:1", "CID:1", "Cid:1", "pID:1", "cid", "cid:", "pid:",
+                 "cid1",
                  "cid:cid:1", "cid:1@a.b", "cidd:1", "ci:1", ":1", "cid: 1", "cid:1 ", " cid:1", "cid:+1", "cid:-1", "cid:x",
                  "cid:" + "9" * 60, "cid:\xb9", *("cid:" + digits for digits in WRAPS)):
         bad(41, f"asset uid {text[:40]!r}", f"{HEAD}<o-ex:asset><o-ex:context>{el('uid', text)}")
@@ -682,11 +703,15 @@ def times():
             ("1970-01-02T00:00:00Z", 86_400), ("1970-12-31T23:59:59Z", 31_535_999), ("1971-01-01T00:00:00Z", 31_536_000),
             ("1972-02-29T00:00:00Z", 68_169_600), ("1972-03-01T00:00:00Z", 68_256_000), ("2000-02-29T00:00:00Z", 951_782_400),
             ("2000-03-01T00:00:00Z", 951_868_800), ("1999-12-31T23:59:59Z", 946_684_799), ("2000-01-01T00:00:00Z", 946_684_800),
-            ("2001-09-09T01:46:40Z", 1_000_000_000), ("2004-04-30T23:59:59Z", 1_083_369_599), ("2004-02-29T23:59:59Z", 1_078_099_199),
-            ("2038-01-19T03:14:07Z", 2_147_483_647), ("2038-01-19T03:14:08Z", 2_147_483_648), ("2096-02-29T00:00:00Z", 3_981_312_000),
-            ("2096-10-02T07:06:39Z", 3_999_999_999), ("2096-10-02T07:06:40Z", 4_000_000_000), ("2096-10-02T00:00:00Z", 3_999_974_400)):
+            ("2001-09-09T01:46:40Z", 1_000_000_000), ("2004-04-30T23:59:59Z", 1_083_369_599),
+            ("2004-02-29T23:59:59Z", 1_078_099_199),
+            ("2038-01-19T03:14:07Z", 2_147_483_647), ("2038-01-19T03:14:08Z", 2_147_483_648),
+            ("2096-02-29T00:00:00Z", 3_981_312_000),
+            ("2096-10-02T07:06:39Z", 3_999_999_999), ("2096-10-02T07:06:40Z", 4_000_000_000),
+            ("2096-10-02T00:00:00Z", 3_999_974_400)):
         good(12, f"start {text}", limited(dated(text)), f"1 | 1 play start {second}")
-    for text, second in (("1970-01-01T00:00:00Z", 0), ("2096-02-29T00:00:00Z", 3_981_312_000), ("2096-10-02T07:06:40Z", 4_000_000_000)):
+    for text, second in (("1970-01-01T00:00:00Z", 0), ("2096-02-29T00:00:00Z", 3_981_312_000),
+                         ("2096-10-02T07:06:40Z", 4_000_000_000)):
         good(12, f"end {text}", limited(dated(None, text)), f"1 | 1 play end {second}")
     for text in (
             "2096-10-02T07:06:41Z", "2096-10-02T07:07:00Z", "2096-10-02T08:00:00Z", "2096-10-03T00:00:00Z", "2096-11-01T00:00:00Z",
@@ -698,14 +723,15 @@ def times():
             "2000-01-01T99:00:00Z", "2000-01-01T00:00:00", "2000-01-01T00:00:00z", "2000-01-01t00:00:00Z", "2000-01-01 00:00:00Z",
             "2000-01-01T00:00:00+00:00", "2000-01-01T00:00:00.0Z", "2000-01-01T00:00Z", "2000-01-01", "00-01-01T00:00:00Z",
             "2000-1-01T00:00:00Z", "02000-01-01T00:00:00Z", "2000/01/01T00:00:00Z", "2000-01-01T00-00-00Z", " 2000-01-01T00:00:00Z",
-            "2000-01-01T00:00:00Z ", "2000-01-01T00:00:00ZZ", "2000-01-01T0x:00:00Z", "x000-01-01T00:00:00Z", "2000-01-01T00:00:0-Z",
+            "2000-01-01T00:00:00Z ", "2000-01-01T00:00:00ZZ", "2000-01-01T0x:00:00Z", "x000-01-01T00:00:00Z",
+            "2000-01-01T00:00:0-Z",
             "-200-01-01T00:00:00Z", "2000-01-01T00:00:+1Z", "2000-01- 1T00:00:00Z", "946684800", ""):
         bad(41, f"start {text!r}", upto(limited(dated(text)), "</o-dd:start>"))
     for text in ("2096-10-02T07:06:41Z", "2100-02-29T00:00:00Z", "2000-02-30T00:00:00Z", "1969-12-31T23:59:59Z", ""):
         bad(41, f"end {text!r}", upto(limited(dated(None, text)), "</o-dd:end>"))
     bad(41, "a start too late in a whole text", limited(dated("2096-10-02T07:06:41Z")))
-    for month, days, before in ((1, 31, 0), (2, 28, 31), (3, 31, 59), (4, 30, 90), (5, 31, 120), (6, 30, 151), (7, 31, 181), (8, 31, 212),
-                                (9, 30, 243), (10, 31, 273), (11, 30, 304), (12, 31, 334)):
+    for month, days, before in ((1, 31, 0), (2, 28, 31), (3, 31, 59), (4, 30, 90), (5, 31, 120), (6, 30, 151), (7, 31, 181),
+                                (8, 31, 212), (9, 30, 243), (10, 31, 273), (11, 30, 304), (12, 31, 334)):
         good(12, f"the last day of month {month} of 1970", limited(dated(f"1970-{month:02}-{days}T00:00:00Z")),
              f"1 | 1 play start {(before + days - 1) * 86_400}")
     bad(41, "start, an empty-element tag", limited(el("datetime", empty("start"))))
@@ -714,20 +740,26 @@ def times():
 
 def durations():
     for text, seconds in (
-            ("PT1S", 1), ("PT1M", 60), ("PT1H", 3_600), ("P1D", 86_400), ("P1DT1H1M1S", 90_061), ("P1DT1S", 86_401), ("P1DT1M", 86_460),
+            ("PT1S", 1), ("PT1M", 60), ("PT1H", 3_600), ("P1D", 86_400), ("P1DT1H1M1S", 90_061), ("P1DT1S", 86_401),
+            ("P1DT1M", 86_460),
             ("P1DT1H", 90_000), ("PT1H1M", 3_660), ("PT1H1S", 3_601), ("PT1M1S", 61), ("P1DT1M1S", 86_461), ("P1DT1H1S", 90_001),
             ("P1DT1H1M", 90_060), ("PT1H1M1S", 3_661), ("P15DT10H30M20S", 1_333_820), ("P0DT2H0M00S", 7_200), ("PT90M", 5_400),
-            ("PT100000S", 100_000), ("PT25H", 90_000), ("P0DT1S", 1), ("PT0H0M1S", 1), ("P0001D", 86_400), ("PT" + "0" * 60 + "5S", 5),
-            ("PT100000000S", 100_000_000), ("P1157D", 99_964_800), ("P1157DT9H46M40S", 100_000_000), ("PT27777H46M40S", 100_000_000),
+            ("PT100000S", 100_000), ("PT25H", 90_000), ("P0DT1S", 1), ("PT0H0M1S", 1), ("P0001D", 86_400),
+            ("PT" + "0" * 60 + "5S", 5),
+            ("PT100000000S", 100_000_000), ("P1157D", 99_964_800), ("P1157DT9H46M40S", 100_000_000),
+            ("PT27777H46M40S", 100_000_000),
             ("PT1666666M40S", 100_000_000)):
         good(11, f"interval {text[:20]}", limited(el("interval", text)), f"1 | 1 play interval {seconds}")
     for text, seconds in (("PT1S", 1), ("P1D", 86_400), ("P15DT10H30M20S", 1_333_820), ("PT100000000S", 100_000_000)):
         good(11, f"accumulated {text}", limited(el("accumulated", text)), f"1 | 1 play accumulated {seconds}")
     for text in (
-            "", "P", "PT", "T", "P1DT", "PT1", "P1", "1D", "T1H", "1S", "P1H", "P1S", "P1M", "PT1D", "PT1S1M", "PT1M1H", "PT1S1H", "P1D1H",
+            "", "P", "PT", "T", "P1DT", "PT1", "P1", "1D", "T1H", "1S", "P1H", "P1S", "P1M", "PT1D", "PT1S1M", "PT1M1H", "PT1S1H",
+            "P1D1H",
             "P1D1D", "PT1H1H", "PT1M1M", "PT1S1S", "PT1HT1M", "P1DT1HT1M", "PP1D", "P1Y", "P1W", "P1Y1D", "PT1.5S", "P1.5D", "P-1D",
-            "-P1D", "+P1D", " PT1S", "PT1S ", "PT 1S", "P 1D", "pt1s", "PT1s", "P1d", "PTS", "PD", "PTHMS", "PDTHMS", "PT1HM", "P0D", "PT0S",
-            "P0DT0H0M0S", "PT0H", "PT100000001S", "P1158D", "P1157DT9H46M41S", "PT27777H46M41S", "PT1666667M", "PT27778H", "PT" + "9" * 60 + "S",
+            "-P1D", "+P1D", " PT1S", "PT1S ", "PT 1S", "P 1D", "pt1s", "PT1s", "P1d", "PTS", "PD", "PTHMS", "PDTHMS", "PT1HM",
+            "P0D", "PT0S",
+            "P0DT0H0M0S", "PT0H", "PT100000001S", "P1158D", "P1157DT9H46M41S", "PT27777H46M41S", "PT1666667M", "PT27778H",
+            "PT" + "9" * 60 + "S",
             "P" + "9" * 60 + "D", "PT4294967297S", "PT18446744073709551617S", "P33554433D", "P144115188075855873D",
             "PT1152921504606846976H1S", "PT4611686018427387904M1S", "P1DT18446744073709465217S", "5", "PT1S\n", "PT\xb9S"):
         bad(41, f"interval {text[:30]!r}", upto(limited(el("interval", text)), "</o-dd:interval>"))
@@ -797,8 +829,8 @@ def depth():
     bad(41, "depth 13, an empty-element tag", keyed(nested(8, "<b/>")))
     bad(41, "depth 13, second branch", keyed(nested(8) + nested(9)))
     bad(41, "depth 100", keyed(nested(100)))
-    bad(41, "depth 13, then cut", HEAD + el("asset", context("cid:1") + el("KeyInfo", "<a>" * 9))[:-len("</ds:KeyInfo></o-ex:asset>")])
-    bad(40, "depth 12, then cut", HEAD + el("asset", context("cid:1") + el("KeyInfo", "<a>" * 8))[:-len("</ds:KeyInfo></o-ex:asset>")])
+    bad(41, "depth 13, then cut", HEAD + "<o-ex:asset>" + context("cid:1") + "<ds:KeyInfo>" + "<a>" * 9)
+    bad(40, "depth 12, then cut", HEAD + "<o-ex:asset>" + context("cid:1") + "<ds:KeyInfo>" + "<a>" * 8)
     bad(40, "depth 13 and an attribute twice", keyed(nested(8, "<b c='' c=''/>")))
     bad(41, "depth 13 and & in the tag", keyed(nested(8, "<b &/>")))
     bad(40, "depth 13, cut in the tag", HEAD + "<o-ex:asset>" + context("cid:1") + "<ds:KeyInfo>" + "<a>" * 8 + "<b")
@@ -812,7 +844,8 @@ def many_elements():
     good(256, "256 elements, a kind last", agreed(filled(254), el("permission", empty("play"))), "1 key | 1 play")
     for name, text in (
             ("in KeyInfo", keyed("<a/>" * 249)),
-            ("a permission", agreed(filled(256), empty("permission"))), ("a permission of two tags", agreed(filled(256), el("permission"))),
+            ("a permission", agreed(filled(256), empty("permission"))),
+            ("a permission of two tags", agreed(filled(256), el("permission"))),
             ("a kind", agreed(filled(255), el("permission", empty("play")))),
             ("a datetime", agreed(filled(253), el("permission", kind(empty("datetime"))))),
             ("at depth 12", keyed("<a/>" * 241 + nested(7, "<b/>"))),
@@ -827,8 +860,10 @@ def many_elements():
         bad(42, f"the 257th element: {name}", text)
     for name, text in (
             ("not accepted", agreed(filled(256), "<a/>")),
-            ("text in front of it", agreed(filled(256), "x", empty("permission"))), ("depth 13", keyed("<a/>" * 240 + nested(8, "<b/>"))),
-            ("an asset without children", agreed(filled(256), empty("asset"))), ("& in its tag", agreed(filled(256), "<o-ex:permission &/>")),
+            ("text in front of it", agreed(filled(256), "x", empty("permission"))),
+            ("depth 13", keyed("<a/>" * 240 + nested(8, "<b/>"))),
+            ("an asset without children", agreed(filled(256), empty("asset"))),
+            ("& in its tag", agreed(filled(256), "<o-ex:permission &/>")),
             ("an id twice", agreed(filled(256, named("a")), empty("permission", named("a")))),
             ("an idref of nothing", agreed(filled(256), empty("permission", ' o-ex:idref="a"'))),
             ("a reference without idref", agreed(filled(255), el("permission", empty("asset")))),
@@ -837,7 +872,8 @@ def many_elements():
             ("a timer that is too great", agreed(filled(253), el("permission", kind(el("timed-count", "5", timer("1000001"))))))):
         bad(41, f"the 257th element: {name}", text)
     for name, text in (
-            ("an attribute twice", agreed(filled(256), "<o-ex:permission a='' a=''/>")), ("cut in its tag", HEAD + filled(256) + "<o-ex:permission"),
+            ("an attribute twice", agreed(filled(256), "<o-ex:permission a='' a=''/>")),
+            ("cut in its tag", HEAD + filled(256) + "<o-ex:permission"),
             ("a < in its tag", agreed(filled(256), "<o-ex:permission <"))):
         bad(40, f"the 257th element: {name}", text)
     bad(40, "256 elements, then x behind rights", keyed("<a/>" * 248) + "x")
@@ -865,7 +901,8 @@ def many_entries():
     entries = [f"{number} {each}" for each in KINDS + KINDS[:3] for number in range(1, 9)]
     good(38, "8 assets and 8 kinds", agreed(numbered(8), *kinds), "; ".join(map(str, range(1, 9))) + "|" + "; ".join(entries))
     bad(42, "5 assets and 13 kinds", agreed(numbered(5), kinds[0], *kinds))
-    bad(42, "63 entries, then two", agreed(ONE, TWO, el("permission", references(*["a"] * 63) + empty("play")), el("permission", empty("play"))))
+    bad(42, "63 entries, then two", agreed(
+        ONE, TWO, el("permission", references(*["a"] * 63) + empty("play")), el("permission", empty("play"))))
     wrong = dated("1970-01-01T00:00:06Z", "1970-01-01T00:00:05Z")
     before = numbered(4) + asset("cid:5", attributes=named("a")) + kinds[0] * 2 + el("permission", empty("play") + empty("display"))
     for code, name, each in (
@@ -893,40 +930,53 @@ def many_entries():
 
 def two_faults():
     value = limited(el("count", "x"))
+    printed, waited = limited(el("accumulated", "PT5S"), name="print"), limited(el("timed-count", "5", timer("1")), name="print")
     wrong = dated("1970-01-01T00:00:06Z", "1970-01-01T00:00:05Z")
     for code, name, text in (
             (41, "another root, then another closing tag", "<a></b>"), (41, "another root, then nothing well formed", "<a><"),
-            (41, "another root of one tag, then a second", "<a/><b/>"), (40, "another root with an attribute twice", "<a b='' b=''>"),
+            (41, "another root of one tag, then a second", "<a/><b/>"),
+            (40, "another root with an attribute twice", "<a b='' b=''>"),
             (40, "another root, cut", "<a b='1'"), (41, "rights without children, then x", empty("rights") + "x"),
-            (41, "rights without children, of two tags, then x", el("rights") + "x"), (40, "rights without children, another closing tag", ROOT + "</a>"),
+            (41, "rights without children, of two tags, then x", el("rights") + "x"),
+            (40, "rights without children, another closing tag", ROOT + "</a>"),
             (40, "text and another closing tag", ROOT + "x</a>"), (40, "text and a tag that is cut", ROOT + "x<o-ex:context"),
-            (41, "text and an accepted tag", ROOT + "x<o-ex:context>"), (40, "text and an attribute twice", ROOT + "x<o-ex:context a='' a=''>"),
+            (41, "text and an accepted tag", ROOT + "x<o-ex:context>"),
+            (40, "text and an attribute twice", ROOT + "x<o-ex:context a='' a=''>"),
             (40, "not accepted and an attribute twice", ROOT + "<a b='' b=''>"),
-            (41, "not accepted and &", ROOT + "<a &>"), (40, "not accepted and cut", ROOT + "<a"), (41, "not accepted, then an attribute twice", ROOT + "<a><b c='' c=''>"),
-            (41, "not accepted, then another closing tag", ROOT + "<a></b>"), (40, "an attribute twice, then not accepted", ROOT + "<o-ex:context b='' b=''><a>"),
+            (41, "not accepted and &", ROOT + "<a &>"), (40, "not accepted and cut", ROOT + "<a"),
+            (41, "not accepted, then an attribute twice", ROOT + "<a><b c='' c=''>"),
+            (41, "not accepted, then another closing tag", ROOT + "<a></b>"),
+            (40, "an attribute twice, then not accepted", ROOT + "<o-ex:context b='' b=''><a>"),
             (41, "a value, then x behind rights", value + "x"), (41, "a value, then a <", upto(value, "</o-dd:count>") + "<"),
             (40, "a value cut in front of its closing tag", value.partition("</o-dd:count>")[0]),
             (40, "a value cut in its closing tag", value.partition("</o-dd:count>")[0] + "</o-dd:count"),
             (40, "a value with another closing tag", value.replace("</o-dd:count>", "</o-dd:cont>")),
             (41, "a value with & in its closing tag", value.replace("</o-dd:count>", "</o-dd:count&>")),
             (41, "a value with &, another closing tag", value.replace("x</o-dd:count>", "&</o-dd:cont>")),
-            (40, "a value with a control byte", value.replace(">x<", ">\x02<")), (41, "a value with & and a control byte", value.replace(">x<", ">&\x02<")),
+            (40, "a value with a control byte", value.replace(">x<", ">\x02<")),
+            (41, "a value with & and a control byte", value.replace(">x<", ">&\x02<")),
             (40, "a value with a control byte and &", value.replace(">x<", ">\x02&<")),
             (41, "a value, then another closing tag", value.replace("</o-ex:constraint>", "</a>")),
             (40, "a good value, then another closing tag", limited(el("count", "5")).replace("</o-ex:constraint>", "</a>")),
             (41, "a timer, then another closing tag", limited("<oma-dd:timed-count oma-dd:timer='x'>5</a>")),
-            (40, "a timer and an attribute twice", limited("<oma-dd:timed-count oma-dd:timer='x' a='' a=''>5</oma-dd:timed-count>")),
+            (40, "a timer and an attribute twice", limited(
+                "<oma-dd:timed-count oma-dd:timer='x' a='' a=''>5</oma-dd:timed-count>")),
             (40, "a good timer, another closing tag", limited("<oma-dd:timed-count oma-dd:timer='1'>5</a>")),
             (41, "a reference without idref, another closing tag", agreed(ONE, el("permission", "<o-ex:asset></a>"))),
             (40, "a reference without idref and an attribute twice", agreed(ONE, el("permission", "<o-ex:asset a='' a=''/>"))),
-            (40, "an id twice in the text and an attribute twice in the tag", agreed(ONE, el("permission", "", named("a") + " b='' b=''"))),
-            (40, "an idref of nothing and an attribute twice", agreed(ONE, el("permission", empty("asset", " o-ex:idref='b' o-ex:idref='a'")))),
+            (40, "an id twice in the text and an attribute twice in the tag", agreed(
+                ONE, el("permission", "", named("a") + " b='' b=''"))),
+            (40, "an idref of nothing and an attribute twice", agreed(
+                ONE, el("permission", empty("asset", " o-ex:idref='b' o-ex:idref='a'")))),
             (40, "an idref of nothing and a < in the tag", agreed(ONE, el("permission", "<o-ex:asset o-ex:idref='b' <"))),
             (41, "an idref of nothing, then x behind rights", agreed(ONE, el("permission", references("b"))) + "x"),
-            (40, "no uid and another closing tag", ROOT + "<o-ex:context></o-ex:contex>"), (41, "no uid, then cut", ROOT + "<o-ex:context></o-ex:context>"),
-            (41, "no uid in an empty-element tag, then cut", ROOT + "<o-ex:context/>"), (40, "no uid, cut in the empty-element tag", ROOT + "<o-ex:context/"),
+            (40, "no uid and another closing tag", ROOT + "<o-ex:context></o-ex:contex>"),
+            (41, "no uid, then cut", ROOT + "<o-ex:context></o-ex:context>"),
+            (41, "no uid in an empty-element tag, then cut", ROOT + "<o-ex:context/>"),
+            (40, "no uid, cut in the empty-element tag", ROOT + "<o-ex:context/"),
             (40, "a number twice and another closing tag", agreed(asset(), asset()[:-len("o-ex:asset>")] + "a>")),
-            (40, "a number twice and a control byte in front of the closing tag", agreed(asset(), asset(more=el("KeyInfo", "\x02")))),
+            (40, "a number twice and a control byte in front of the closing tag", agreed(
+                asset(), asset(more=el("KeyInfo", "\x02")))),
             (41, "a number twice, then x behind rights", agreed(asset(), asset()) + "x"),
             (40, "a number twice, cut in front of the closing tag", HEAD + asset() + asset()[:-len("</o-ex:asset>")]),
             (40, "start after end, another closing tag for the kind", limited(wrong).replace("</o-dd:play>", "</o-dd:pla>")),
@@ -934,13 +984,15 @@ def two_faults():
             (40, "start after end, another closing tag for datetime", limited(wrong).replace("</o-dd:datetime>", "</a>")),
             (40, "start after end, cut in front of the kind's closing tag", limited(wrong).partition("</o-dd:play>")[0]),
             (41, "start after end, then cut", limited(wrong).partition("</o-ex:permission>")[0]),
-            (41, "start after end, then an attribute twice", limited(wrong).replace("</o-dd:play>", "</o-dd:play><o-dd:print a='' a=''/>")),
-            (40, "accumulated on print, another closing tag", limited(el("accumulated", "PT5S"), name="print").replace("</o-dd:print>", "</o-dd:play>")),
-            (40, "accumulated on print, cut behind the constraint", limited(el("accumulated", "PT5S"), name="print").partition("</o-dd:print>")[0]),
-            (40, "a timer on print, another closing tag", limited(el("timed-count", "5", timer("1")), name="print").replace("</o-dd:print>", "</a>")),
-            (41, "a timer on print, then cut", limited(el("timed-count", "5", timer("1")), name="print").partition("</o-ex:permission>")[0]),
+            (41, "start after end, then an attribute twice", limited(wrong).replace(
+                "</o-dd:play>", "</o-dd:play><o-dd:print a='' a=''/>")),
+            (40, "accumulated on print, another closing tag", printed.replace("</o-dd:print>", "</o-dd:play>")),
+            (40, "accumulated on print, cut behind the constraint", printed.partition("</o-dd:print>")[0]),
+            (40, "a timer on print, another closing tag", waited.replace("</o-dd:print>", "</a>")),
+            (41, "a timer on print, then cut", waited.partition("</o-ex:permission>")[0]),
             (40, "no asset and another closing tag", HEAD + "</a>"), (41, "no asset, then cut", HEAD + "</o-ex:agreement>"),
-            (40, "no agreement and another closing tag", ROOT + context("1") + "</a>"), (41, "no agreement, then x", ROOT + context("1") + "</o-ex:rights>x"),
+            (40, "no agreement and another closing tag", ROOT + context("1") + "</a>"),
+            (41, "no agreement, then x", ROOT + context("1") + "</o-ex:rights>x"),
             (41, "rights good, & behind it, then x", BARE + "&x"), (40, "rights good, x behind it, then &", BARE + "\nx&"),
             (41, "<!, then nothing well formed", "<!<<<"), (40, "nothing well formed, then <!", "<<<!")):
         bad(code, name, text)
@@ -956,7 +1008,8 @@ METHOD = '<xenc:EncryptionMethod Algorithm="http://www.w3.org/2001/04/xmlenc#kw-
 RETRIEVAL = el("KeyInfo", '<ds:RetrievalMethod URI="REKReference"/>')
 CIPHER = el("xenc:CipherData", el("xenc:CipherValue", "EncryptedCEK"))
 KEY = el("KeyInfo", el("xenc:EncryptedKey", METHOD + RETRIEVAL + CIPHER))       # 7 elements
-DIGEST = el("o-ex:digest", '<ds:DigestMethod Algorithm="http://www.w3.org/2000/09/xmldsig#sha1"/>' + el("ds:DigestValue", "DCFHash"))
+DIGEST = el(
+    "o-ex:digest", '<ds:DigestMethod Algorithm="http://www.w3.org/2000/09/xmldsig#sha1"/>' + el("ds:DigestValue", "DCFHash"))
 
 
 def issued(name, *parts, object="1"):
@@ -970,8 +1023,10 @@ def appendix():
     one, two = asset("cid:1", KEY, named("Asset-1")), asset("cid:2", KEY, named("Asset-2"))
     good(17, "C.1", issued("C.1", asset(more=KEY), el("permission", empty("play"))), "1 key | 1 play")
     bad(41, "C.1 with its digest", issued("C.1", asset(more=DIGEST + KEY), el("permission", empty("play"))))
-    bad(41, "C.1 with its identifiers", issued("C.1", asset("ContentID", KEY), el("permission", empty("play")), object="RightsObjectID"))
-    good(19, "C.2", issued("C.2", asset(more=KEY), el("permission", kind(el("count", "1"), name="display"))), "1 key | 1 display count 1")
+    bad(41, "C.1 with its identifiers", issued(
+        "C.1", asset("ContentID", KEY), el("permission", empty("play")), object="RightsObjectID"))
+    good(19, "C.2", issued("C.2", asset(more=KEY), el("permission", kind(el("count", "1"), name="display"))),
+         "1 key | 1 display count 1")
     good(32, "C.3", issued("C.3", one, two, el("permission", references("Asset-1", "Asset-2") + empty("display")),
                            el("permission", references("Asset-2") + empty("print"))),
          "1 key; 2 key | 1 display; 2 display; 2 print")
@@ -995,13 +1050,15 @@ def appendix():
     bad(41, "C.6, the child, both assets of one content", issued("C.5c", child, asset("cid:1", KEY, named("2")), last))
     bad(41, "C.6, the child with print in front of display", issued("C.5c", child, el(
         "permission", kind(el("count", "5")) + kind(el("count", "8"), name="print") + kind(el("count", "30"), name="display"))))
-    bad(41, "C.6, the child with dates outside datetime", issued("C.5c", child, el("permission", kind(el("start", "2006-04-15T00:00:00Z")))))
+    bad(41, "C.6, the child with dates outside datetime", issued(
+        "C.5c", child, el("permission", kind(el("start", "2006-04-15T00:00:00Z")))))
     moved = ' oma-dd:mode="move" oma-dd:transcribe="false"'
     good(20, "C.7.1", issued("C.5.1", asset(more=KEY), el("permission", empty("display") + empty("print") + el(
         "export", el("constraint"), moved))), "1 key | 1 display; 1 print; 1 export")
     bad(41, "C.7.1 with its system", issued("C.5.1", asset(more=KEY), el("permission", empty("display") + empty("print") + el(
         "export", el("constraint", el("oma-dd:system", context("XYZ"))), moved))))
-    good(46, "C.7.2", issued("C.5.2", one, two, el("permission", el("export", el("constraint", el("count", "1") + year), moved)), el(
+    good(46, "C.7.2", issued(
+        "C.5.2", one, two, el("permission", el("export", el("constraint", el("count", "1") + year), moved)), el(
         "permission", references("Asset-1") + kind(year)), el("permission", references("Asset-2") + kind(year, name="print"))),
         "1 key; 2 key | 1 export count 1 start 1072915200 end 1104537599; 2 export count 1 start 1072915200 end 1104537599; "
         "1 play start 1072915200 end 1104537599; 2 print start 1072915200 end 1104537599")

@@ -284,7 +284,6 @@ class Reader:
         self.entry = None           # with the limits of the kind that is open
 
     def take(self, before, form, name, attributes):
-        over = False                # 42 only where nothing in the whole tag, which may be both, gets 41
         if form == CLOSING:
             if name != self.open[-1].name:
                 raise Refused(40)
@@ -293,7 +292,7 @@ class Reader:
             over = self.begin(before, name, attributes)
             if form == EMPTY:
                 over = self.close(b"") or over
-        if over:
+        if over:                    # only now: in a tag that opens and closes, 41 for either goes before
             raise Refused(42)
 
     def begin(self, before, name, attributes):

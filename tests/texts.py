@@ -133,7 +133,7 @@ def pipes():
 
 
 def long_texts():
-    for name, size in (("a megabyte", 1_000_000), ("a little over 65,536 bytes", 65_537), ("65,536 bytes", 65_536), ("65,535 bytes", 65_535)):
+    for name, size in (("a megabyte", 1_000_000), ("65,537 bytes", 65_537), ("65,536 bytes", 65_536), ("65,535 bytes", 65_535)):
         frame = len(texts.keyed(""))
         same(f"a key of {name}", texts.keyed("k" * (size - frame)).encode())
     frame = len(texts.BARE)
@@ -141,7 +141,8 @@ def long_texts():
         same(f"white space up to {name}", texts.BARE.encode() + b" " * (size - frame))
     same("a fault in the last byte of 16 MB", texts.BARE.encode() + b" " * (LONGEST - frame - 1) + b"x")
     out, said = ask(texts.BARE.encode() + b" " * (LONGEST + 1 - frame))
-    check("a text of more than 16 MB gets a message and no image", out == b"" and len(said) > 3, f"{len(out)} bytes and {said[:200]!r}")
+    check("a text of more than 16 MB gets a message and no image", out == b"" and len(said) > 3,
+          f"{len(out)} bytes and {said[:200]!r}")
 
 
 def bad_outputs():
@@ -150,7 +151,8 @@ def bad_outputs():
     if Path("/dev/full").exists():
         with open("/dev/full", "wb") as full:
             done = subprocess.run([PROGRAM], input=text, stdout=full, stderr=subprocess.PIPE, timeout=LIMIT)
-        check("a full disk is no success", done.returncode != 0 or done.stderr != wanted(text)[1], f"status {done.returncode}, {done.stderr!r}")
+        check("a full disk is no success", done.returncode != 0 or done.stderr != wanted(text)[1],
+              f"status {done.returncode}, {done.stderr!r}")
     with tempfile.TemporaryDirectory() as folder:
         where = Path(folder) / "rights.rbk"
         with open(where, "wb") as file:
@@ -171,7 +173,8 @@ def small_stack():
 
 
 def damaged_texts(count):
-    done = subprocess.run([sys.executable, str(ROOT / "oracle" / "text_fuzz.py"), str(count)], capture_output=True, text=True, timeout=1100)
+    command = [sys.executable, str(ROOT / "oracle" / "text_fuzz.py"), str(count)]
+    done = subprocess.run(command, capture_output=True, text=True, timeout=1100)
     print(done.stdout.strip())
     check(f"{count} damaged and random texts", done.returncode == 0, (done.stdout + done.stderr).strip()[-1000:])
 
