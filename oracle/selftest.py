@@ -2,7 +2,8 @@
 
 The afternoon of document 01, then random days. On each day, demand 3 is judged by the ledger; every book along
 the way is written and read back; events turned away and resends must leave the book unchanged; and the day without its
-resends is run again. Last, servers with one planted fault each must be caught by the ledger.
+resends is run again. Then servers with one planted fault each must be caught by the ledger. Last, the stored texts get their
+answers from the reader of XML texts, and readers with one planted fault each must be caught by them.
 """
 
 import copy
@@ -12,6 +13,7 @@ from contextlib import contextmanager
 
 import days
 import rights
+import text_faults
 from ledger import Broken, Ledger, check_run, demand
 from rights import Asset, Book, Entry, Event
 
@@ -225,6 +227,8 @@ def main():
         demand(is_caught(name, fault), f"the fault {fault.__name__} is caught")
     print(f"{done} events in {seed - 1} days:", ", ".join(f"{n} {seen[n]}" for n in sorted(seen, key=str)))
     print(f"{len(FAULTS)} planted faults caught")
+    stored, faults = text_faults.check()
+    print(f"{stored} stored texts, {faults} planted faults of their reader caught")
 
 
 if __name__ == "__main__":
