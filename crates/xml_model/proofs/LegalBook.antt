@@ -23,7 +23,7 @@ use Rattle.book.specs.declared.Book.{Book}
 use Rattle.book.specs.Blank.{noAsset, noMeters, noEntry, noPlayer}
 use Rattle.model.specs.Book.{assetAt, limitsAt, metersAt, playerAt, assetsIn, entriesIn, assetPosition, inBook, between, flagged, limit}
 use Rattle.model.specs.Book.{assetLegal, assetsLegal, rangesLegal, limitsLegal, entriesLegal, playerBlank, playerLegal, momentary}
-use Rattle.model.specs.Book.{startFlag, endFlag, accumulatedFlag, opens, lasts, openUses, openSeconds, ruleBroken, Legal, Fresh}
+use Rattle.model.specs.Book.{countFlag, timedFlag, startFlag, endFlag, intervalFlag, accumulatedFlag, leastLimit, mostTimes, mostSeconds, latestTime, opens, lasts, openUses, openSeconds, ruleBroken, Legal, Fresh}
 use Rattle.model.specs.Image.{newest, headerTail, assetWidths, assetValues, entryWidths, entryValues, playerWidths, playerValues, Typed}
 use Rattle.model.proofs.Legal.Facts.{all-of, sum-same}
 use Rattle.model.proofs.Legal.Rules.{lawfulIn, playerPasses, Counted, MeterOk, Stages, meter-to, stages-from, stages-to}
@@ -232,3 +232,168 @@ module _ (f : ℕ → Entry) (n : ℕ) (es : List Entry) where
       (λ d.
       rw (getD-set-other (filled f n k es) (n + k) i (f k) noEntry d)
       (filled-each P old k (omega (arith, room)) (λ j m. each j (omega (arith, m))) i (omega (arith, l, d))))
+
+-- ## The entries of one kind more
+
+module _ (kind : ℕ) (st : State) (h : Legal (st .book)) (f : Fresh (st .book)) (room : entriesIn (st .book) + howMany st ≤ 64)
+    (test : kindLegal kind st ≡ true) where
+  abbrev held : Book
+  held = st .book
+
+  abbrev more : Book
+  more = withEntries kind st held
+
+  abbrev one-of : ℕ → Entry
+  one-of i = record { limits = limitsFor kind st i; meters = noMeters }
+
+  before : entriesIn held ≡ held .entrycount
+  unfolding entriesIn
+  before = omega (arith, h .entryCount)
+
+  entries-in : entriesIn more ≡ entriesIn held + howMany st
+  unfolding entriesIn withEntries
+  entries-in = omega (arith, room)
+
+  new-lawful : (i : ℕ) → i < howMany st → lawfulIn held (limitsFor kind st i) ≡ true
+  unfolding kindLegal limitsFor forAsset
+  new-lawful i l =
+      all-below (λ j. limitsLegal (inBook held (assetFor st j)) (limitsFor kind st j)) (min (howMany st) 64) test i
+      (omega (arith, room, l))
+
+  all-lawful : (i : ℕ) → i < entriesIn held + howMany st → lawfulIn held (limitsAt (more .entries) i) ≡ true
+  unfolding withEntries entriesLegal
+  all-lawful =
+      filled-each one-of (entriesIn held) (held .entries) (λ e. lawfulIn held (e .limits) ≡ true)
+      (λ i l. all-below (λ j. lawfulIn held (limitsAt (held .entries) j)) (entriesIn held) (stages-from held (h .rules) .entries) i l)
+      (howMany st) (omega (arith, room, h .entrySlots)) new-lawful
+
+  all-unused : (i : ℕ) → metersAt (more .entries) i ≡ noMeters
+  unfolding withEntries
+  all-unused i =
+      below-or-not i (entriesIn held + howMany st)
+      (filled-each one-of (entriesIn held) (held .entries) (λ e. e .meters ≡ noMeters) (λ j l. f .meters j) (howMany st)
+      (omega (arith, room, h .entrySlots)) (λ j l. refl) i)
+      (λ l. ap (λ (e : Entry). e .meters) (filled-behind one-of (entriesIn held) (held .entries) (howMany st) i l) ∙ f .meters i)
+
+  pub entries-fresh : Fresh more
+  unfolding withEntries
+  entries-fresh = record { time = f .time; meters = all-unused; players = f .players }
+
+  assets-same : assetsLegal more ≡ true
+  unfolding withEntries assetsLegal assetsIn
+  assets-same = stages-from held (h .rules) .assets
+
+  entries-lawful : entriesLegal more ≡ true
+  unfolding withEntries entriesLegal inBook assetsIn
+  entries-lawful = rw entries-in
+      (all-of (λ i. lawfulIn held (limitsAt (more .entries) i)) (entriesIn held + howMany st) all-lawful)
+
+  pub entries-legal : Legal more
+  unfolding withEntries
+  entries-legal = record {
+    assetSlots = h .assetSlots;
+    entrySlots = length-filled one-of (entriesIn held) (held .entries) (howMany st) ∙ h .entrySlots;
+    playerSlots = h .playerSlots;
+    assetCount = h .assetCount;
+    entryCount = room;
+    time = h .time;
+    assetsBlank = h .assetsBlank;
+    entriesBlank = λ i l. filled-behind one-of (entriesIn held) (held .entries) (howMany st) i l
+        ∙ h .entriesBlank i (omega (arith, before, l));
+    rules = fresh-rules more entries-fresh assets-same entries-lawful;
+  }
+
+-- ## The numbers of a fresh and legal book fit their types
+
+limit-most : (flag : Bool) (a z v : ℕ) → limit flag a z v ≡ true → v ≤ z
+unfolding limit
+limit-most true a z v e = leb-true v z (and-right (leb a v) (leb v z) e)
+limit-most false a z v e = omega (arith, eqb-true v 0 e)
+
+between-most : (a z v : ℕ) → between a z v ≡ true → v ≤ z
+between-most a z v e = leb-true v z (and-right (leb a v) (leb v z) e)
+
+ranges-tests : (l : Limits) → rangesLegal l ≡ true → (limit (flagged countFlag l) leastLimit mostTimes (l .count) ≡ true)
+    × Pass (limit (flagged timedFlag l) leastLimit mostTimes (l .timed) ∷ limit (flagged timedFlag l) 0 mostTimes (l .timer)
+    ∷ limit (flagged startFlag l) 0 latestTime (l .start) ∷ limit (flagged endFlag l) 0 latestTime (l .end)
+    ∷ limit (flagged intervalFlag l) leastLimit mostSeconds (l .interval)
+    ∷ limit (flagged accumulatedFlag l) leastLimit mostSeconds (l .accumulated) ∷ [])
+unfolding rangesLegal
+ranges-tests l e = row-passed _ (_ ∷ _ ∷ _ ∷ _ ∷ _ ∷ _ ∷ []) e
+
+limits-fit : (known : Bool) (l : Limits) → limitsLegal known l ≡ true → l .asset < 65536
+    → Fit (entryWidths newest) (entryValues (record { limits = l; meters = noMeters }))
+limits-fit known l e a =
+    let t = limits-tests known l e in
+    let r = ranges-tests l (t .1 .1 .1 .1 .0) in
+    omega (
+      arith,
+      a,
+      between-most 1 65535 (l .object) (t .0),
+      between-most 1 5 (l .kind) (t .1 .1 .0),
+      leb-true (l .flags) 63 (t .1 .1 .1 .0),
+      limit-most _ _ _ (l .count) (r .0),
+      limit-most _ _ _ (l .timed) (r .1 .0),
+      limit-most _ _ _ (l .timer) (r .1 .1 .0),
+      limit-most _ _ _ (l .start) (r .1 .1 .1 .0),
+      limit-most _ _ _ (l .end) (r .1 .1 .1 .1 .0),
+      limit-most _ _ _ (l .interval) (r .1 .1 .1 .1 .1 .0),
+      limit-most _ _ _ (l .accumulated) (r .1 .1 .1 .1 .1 .1 .0),
+    )
+
+module _ (b : Book) (h : Legal b) where
+  assets-in : assetsIn b ≡ b .assetcount
+  unfolding assetsIn
+  assets-in = omega (arith, h .assetCount)
+
+  entries-counted : entriesIn b ≡ b .entrycount
+  unfolding entriesIn
+  entries-counted = omega (arith, h .entryCount)
+
+  asset-at : (i : ℕ) → i < assetsIn b → assetLegal (b .assets) (assetsIn b) i (assetAt (b .assets) i) ≡ true
+  unfolding assetsLegal
+  asset-at i l =
+      all-below (λ j. assetLegal (b .assets) (assetsIn b) j (assetAt (b .assets) j)) (assetsIn b) (stages-from b (h .rules) .assets) i l
+
+  number-small : (i : ℕ) → i < assetsIn b → assetAt (b .assets) i .number < 65536
+  number-small i l =
+      omega (
+        arith,
+        between-most 1 65535 (assetAt (b .assets) i .number)
+            (asset-tests (b .assets) (assetsIn b) i (assetAt (b .assets) i) (asset-at i l) .0),
+      )
+
+  -- a number in the book is that of an asset
+  in-small : (x : ℕ) → inBook b x ≡ true → x < 65536
+  unfolding inBook assetPosition
+  in-small x e =
+      let at : ℕ → Bool = λ i. eqb (assetAt (b .assets) i .number) x in
+      let l = ltb-true (first at (assetsIn b)) (assetsIn b) e in
+      omega (arith, number-small (first at (assetsIn b)) l, eqb-true _ x (first-holds at (assetsIn b) l))
+
+  asset-fits : (i : ℕ) → assetAt (b .assets) i .inherit < 65536 → Fit (assetWidths newest) (assetValues (assetAt (b .assets) i))
+  asset-fits i inherit =
+      below-or-not i (assetsIn b)
+      (λ l.
+      let t = asset-tests (b .assets) (assetsIn b) i (assetAt (b .assets) i) (asset-at i l) in
+      omega (arith, inherit, number-small i l, leb-true (assetAt (b .assets) i .key) 1 (t .1 .1 .0)))
+      (λ l. rw (h .assetsBlank i (omega (arith, assets-in, l))) (zeros-fit (assetWidths newest)))
+
+  entry-fits : Fresh b → (i : ℕ) → Fit (entryWidths newest) (entryValues (getD (b .entries) i noEntry))
+  unfolding entriesLegal
+  entry-fits f i =
+      below-or-not i (entriesIn b)
+      (λ l.
+      let t = all-below (λ j. lawfulIn b (limitsAt (b .entries) j)) (entriesIn b) (stages-from b (h .rules) .entries) i l in
+      let known = inBook b (limitsAt (b .entries) i .asset) in
+      rw (f .meters i)
+      (limits-fit known (limitsAt (b .entries) i) t (in-small _ (limits-tests known (limitsAt (b .entries) i) t .1 .0))))
+      (λ l. rw (h .entriesBlank i (omega (arith, entries-counted, l))) (zeros-fit (entryWidths newest)))
+
+  pub fresh-typed : Fresh b → ((i : ℕ) → assetAt (b .assets) i .inherit < 65536) → Typed b
+  fresh-typed f inherits = record {
+    header = tt;
+    assets = λ i. asset-fits i (inherits i);
+    entries = entry-fits f;
+    players = λ p. rw (f .players p) (zeros-fit (playerWidths newest));
+  }
