@@ -1,20 +1,19 @@
 -- A fresh and legal book that gets one asset more, or entries for one kind more, is fresh and legal.
-use Prim.Native.Nat.{ℕ, zero, suc, _+_, _≤_, _<_, min}
+use Prim.Native.Nat.{ℕ, zero, suc, _+_, _≤_, _<_}
 use mathlib.Core.Path.{_≡_, refl, sym, ap, _∙_, subst}
 use mathlib.Core.Bool.{Bool, true, false, cond, not, _&&_, _||_}
 use mathlib.Core.List.{List, [], _∷_}
 use native.Mathlib.Omega.{arith}
-use native.Mathlib.Numerals.{add-one}
-use lib.ListN.{length, getD, set, replicate, length-set}
+use lib.ListN.{length, getD, length-set}
 use lib.Seq.{getD-set-same, getD-set-other}
 use lib.Dec.{eqb, leb, ltb}
 use borrow.Author.Tests.{eqb-true, eq-eqb, ltb-true, lt-ltb, leb-true}
-use Rattle.numbers.specs.Count.{all, first, sum, one}
+use Rattle.numbers.specs.Count.{first, sum, one}
 use Rattle.numbers.specs.Fields.{Fit}
 use Rattle.numbers.proofs.FieldLaws.{zeros-fit}
 use Rattle.numbers.proofs.Loops.{first-found}
 use Rattle.numbers.proofs.TableLaws.{below-or-not}
-use Rattle.numbers.proofs.Tests.{on-test, on-same, eqb-self, and-left, and-right, and-both, Pass, row-passed, all-below}
+use Rattle.numbers.proofs.Tests.{on-test, on-same, eqb-self, and-right, and-both, Pass, row-passed, all-below}
 use Rattle.book.specs.declared.Asset.{Asset}
 use Rattle.book.specs.declared.Limits.{Limits}
 use Rattle.book.specs.declared.Entry.{Entry}
@@ -23,10 +22,11 @@ use Rattle.book.specs.declared.Book.{Book}
 use Rattle.book.specs.Blank.{noAsset, noMeters, noEntry, noPlayer}
 use Rattle.model.specs.Book.{assetAt, limitsAt, metersAt, playerAt, assetsIn, entriesIn, assetPosition, inBook, between, flagged, limit}
 use Rattle.model.specs.Book.{assetLegal, assetsLegal, rangesLegal, limitsLegal, entriesLegal, playerBlank, playerLegal, momentary}
-use Rattle.model.specs.Book.{countFlag, timedFlag, startFlag, endFlag, intervalFlag, accumulatedFlag, leastLimit, mostTimes, mostSeconds, latestTime, opens, lasts, openUses, openSeconds, ruleBroken, Legal, Fresh}
-use Rattle.model.specs.Image.{newest, headerTail, assetWidths, assetValues, entryWidths, entryValues, playerWidths, playerValues, Typed}
+use Rattle.model.specs.Book.{countFlag, timedFlag, startFlag, endFlag, intervalFlag, accumulatedFlag, leastLimit, mostTimes, mostSeconds}
+use Rattle.model.specs.Book.{latestTime, opens, lasts, openUses, openSeconds, ruleBroken, Legal, Fresh}
+use Rattle.model.specs.Image.{newest, assetWidths, assetValues, entryWidths, entryValues, playerWidths, Typed}
 use Rattle.model.proofs.Legal.Facts.{all-of, sum-same}
-use Rattle.model.proofs.Legal.Rules.{lawfulIn, playerPasses, Counted, MeterOk, Stages, meter-to, stages-from, stages-to}
+use Rattle.model.proofs.Legal.Rules.{lawfulIn, playerPasses, Counted, MeterOk, meter-to, stages-from, stages-to, entries-counted}
 use Rattle.xml_model.specs.declared.State.{State}
 use Rattle.xml_model.specs.State.{withOneAsset, howMany, assetFor, limitsFor, forAsset, kindLegal, filled, withEntries}
 
@@ -87,7 +87,8 @@ fresh-rules b h a e =
       assets = a;
       entries = e;
       players = λ p k. subst (λ (x : Player). playerPasses b x ≡ true) (sym (h .players p)) (blank-passes b);
-      meters = λ i k. meter-to b i (rw (h .meters i, no-uses b h i, no-seconds b h i) (unused-meters (b .time) (limitsAt (b .entries) i)));
+      meters = λ i k. meter-to b i
+          (rw (h .meters i, no-uses b h i, no-seconds b h i) (unused-meters (b .time) (limitsAt (b .entries) i)));
     })
 
 -- ## What the tests say
@@ -104,6 +105,21 @@ limits-tests : (known : Bool) (l : Limits) → limitsLegal known l ≡ true → 
 unfolding limitsLegal
 limits-tests known l e = row-passed _ (_ ∷ _ ∷ _ ∷ _ ∷ _ ∷ _ ∷ []) e
 
+module _ (b : Book) (h : Legal b) where
+  assets-counted : assetsIn b ≡ b .assetcount
+  unfolding assetsIn
+  assets-counted = omega (arith, h .assetCount)
+
+  asset-at : (i : ℕ) → i < assetsIn b → assetLegal (b .assets) (assetsIn b) i (assetAt (b .assets) i) ≡ true
+  unfolding assetsLegal
+  asset-at i l =
+      all-below (λ j. assetLegal (b .assets) (assetsIn b) j (assetAt (b .assets) j)) (assetsIn b) (stages-from b (h .rules) .assets) i l
+
+  lawful-at : (i : ℕ) → i < entriesIn b → lawfulIn b (limitsAt (b .entries) i) ≡ true
+  unfolding entriesLegal
+  lawful-at i l =
+      all-below (λ j. lawfulIn b (limitsAt (b .entries) j)) (entriesIn b) (stages-from b (h .rules) .entries) i l
+
 -- ## One asset more
 
 module _ (b : Book) (a : Asset) (h : Legal b) (room : assetsIn b < 64)
@@ -113,10 +129,6 @@ module _ (b : Book) (a : Asset) (h : Legal b) (room : assetsIn b < 64)
 
   abbrev n : ℕ
   n = assetsIn b
-
-  counted : n ≡ b .assetcount
-  unfolding assetsIn
-  counted = omega (arith, h .assetCount)
 
   grown : assetsIn new ≡ suc n
   unfolding assetsIn withOneAsset
@@ -153,18 +165,13 @@ module _ (b : Book) (a : Asset) (h : Legal b) (room : assetsIn b < 64)
   unfolding assetLegal
   again i x e t = let p = asset-tests (b .assets) n i x t in and-both (and-both (p .0) (eq-eqb _ i e)) (p .1 .1 .0)
 
-  legal-before : (i : ℕ) → i < n → assetLegal (b .assets) n i (assetAt (b .assets) i) ≡ true
-  unfolding assetsLegal
-  legal-before i l =
-      all-below (λ j. assetLegal (b .assets) n j (assetAt (b .assets) j)) n (stages-from b (h .rules) .assets) i l
-
   assets-legal : (i : ℕ) → i < suc n → assetLegal (new .assets) (suc n) i (assetAt (new .assets) i) ≡ true
   assets-legal i l =
       on-same i n
       (λ e. rw (e, new-asset) (again n a position-new test))
       (λ d.
       let k : i < n = omega (arith, d, l) in
-      let t = legal-before i k in
+      let t = asset-at b h i k in
       let p = eqb-true _ i (asset-tests (b .assets) n i (assetAt (b .assets) i) t .1 .0) in
       rw (old-asset i d)
       (again i (assetAt (b .assets) i) (position-kept (assetAt (b .assets) i .number) (omega (arith, p, k)) ∙ p) t))
@@ -190,8 +197,7 @@ module _ (b : Book) (a : Asset) (h : Legal b) (room : assetsIn b < 64)
   unfolding entriesLegal entriesIn withOneAsset
   entries-new =
       all-of (λ i. lawfulIn new (limitsAt (b .entries) i)) (entriesIn b)
-      (λ i l. lawful-kept (limitsAt (b .entries) i)
-      (all-below (λ j. lawfulIn b (limitsAt (b .entries) j)) (entriesIn b) (stages-from b (h .rules) .entries) i l))
+      (λ i l. lawful-kept (limitsAt (b .entries) i) (lawful-at b h i l))
 
   pub asset-legal : Fresh b → Legal new
   unfolding withOneAsset
@@ -202,7 +208,7 @@ module _ (b : Book) (a : Asset) (h : Legal b) (room : assetsIn b < 64)
     assetCount = omega (arith, room);
     entryCount = h .entryCount;
     time = h .time;
-    assetsBlank = λ i l. old-asset i (λ e. omega (arith, e, l)) ∙ h .assetsBlank i (omega (arith, counted, l));
+    assetsBlank = λ i l. old-asset i (λ e. omega (arith, e, l)) ∙ h .assetsBlank i (omega (arith, assets-counted b h, l));
     entriesBlank = h .entriesBlank;
     rules = fresh-rules new (asset-fresh f) assets-new entries-new;
   }
@@ -246,10 +252,6 @@ module _ (kind : ℕ) (st : State) (h : Legal (st .book)) (f : Fresh (st .book))
   abbrev one-of : ℕ → Entry
   one-of i = record { limits = limitsFor kind st i; meters = noMeters }
 
-  before : entriesIn held ≡ held .entrycount
-  unfolding entriesIn
-  before = omega (arith, h .entryCount)
-
   entries-in : entriesIn more ≡ entriesIn held + howMany st
   unfolding entriesIn withEntries
   entries-in = omega (arith, room)
@@ -257,14 +259,12 @@ module _ (kind : ℕ) (st : State) (h : Legal (st .book)) (f : Fresh (st .book))
   new-lawful : (i : ℕ) → i < howMany st → lawfulIn held (limitsFor kind st i) ≡ true
   unfolding kindLegal limitsFor forAsset
   new-lawful i l =
-      all-below (λ j. limitsLegal (inBook held (assetFor st j)) (limitsFor kind st j)) (min (howMany st) 64) test i
-      (omega (arith, room, l))
+      all-below (λ j. limitsLegal (inBook held (assetFor st j)) (limitsFor kind st j)) _ test i (omega (arith, room, l))
 
   all-lawful : (i : ℕ) → i < entriesIn held + howMany st → lawfulIn held (limitsAt (more .entries) i) ≡ true
-  unfolding withEntries entriesLegal
+  unfolding withEntries
   all-lawful =
-      filled-each one-of (entriesIn held) (held .entries) (λ e. lawfulIn held (e .limits) ≡ true)
-      (λ i l. all-below (λ j. lawfulIn held (limitsAt (held .entries) j)) (entriesIn held) (stages-from held (h .rules) .entries) i l)
+      filled-each one-of (entriesIn held) (held .entries) (λ e. lawfulIn held (e .limits) ≡ true) (lawful-at held h)
       (howMany st) (omega (arith, room, h .entrySlots)) new-lawful
 
   all-unused : (i : ℕ) → metersAt (more .entries) i ≡ noMeters
@@ -299,7 +299,7 @@ module _ (kind : ℕ) (st : State) (h : Legal (st .book)) (f : Fresh (st .book))
     time = h .time;
     assetsBlank = h .assetsBlank;
     entriesBlank = λ i l. filled-behind one-of (entriesIn held) (held .entries) (howMany st) i l
-        ∙ h .entriesBlank i (omega (arith, before, l));
+        ∙ h .entriesBlank i (omega (arith, entries-counted held h, l));
     rules = fresh-rules more entries-fresh assets-same entries-lawful;
   }
 
@@ -342,25 +342,12 @@ limits-fit known l e a =
     )
 
 module _ (b : Book) (h : Legal b) where
-  assets-in : assetsIn b ≡ b .assetcount
-  unfolding assetsIn
-  assets-in = omega (arith, h .assetCount)
-
-  entries-counted : entriesIn b ≡ b .entrycount
-  unfolding entriesIn
-  entries-counted = omega (arith, h .entryCount)
-
-  asset-at : (i : ℕ) → i < assetsIn b → assetLegal (b .assets) (assetsIn b) i (assetAt (b .assets) i) ≡ true
-  unfolding assetsLegal
-  asset-at i l =
-      all-below (λ j. assetLegal (b .assets) (assetsIn b) j (assetAt (b .assets) j)) (assetsIn b) (stages-from b (h .rules) .assets) i l
-
   number-small : (i : ℕ) → i < assetsIn b → assetAt (b .assets) i .number < 65536
   number-small i l =
       omega (
         arith,
         between-most 1 65535 (assetAt (b .assets) i .number)
-            (asset-tests (b .assets) (assetsIn b) i (assetAt (b .assets) i) (asset-at i l) .0),
+            (asset-tests (b .assets) (assetsIn b) i (assetAt (b .assets) i) (asset-at b h i l) .0),
       )
 
   -- a number in the book is that of an asset
@@ -375,20 +362,19 @@ module _ (b : Book) (h : Legal b) where
   asset-fits i inherit =
       below-or-not i (assetsIn b)
       (λ l.
-      let t = asset-tests (b .assets) (assetsIn b) i (assetAt (b .assets) i) (asset-at i l) in
+      let t = asset-tests (b .assets) (assetsIn b) i (assetAt (b .assets) i) (asset-at b h i l) in
       omega (arith, inherit, number-small i l, leb-true (assetAt (b .assets) i .key) 1 (t .1 .1 .0)))
-      (λ l. rw (h .assetsBlank i (omega (arith, assets-in, l))) (zeros-fit (assetWidths newest)))
+      (λ l. rw (h .assetsBlank i (omega (arith, assets-counted b h, l))) (zeros-fit (assetWidths newest)))
 
   entry-fits : Fresh b → (i : ℕ) → Fit (entryWidths newest) (entryValues (getD (b .entries) i noEntry))
-  unfolding entriesLegal
   entry-fits f i =
       below-or-not i (entriesIn b)
       (λ l.
-      let t = all-below (λ j. lawfulIn b (limitsAt (b .entries) j)) (entriesIn b) (stages-from b (h .rules) .entries) i l in
+      let t = lawful-at b h i l in
       let known = inBook b (limitsAt (b .entries) i .asset) in
       rw (f .meters i)
       (limits-fit known (limitsAt (b .entries) i) t (in-small _ (limits-tests known (limitsAt (b .entries) i) t .1 .0))))
-      (λ l. rw (h .entriesBlank i (omega (arith, entries-counted, l))) (zeros-fit (entryWidths newest)))
+      (λ l. rw (h .entriesBlank i (omega (arith, entries-counted b h, l))) (zeros-fit (entryWidths newest)))
 
   pub fresh-typed : Fresh b → ((i : ℕ) → assetAt (b .assets) i .inherit < 65536) → Typed b
   fresh-typed f inherits = record {

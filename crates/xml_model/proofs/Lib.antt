@@ -4,6 +4,8 @@ pub mod Runs
 pub mod Units
 pub mod Counts
 pub mod LegalBook
+pub mod LegalCodes
+pub mod LegalState
 pub mod Legal
 pub mod Decides
 pub mod Examples
