@@ -3,6 +3,9 @@ pub mod Repeats
 pub mod Runs
 pub mod Units
 pub mod Counts
+pub mod LegalBook
+pub mod LegalCodes
+pub mod LegalState
 pub mod Legal
 pub mod Decides
 pub mod Examples
