@@ -2,6 +2,7 @@
 pub mod Repeats
 pub mod Runs
 pub mod Units
+pub mod CountsUnits
 pub mod Counts
 pub mod Legal
 pub mod Decides
