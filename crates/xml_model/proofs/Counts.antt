@@ -1,6 +1,6 @@
 -- "The reader reports the number of elements it opened, the same as in the text".
-use Prim.Native.Nat.{ℕ, zero, suc, _+_, _-_, _<_, _≤_}
-use mathlib.Core.Path.{_≡_, refl, sym, ap, ap₂, _∙_}
+use Prim.Native.Nat.{ℕ, zero, suc, _+_, _-_, _≤_}
+use mathlib.Core.Path.{_≡_, refl, ap, _∙_}
 use mathlib.Core.Bool.{Bool, true, false, cond, not, _&&_, _||_}
 use mathlib.Core.List.{List, [], _∷_}
 use native.Mathlib.Omega.{arith}
@@ -14,22 +14,23 @@ use Rattle.xml_model.specs.declared.Tag.{Tag}
 use Rattle.xml_model.specs.declared.State.{State}
 use Rattle.xml_model.specs.declared.Done.{Done}
 use Rattle.xml_model.specs.declared.Progress.{Progress}
-use Rattle.xml_model.specs.declared.Reading.{Reading}
-use Rattle.xml_model.specs.Repeat.{Next, stop, more, repeat}
-use Rattle.xml_model.specs.Bytes.{byteAt, part, spaces, runEnd, bare, stuck, looked}
+use Rattle.xml_model.specs.Bytes.{byteAt, part, spaces, runEnd, bare, stuck}
 use Rattle.xml_model.specs.Tags.{look, unitAt}
-use Rattle.xml_model.specs.Elements.{idBytes, idrefBytes, timerBytes, nameOf, rightsName, rightsRole, assetRole, permissionRole, keyInfoRole}
-use Rattle.xml_model.specs.Elements.{referenceRole, timedCountRole, skippedRole, versionRole, objectUidRole, assetUidRole, inheritUidRole}
-use Rattle.xml_model.specs.Elements.{isKind, kindsFrom, holdsText, closesFrom, rowOf, rowCount, childRole, nextState, holdsAnything}
+use Rattle.xml_model.specs.Elements.{idBytes, idrefBytes, nameOf, rightsName, rightsRole, assetRole, permissionRole, keyInfoRole}
+use Rattle.xml_model.specs.Elements.{referenceRole, timedCountRole, skippedRole, versionRole, objectUidRole, assetUidRole}
+use Rattle.xml_model.specs.Elements.{inheritUidRole, isKind, kindsFrom, holdsText, closesFrom, rowOf, rowCount, childRole}
+use Rattle.xml_model.specs.Elements.{holdsAnything}
 use Rattle.xml_model.specs.Values.{numberIn, valueOf}
-use Rattle.xml_model.specs.State.{blank, withElements, withIds, withAsset, withReferences, withLimits, withBook, ok, no, andThen, counted}
+use Rattle.xml_model.specs.State.{blank, withElements, withIds, withAsset, withReferences, withLimits, withBook}
+use Rattle.xml_model.specs.State.{ok, no, andThen, counted}
 use Rattle.xml_model.specs.State.{sameRange, idsIn, idPosition, isGiven, newId, assetNamed, begun, withIdref, withTimerOf, opening}
 use Rattle.xml_model.specs.State.{stored, textDone, keyDone, assetDone, kindLegal, kindDone, howMany, containerDone, closing}
-use Rattle.xml_model.specs.Text.{Frame, frame, Verdict, leadsTo, entered, opened, ended, child, judge, refusal, Config, ruled, unitStep}
-use Rattle.xml_model.specs.Text.{go, follow, finish, root, progressOf, readingOf}
+use Rattle.xml_model.specs.Text.{Frame, Verdict, leadsTo, entered, opened, ended, child, judge, refusal, Config}
+use Rattle.xml_model.specs.Text.{ruled, unitStep, go, follow, finish, root, progressOf, readingOf}
 use Rattle.model.specs.Book.{assetsIn, entriesIn, assetLegal, mostTimes}
 use Rattle.xml_model.proofs.Runs.{byte-out, stuck-pos}
-use Rattle.xml_model.proofs.CountsUnits.{Leads, leads-cond, repeat-leads, opensAt, opens, none-between, run-opens, CountsOne, unit-counts, first-form}
+use Rattle.xml_model.proofs.CountsUnits.{Leads, leads-cond, repeat-leads, opensAt, opens, none-between, run-opens}
+use Rattle.xml_model.proofs.CountsUnits.{CountsOne, unit-counts, first-form}
 
 -- ## What a step counts
 
@@ -49,14 +50,17 @@ counts-cond : (n : ℕ) (b : Bool) (x y : Done) → Counts n x → Counts n y �
 counts-cond n true x y f g = f
 counts-cond n false x y f g = g
 
-counts-then : (m n : ℕ) (d : Done) (f : State → Done) → Counts m d → ((u : State) → u .elements ≡ m → Counts n (f u)) → Counts n (andThen d f)
+counts-then : (m n : ℕ) (d : Done) (f : State → Done) → Counts m d
+    → ((u : State) → u .elements ≡ m → Counts n (f u)) → Counts n (andThen d f)
 unfolding Counts andThen
-counts-then m n d f g h = on-test (eqb (d .code) 0) (λ q. rw q (h (d .state) (g (eqb-true _ _ q)))) (λ q. rw q (λ e. absurd (eqb-false _ _ q e)))
+counts-then m n d f g h = on-test (eqb (d .code) 0)
+    (λ q. rw q (h (d .state) (g (eqb-true _ _ q)))) (λ q. rw q (λ e. absurd (eqb-false _ _ q e)))
 
 -- one element more
 counted-more : (n : ℕ) (st : State) → st .elements ≡ n → Counts (n + 1) (counted st)
 unfolding counted withElements
-counted-more n st e = counts-cond (n + 1) (ltb (st .elements) 256) _ _ (counts-ok _ _ (ap (λ (m : ℕ). m + 1) e)) (counts-no _ 42 (λ z. omega arith))
+counted-more n st e = counts-cond (n + 1) (ltb (st .elements) 256) _ _
+    (counts-ok _ _ (ap (λ (m : ℕ). m + 1) e)) (counts-no _ 42 (λ z. omega arith))
 
 -- ## Opening and closing count nothing
 
@@ -113,7 +117,8 @@ module _ (n : ℕ) (st : State) (e : st .elements ≡ n) where
 
   container-counts : (role : ℕ) → Counts n (containerDone role st)
   unfolding containerDone
-  container-counts role = counts-cond n (eqb role assetRole) _ _ asset-counts (counts-cond n (isKind role) _ _ (kind-counts (role - kindsFrom)) kept)
+  container-counts role = counts-cond n (eqb role assetRole) _ _ asset-counts
+      (counts-cond n (isKind role) _ _ (kind-counts (role - kindsFrom)) kept)
 
   closing-counts : (s : List ℕ) (a b role state : ℕ) → Counts n (closing s a b role state st)
   unfolding closing keyDone withAsset
@@ -124,15 +129,18 @@ module _ (n : ℕ) (st : State) (e : st .elements ≡ n) where
 
 opening-counts : (n : ℕ) (st : State) → st .elements ≡ n → (s : List ℕ) (t : Tag) (role : ℕ) → Counts n (opening s t role st)
 unfolding opening
-opening-counts n st e s t role = counts-then n n (newId s id (begun role id st)) _ (new-id n (begun role id st) (begun-counts n st e role id) s id)
-    (λ u f. counts-then n n (withIdref s (look s idrefBytes (t .end)) role u) _ (idref-counts n u f s _ role) (λ w g. timer-counts n w g s _ role))
+opening-counts n st e s t role = counts-then n n (newId s id (begun role id st)) _
+    (new-id n (begun role id st) (begun-counts n st e role id) s id)
+    (λ u f. counts-then n n (withIdref s (look s idrefBytes (t .end)) role u) _
+    (idref-counts n u f s _ role) (λ w g. timer-counts n w g s _ role))
   where
     id : Range
     id = look s idBytes (t .end)
 
 -- ## A unit
 
-entered-counts : (n : ℕ) (st : State) → st .elements ≡ n → (s : List ℕ) (t : Tag) (role : ℕ) (k : List Frame) → Counts n (entered s t role k st)
+entered-counts : (n : ℕ) (st : State) → st .elements ≡ n → (s : List ℕ) (t : Tag) (role : ℕ) (k : List Frame)
+    → Counts n (entered s t role k st)
 unfolding entered
 entered-counts n st e s t role k = counts-cond n (leb 12 (length k)) _ _ (refused n)
     (counts-cond n (eqb role skippedRole) _ _ (kept n st e) (opening-counts n st e s t role))
@@ -159,7 +167,8 @@ unfolding opened
 opened-counts s t role k st = comes-cond (n + 1) (eqb (t .form) 0) _ _
     (comes-to (n + 1) _ _ (counts-then n (n + 1) d counted (entered-counts n st refl s t role k) (counted-more n)))
     (comes-to (n + 1) _ _ (counts-then n (n + 1) (andThen d (λ u. closing s (t .next) (t .next) role 0 u)) counted
-    (counts-then n n d (λ u. closing s (t .next) (t .next) role 0 u) (entered-counts n st refl s t role k) (λ u f. closing-counts n u f s (t .next) (t .next) role 0)) (counted-more n)))
+    (counts-then n n d (λ u. closing s (t .next) (t .next) role 0 u) (entered-counts n st refl s t role k)
+    (λ u f. closing-counts n u f s (t .next) (t .next) role 0)) (counted-more n)))
   where
     n : ℕ
     n = st .elements
@@ -167,13 +176,15 @@ opened-counts s t role k st = comes-cond (n + 1) (eqb (t .form) 0) _ _
     d : Done
     d = entered s t role k st
 
-judge-counts : (s : List ℕ) (t : Tag) (e : Frame) (k : List Frame) (st : State) → Comes (st .elements + cond (eqb (t .form) 2) 0 1) (judge s t e k st)
+judge-counts : (s : List ℕ) (t : Tag) (e : Frame) (k : List Frame) (st : State)
+    → Comes (st .elements + cond (eqb (t .form) 2) 0 1) (judge s t e k st)
 unfolding judge child
 judge-counts s t e k st = on-test (not (eqb (t .code) 0))
     (λ q. rw q (comes-to _ [] _ (counts-no _ (t .code) (eqb-false _ _ (not-true _ q)))))
     (λ q. rw q (on-test (eqb (t .form) 2) (λ f. rw f (comes-to _ k _ (ended-counts _ st (omega arith) s t e)))
     (λ f. rw f (comes-cond _ (holdsAnything (e .role)) _ _ (opened-counts s t skippedRole (e ∷ k) st)
-    (comes-cond _ (leb rowCount r || not (bare s (t .from) (t .at))) _ _ (comes-to _ [] _ (refused _)) (opened-counts s t (childRole r) _ st))))))
+    (comes-cond _ (leb rowCount r || not (bare s (t .from) (t .at))) _ _ (comes-to _ [] _ (refused _))
+    (opened-counts s t (childRole r) _ st))))))
   where
     r : ℕ
     r = rowOf (e .role) (e .state) (nameOf (part s (t .name) (t .end)))
@@ -199,7 +210,8 @@ module _ (s : List ℕ) where
   unit-adds : (p : ℕ) (k : List Frame) (st : State) → Leads From (record { at = p; stack = k; state = st }) (unitStep s p k st)
   unfolding unitStep ruled From Adds Comes CountsOne
   unit-adds p [] st = λ _. refl
-  unit-adds p (e ∷ k) st = leads-cond From _ (eqb (judge s t e k st .code) 0) _ _ (λ q. onwards (eqb-true _ _ q)) (λ q. refusal-adds p _ _ _ (eqb-false _ _ q))
+  unit-adds p (e ∷ k) st = leads-cond From _ (eqb (judge s t e k st .code) 0) _ _
+      (λ q. onwards (eqb-true _ _ q)) (λ q. refusal-adds p _ _ _ (eqb-false _ _ q))
     where
       t : Tag
       t = unitAt s p
@@ -210,7 +222,8 @@ module _ (s : List ℕ) where
   go-adds : (p : ℕ) (k : List Frame) (st : State) → Adds p (st .elements) (go s p k st)
   unfolding go From
   go-adds p k st = repeat-leads (λ c. length s - c .at) (λ c. unitStep s (c .at) (c .stack) (c .state)) (refusal 40 (length s + 1)) From
-      (λ c. refusal-adds _ _ 40 _ (λ z. omega arith)) (λ c. unit-adds (c .at) (c .stack) (c .state)) (record { at = p; stack = k; state = st })
+      (λ c. refusal-adds _ _ 40 _ (λ z. omega arith)) (λ c. unit-adds (c .at) (c .stack) (c .state))
+      (record { at = p; stack = k; state = st })
 
   follow-adds : (p n : ℕ) (v : Verdict) → Comes n v → Adds p n (follow s p v)
   unfolding follow Comes
@@ -244,7 +257,8 @@ module _ (s : List ℕ) where
   root-whole i lt sl = on-test (not (eqb (t .code) 0))
       (λ q. rw q (refusal-whole i _ _ (eqb-false _ _ (not-true _ q))))
       (λ q. rw q (on-test (eqb (nameOf (part s (t .name) (t .end))) rightsName)
-      (λ r. rw r (finish-whole i _ (λ z. omega (arith, follow-adds (t .next) 1 _ (opened-counts s t rightsRole [] blank) z, first (eqb-true _ _ (not-false _ q))))))
+      (λ r. rw r (finish-whole i _ (λ z.
+      omega (arith, follow-adds (t .next) 1 _ (opened-counts s t rightsRole [] blank) z, first (eqb-true _ _ (not-false _ q))))))
       (λ r. rw r (refusal-whole i 41 _ (λ z. omega arith)))))
     where
       t : Tag
@@ -263,7 +277,8 @@ module _ (s : List ℕ) where
       i = runEnd spaces s 0
 
 -- a `<` has a `/` behind it or none
-sorted : (s : List ℕ) (n : ℕ) → sum (λ i. one (eqb (byteAt s i) 60)) n ≡ opens s n + sum (λ i. one (eqb (byteAt s i) 60 && eqb (byteAt s (i + 1)) 47)) n
+sorted : (s : List ℕ) (n : ℕ) → sum (λ i. one (eqb (byteAt s i) 60)) n
+    ≡ opens s n + sum (λ i. one (eqb (byteAt s i) 60 && eqb (byteAt s (i + 1)) 47)) n
 unfolding opens opensAt sum
 sorted s zero = refl
 sorted s (suc n) = omega (arith, sorted s n, by (eqb (byteAt s n) 60) (eqb (byteAt s (n + 1)) 47))

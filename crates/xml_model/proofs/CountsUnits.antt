@@ -5,7 +5,7 @@ use mathlib.Core.Bool.{Bool, true, false, cond, not, _&&_, _||_, false≢true}
 use mathlib.Core.List.{List}
 use native.Mathlib.Omega.{arith}
 use lib.ListN.{length}
-use lib.Dec.{eqb, ltb, leb}
+use lib.Dec.{eqb, leb}
 use borrow.Author.Tests.{eqb-true, eqb-false, eq-eqb, ne-eqb, leb-true, leb-false}
 use Rattle.numbers.specs.Count.{sum, one}
 use Rattle.numbers.proofs.Tests.{on-test, and-left, clash}
@@ -27,13 +27,14 @@ abbrev pub Leads : {A R : Type 0} → (A → R → Type 0) → A → Next A R �
 Leads P a (stop r) = P a r
 Leads {R = R} P a (more b) = (r : R) → P b r → P a r
 
-pub leads-cond : {A R : Type 0} (P : A → R → Type 0) (a : A) (b : Bool) (x y : Next A R) → (b ≡ true → Leads P a x) → (b ≡ false → Leads P a y)
+pub leads-cond : {A R : Type 0} (P : A → R → Type 0) (a : A) (b : Bool) (x y : Next A R)
+    → (b ≡ true → Leads P a x) → (b ≡ false → Leads P a y)
     → Leads P a (cond b x y)
 leads-cond P a true x y f g = f refl
 leads-cond P a false x y f g = g refl
 
-pub repeat-leads : {A R : Type 0} (size : A → ℕ) (f : A → Next A R) (none : R) (P : A → R → Type 0) → ((a : A) → P a none) → ((a : A) → Leads P a (f a))
-    → (a : A) → P a (repeat size f none a)
+pub repeat-leads : {A R : Type 0} (size : A → ℕ) (f : A → Next A R) (none : R) (P : A → R → Type 0)
+    → ((a : A) → P a none) → ((a : A) → Leads P a (f a)) → (a : A) → P a (repeat size f none a)
 repeat-leads size f none P z h = repeat-ind size f none P z (λ a r e. rw e at (h a)) (λ a b r e. (rw e at (h a)) r)
 
 -- ## Where elements are opened
@@ -124,7 +125,8 @@ module _ (s : List ℕ) where
 
   empty-plain : (i g : ℕ) → opens s g ≡ opens s i → byteAt s g ≡ 47 → PlainTail i (emptyTail s g)
   unfolding emptyTail PlainTail tailed
-  empty-plain i g o b = on-test (eqb (byteAt s (g + 1)) 62) (λ q. rw q (good (eqb-true _ _ q))) (λ q. rw q (stuck-plain i _ 0 _ (stuck-pos s (g + 1))))
+  empty-plain i g o b = on-test (eqb (byteAt s (g + 1)) 62)
+      (λ q. rw q (good (eqb-true _ _ q))) (λ q. rw q (stuck-plain i _ 0 _ (stuck-pos s (g + 1))))
     where
       good : byteAt s (g + 1) ≡ 62 → PlainTail i (tailed 0 1 (g + 2))
       good e _ =
@@ -217,8 +219,10 @@ module _ (s : List ℕ) where
   first-form i lt sl =
       rw (empty-run, sl)
       (on-test (eqb (byteAt s i) 60 && not (isMark s i))
-      (λ q. rw q (on-test (isNameStart (byteAt s (i + 1))) (λ n. rw n (λ z. tail-plain (runEnd names s (i + 1)) z .form)) (λ n. rw n (λ z. absurd (stuck-pos s (i + 1) z)))))
+      (λ q. rw q (on-test (isNameStart (byteAt s (i + 1))) (λ n. rw n (λ z. tail-plain (runEnd names s (i + 1)) z .form))
+      (λ n. rw n (λ z. absurd (stuck-pos s (i + 1) z)))))
       (λ q. rw q (λ z. absurd (stuck-pos s i z))))
     where
       empty-run : runEnd texts s i ≡ i
-      empty-run = let h = inside s i 60 (omega arith) lt in run-off texts s i h (ap (inClass texts) (sym (byte-in s i h) ∙ lt) ∙ class-lt texts)
+      empty-run = let h = inside s i 60 (omega arith) lt in
+          run-off texts s i h (ap (inClass texts) (sym (byte-in s i h) ∙ lt) ∙ class-lt texts)
