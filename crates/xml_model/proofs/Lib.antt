@@ -5,5 +5,6 @@ pub mod Units
 pub mod CountsUnits
 pub mod Counts
 pub mod Legal
+pub mod DecidesScan
 pub mod Decides
 pub mod Examples
