@@ -3,6 +3,7 @@ pub mod Repeats
 pub mod Runs
 pub mod Units
 pub mod CountsUnits
+pub mod CountsKept
 pub mod Counts
 pub mod Legal
 pub mod DecidesScan
