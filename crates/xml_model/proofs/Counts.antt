@@ -20,7 +20,7 @@ use Rattle.xml_model.specs.State.{no, counted}
 use Rattle.xml_model.specs.Text.{Frame, Verdict, leadsTo, opened, ended, judge, refusal, Config}
 use Rattle.xml_model.specs.Text.{ruled, unitStep, go, follow, finish, root, progressOf, readingOf}
 use Rattle.xml_model.proofs.Runs.{byte-out, stuck-pos}
-use Rattle.xml_model.proofs.CountsKept.{Keeps, keeps-ok, keeps-no, keeps-cond, ended-keeps, opened-keeps, judge-cases}
+use Rattle.xml_model.proofs.CountsKept.{Keeps, keeps-ok, keeps-no, keeps-cond, ended-keeps, opened-keeps, judge-cases, judge-scanned}
 use Rattle.xml_model.proofs.CountsUnits.{Leads, leads-cond, repeat-leads, opensAt, opens, none-between, run-opens}
 use Rattle.xml_model.proofs.CountsUnits.{CountsOne, unit-counts, first-form}
 
@@ -46,16 +46,12 @@ ended-counts : (s : List ℕ) (t : Tag) (f : Frame) (st : State) → ended s t f
 unfolding Elements withIds Keeps
 ended-counts s t f st = ended-keeps (Elements (st .elements)) (λ a b e _ q. sym e ∙ q) (λ u q. q) st refl s t f
 
--- what a unit that is no fault has counted
-pub record Judged (t : Tag) (st : State) (v : Verdict) : Type 0 where
-  pub scanned : t .code ≡ 0
-  pub count : v .state .elements ≡ st .elements + cond (eqb (t .form) 2) 0 1
-
-judge-counts : (s : List ℕ) (t : Tag) (e : Frame) (k : List Frame) (st : State) → judge s t e k st .code ≡ 0 → Judged t st (judge s t e k st)
+judge-counts : (s : List ℕ) (t : Tag) (e : Frame) (k : List Frame) (st : State) → judge s t e k st .code ≡ 0
+    → judge s t e k st .state .elements ≡ st .elements + cond (eqb (t .form) 2) 0 1
 unfolding leadsTo no
-judge-counts s t e k st = judge-cases s t e k st (λ v. v .code ≡ 0 → Judged t st v) (λ c f z. absurd (f z))
-    (λ z f c. record { scanned = z; count = rw f (omega (arith, ended-counts s t e st c)) })
-    (λ z f role x c. record { scanned = z; count = rw f (opened-counts s t role _ st c) })
+judge-counts s t e k st =
+    judge-cases s t e k st (λ v. v .code ≡ 0 → v .state .elements ≡ st .elements + cond (eqb (t .form) 2) 0 1) (λ c f z. absurd (f z))
+    (λ _ f c. rw f (omega (arith, ended-counts s t e st c))) (λ _ f role x c. rw f (opened-counts s t role _ st c))
 
 -- ## The text
 
@@ -81,7 +77,7 @@ module _ (s : List ℕ) where
       t = unitAt s p
 
       onwards : judge s t e k st .code ≡ 0 → (r : Progress) → Adds (t .next) (judge s t e k st .state .elements) r → Adds p (st .elements) r
-      onwards z r f c = let w = judge-counts s t e k st z in omega (arith, f c, w .count, unit-counts s p (w .scanned))
+      onwards z r f c = omega (arith, f c, judge-counts s t e k st z, unit-counts s p (judge-scanned s t e k st z))
 
   go-adds : (p : ℕ) (k : List Frame) (st : State) → Adds p (st .elements) (go s p k st)
   unfolding go From

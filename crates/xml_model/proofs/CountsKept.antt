@@ -75,7 +75,7 @@ module _ (Q : State → Type 0) (like : (a b : State) → a .elements ≡ b .ele
   changed a b e i q = keeps-ok Q b (like a b e i q)
 
   module _ (st : State) (q : Q st) where
-    begun-keeps : (role : ℕ) (r : Range) → Q (begun role r st)
+    pub begun-keeps : (role : ℕ) (r : Range) → Q (begun role r st)
     unfolding begun withAsset withReferences withLimits
     begun-keeps role r = either Q (eqb role assetRole) _ _ (like st _ refl refl q)
         (either Q (eqb role permissionRole) _ _ (like st _ refl refl q) (either Q (isKind role) _ _ (like st _ refl refl q) q))
@@ -190,3 +190,9 @@ judge-cases s t e k st P fault ends opens = on-test (not (eqb (t .code) 0)) (λ 
   where
     r : ℕ
     r = rowOf (e .role) (e .state) (nameOf (part s (t .name) (t .end)))
+
+-- a tag at which the scan is stuck is a fault
+pub judge-scanned : (s : List ℕ) (t : Tag) (e : Frame) (k : List Frame) (st : State) → judge s t e k st .code ≡ 0 → t .code ≡ 0
+unfolding leadsTo no
+judge-scanned s t e k st =
+    judge-cases s t e k st (λ v. v .code ≡ 0 → t .code ≡ 0) (λ c f z. absurd (f z)) (λ o _ _. o) (λ o _ _ _ _. o)

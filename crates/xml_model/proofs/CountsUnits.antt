@@ -51,6 +51,12 @@ class-lt k = by (eqb k spaces) (eqb k names) (eqb k texts) (eqb k digits)
     by false false false true = refl
     by false false false false = refl
 
+-- no text stands at a `<`
+pub text-empty : (s : List ℕ) (i : ℕ) → byteAt s i ≡ 60 → runEnd texts s i ≡ i
+text-empty s i e =
+    let h = inside s i 60 (omega arith) e in
+    run-off texts s i h (ap (inClass texts) (sym (byte-in s i h) ∙ e) ∙ class-lt texts)
+
 -- an element is opened at i
 unfoldable pub opensAt : List ℕ → ℕ → Bool
 opensAt s i = eqb (byteAt s i) 60 && not (eqb (byteAt s (i + 1)) 47)
@@ -217,12 +223,8 @@ module _ (s : List ℕ) where
   pub first-form : (i : ℕ) → byteAt s i ≡ 60 → eqb (byteAt s (i + 1)) 47 ≡ false → unitAt s i .code ≡ 0 → unitAt s i .form ≡ 2 → ⊥
   unfolding unitAt tagAt stuckTag startTag PlainTail
   first-form i lt sl =
-      rw (empty-run, sl)
+      rw (text-empty s i lt, sl)
       (on-test (eqb (byteAt s i) 60 && not (isMark s i))
       (λ q. rw q (on-test (isNameStart (byteAt s (i + 1))) (λ n. rw n (λ z. tail-plain (runEnd names s (i + 1)) z .form))
       (λ n. rw n (λ z. absurd (stuck-pos s (i + 1) z)))))
       (λ q. rw q (λ z. absurd (stuck-pos s i z))))
-    where
-      empty-run : runEnd texts s i ≡ i
-      empty-run = let h = inside s i 60 (omega arith) lt in
-          run-off texts s i h (ap (inClass texts) (sym (byte-in s i h) ∙ lt) ∙ class-lt texts)

@@ -22,6 +22,7 @@ use Rattle.xml_model.specs.Tags.{attributeStep, tailStep, tailOf, look, 
 use Rattle.xml_model.proofs.Repeats.{repeat-stop, repeat-more}
 use Rattle.xml_model.proofs.Runs.{byte-in, byte-out, byte-inside, inside, name-inside, quote-small, run-on, run-out, run-from}
 use Rattle.xml_model.proofs.Runs.{run-within, in-run, run-ends, stuck-pos, looked-on}
+use Rattle.xml_model.proofs.CountsUnits.{text-empty}
 use Rattle.xml_model.proofs.Units.{nextAttribute, nextName, attribute-written, attribute-held, given-out, given-here, given-on}
 use Rattle.xml_model.proofs.Units.{look-stuck, look-here, look-on, tail-more, tail-falls, tail-ind}
 
@@ -113,7 +114,7 @@ unfolding looked
 looked-mark s i e = rw (lt-ltb i (length s) (inside s i 60 (omega arith) e), eq-eqb (byteAt s i) 60 e)
 
 module _ {s z : List ℕ} (i : ℕ) (h : i ≤ length s) (g : Agree s z (looked s i)) where
-  looked-agree : looked z i ≡ looked s i
+  pub looked-agree : looked z i ≡ looked s i
   unfolding looked
   looked-agree =
       let l = looked-on s i h in
@@ -129,7 +130,7 @@ module _ {s z : List ℕ} (i : ℕ) (h : i ≤ length s) (g : Agree s z (looked 
       (λ q. rw (← g .bytes i l, ← g .bytes (i + 1) (omega (arith, looked-mark s i (eqb-true _ _ q)))))
       (λ q. rw (← g .bytes i l, q))
 
-  stuck-agree : stuck z i ≡ stuck s i
+  pub stuck-agree : stuck z i ≡ stuck s i
   unfolding stuck
   stuck-agree = rw mark-agree
 
@@ -535,3 +536,10 @@ module _ {s z : List ℕ} where
 
       tagged : List ℕ → ℕ → Tag
       tagged t j = cond (eqb (byteAt t j) 60 && not (isMark t j)) (tagAt t i j) (stuckTag t j)
+
+  -- at a `<`, the byte behind it is looked at
+  pub first-told : (i : ℕ) → byteAt s i ≡ 60 → Told s z tagReach (i + 1 + 1) (unitAt s i) (unitAt z i)
+  unfolding unitAt
+  first-told i e =
+      let h = inside s i 60 (omega arith) e in
+      record { on = rw (text-empty s i e, eq-eqb (byteAt s i) 60 e) (mark-told i i e .on); same = unit-told i (omega arith) .same }

@@ -7,5 +7,6 @@ pub mod CountsKept
 pub mod Counts
 pub mod Legal
 pub mod DecidesScan
+pub mod DecidesState
 pub mod Decides
 pub mod Examples
