@@ -24,7 +24,8 @@ use Rattle.xml_model.proofs.Runs.{byte-in, byte-out, byte-inside, run-f
 use Rattle.xml_model.proofs.Units.{Lies, unit-lies}
 use Rattle.xml_model.proofs.CountsUnits.{Leads, leads-cond, repeat-leads, first-form}
 use Rattle.xml_model.proofs.CountsKept.{judge-scanned}
-use Rattle.xml_model.proofs.DecidesScan.{Agree, agree-less, run-agree, part-agree, looked-agree, stuck-agree, Told, told-leaf, told-less}
+use Rattle.xml_model.specs.Import.{Agree}
+use Rattle.xml_model.proofs.DecidesScan.{agree-less, run-agree, part-agree, looked-agree, stuck-agree, Told, told-leaf, told-less}
 use Rattle.xml_model.proofs.DecidesScan.{told-as, told-branch, told-cond, told-run, told-map, nextReach, told-stop, told-repeat, tagReach, unit-told}
 use Rattle.xml_model.proofs.DecidesScan.{first-told}
 use Rattle.xml_model.proofs.DecidesState.{IdsTo, NamesTo, ids-blank, Before, unit-opened, judge-agree, Leaves, opened-leaves, judge-leaves}

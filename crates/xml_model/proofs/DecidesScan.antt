@@ -17,6 +17,7 @@ use Rattle.xml_model.specs.declared.Range.{Range}
 use Rattle.xml_model.specs.Repeat.{Next, stop, more, repeat}
 use Rattle.xml_model.specs.Bytes.{byteAt, part, same, isNameStart, spaces, names, texts, digits, inClass, runEnd, bare}
 use Rattle.xml_model.specs.Bytes.{isMark, stuck, looked}
+use Rattle.xml_model.specs.Import.{Agree}
 use Rattle.xml_model.specs.Tags.{stuckAttribute, valueAt, equalsAt, attributeAt, given, tailed, stuckTail, emptyTail}
 use Rattle.xml_model.specs.Tags.{attributeStep, tailStep, tailOf, look, stuckTag, endTag, startTag, tagAt, unitAt}
 use Rattle.xml_model.proofs.Repeats.{repeat-stop, repeat-more}
@@ -25,11 +26,6 @@ use Rattle.xml_model.proofs.Runs.{run-within, in-run, run-ends, stuck-p
 use Rattle.xml_model.proofs.CountsUnits.{text-empty}
 use Rattle.xml_model.proofs.Units.{nextAttribute, nextName, attribute-written, attribute-held, given-out, given-here, given-on}
 use Rattle.xml_model.proofs.Units.{look-stuck, look-here, look-on, tail-more, tail-falls, tail-ind}
-
--- the first n places of two texts hold the same: one byte, or the end of both
-pub record Agree (s z : List ℕ) (n : ℕ) : Type 0 where
-  pub bytes : (i : ℕ) → i < n → byteAt s i ≡ byteAt z i
-  pub ends : (i : ℕ) → i < n → ltb i (length s) ≡ ltb i (length z)
 
 pub agree-less : {s z : List ℕ} {n : ℕ} (m : ℕ) → m ≤ n → Agree s z n → Agree s z m
 agree-less m h g = record { bytes = λ i l. g .bytes i (omega arith); ends = λ i l. g .ends i (omega arith) }

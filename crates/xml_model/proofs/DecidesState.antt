@@ -28,7 +28,8 @@ use Rattle.xml_model.specs.State.{isGiven, idOf, newId, assetNamed, name
 use Rattle.xml_model.specs.Text.{Frame, frame, Verdict, leadsTo, entered, opened, ended, child, judge}
 use Rattle.xml_model.proofs.Units.{look-lies, unit-cases, Lies, unit-lies}
 use Rattle.xml_model.proofs.CountsKept.{Keeps, withId, keeps-ok, keeps-no, keeps-cond, new-keeps, begun-keeps, ended-keeps, opened-keeps, judge-cases}
-use Rattle.xml_model.proofs.DecidesScan.{Agree, agree-less, bare-agree, part-agree, Found, look-found}
+use Rattle.xml_model.specs.Import.{Agree}
+use Rattle.xml_model.proofs.DecidesScan.{agree-less, bare-agree, part-agree, Found, look-found}
 
 -- ## Ids and names that end at n or before
 
@@ -191,17 +192,21 @@ module _ {s z : List ℕ} (p : ℕ) (e : Frame) (k : List Frame) (st : State) (b
   ended-agree o =
       let t = unitAt s p in
       let l = unit-lies s p o in
-      rw (range-agree g (t .name) (t .end) (e .name) (e .end) (omega (arith, l .ended)) (omega (arith, b .names .0, l .text, l .before, l .named, l .ended)),
-      closing-agree g (t .from) (t .at) (e .role) (e .state) st (omega (arith, l .before, l .named, l .ended)) (omega (arith, l .before, l .named, l .ended, l .next)))
+      rw (
+        range-agree g (t .name) (t .end) (e .name) (e .end) (omega (arith, l .ended)) (omega (arith, b .names .0, l .text, l .before, l .named, l .ended)),
+        closing-agree g (t .from) (t .at) (e .role) (e .state) st (omega (arith, l .before, l .named, l .ended)) (omega (arith, l .before, l .named, l .ended, l .next)),
+      )
 
   child-agree : (o : unitAt s p .code ≡ 0) → eqb (unitAt s p .form) 2 ≡ false → (m : ℕ) → child z (unitAt s p) e k st m ≡ child s (unitAt s p) e k st m
   unfolding child
   child-agree o q m =
       let t = unitAt s p in
       let l = unit-lies s p o in
-      rw (bare-agree (t .from) (t .at) (agree-less (t .at) (omega (arith, l .before, l .named, l .ended)) g),
+      rw (
+        bare-agree (t .from) (t .at) (agree-less (t .at) (omega (arith, l .before, l .named, l .ended)) g),
         unit-opened p o q g (childRole m) (frame (e .name) (e .end) (e .role) (nextState m) ∷ k) st
-        (ids-less p (t .next) st (omega (arith, l .text, l .before, l .named, l .ended)) (b .ids)))
+            (ids-less p (t .next) st (omega (arith, l .text, l .before, l .named, l .ended)) (b .ids)),
+      )
 
   pub judge-agree : judge z (unitAt s p) e k st ≡ judge s (unitAt s p) e k st
   unfolding judge
@@ -210,8 +215,12 @@ module _ {s z : List ℕ} (p : ℕ) (e : Frame) (k : List Frame) (st : State) (b
       let l = unit-lies s p o in
       rw c
       (on-test (eqb (unitAt s p .form) 2) (λ q. rw (q, ended-agree o))
-      (λ q. rw (q, part-agree (unitAt s p .name) (unitAt s p .end) (omega (arith, l .ended)) (omega (arith, l .ended, l .next)) g, child-agree o q,
-        unit-opened p o q g skippedRole (e ∷ k) st (ids-less p (unitAt s p .next) st (omega (arith, l .text, l .before, l .named, l .ended)) (b .ids))))))
+      (λ q. rw (
+        q,
+        part-agree (unitAt s p .name) (unitAt s p .end) (omega (arith, l .ended)) (omega (arith, l .ended, l .next)) g,
+        child-agree o q,
+        unit-opened p o q g skippedRole (e ∷ k) st (ids-less p (unitAt s p .next) st (omega (arith, l .text, l .before, l .named, l .ended)) (b .ids)),
+      ))))
 
 -- ## What a unit leads to lies before its end
 

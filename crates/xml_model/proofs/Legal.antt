@@ -26,7 +26,8 @@ use Rattle.xml_model.specs.Text.{Frame, Verdict, leadsTo, entered, opene
 use Rattle.xml_model.specs.Text.{unitStep, go, follow, finish, root, progressOf, readingOf}
 use Rattle.xml_model.proofs.Repeats.{repeat-ind}
 use Rattle.xml_model.proofs.LegalBook.{fresh-typed}
-use Rattle.xml_model.proofs.LegalCodes.{Code, not-formed, not-accepted, on-cond, stuck-code, unit-code}
+use Rattle.xml_model.specs.Import.{Code, not-formed, not-accepted}
+use Rattle.xml_model.proofs.LegalCodes.{on-cond, stuck-code, unit-code}
 use Rattle.xml_model.proofs.LegalState.{Good, Sound, SoundDone, blank-good, sound-ok, sound-no, no-sound, then-sound}
 use Rattle.xml_model.proofs.LegalState.{counted-sound, opening-sound, closing-sound, ok-sound}
 

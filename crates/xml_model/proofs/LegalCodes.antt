@@ -12,14 +12,8 @@ use Rattle.xml_model.specs.Repeat.{Next, stop, more}
 use Rattle.xml_model.specs.Bytes.{byteAt, part, isNameStart, spaces, names, texts, runEnd, isMark, stuck, looked}
 use Rattle.xml_model.specs.Tags.{stuckAttribute, valueAt, equalsAt, attributeAt, given, tailed, stuckTail, emptyTail}
 use Rattle.xml_model.specs.Tags.{attributeStep, tailStep, tailOf, stuckTag, endTag, startTag, tagAt, unitAt}
+use Rattle.xml_model.specs.Import.{Code, accepted, not-formed, not-accepted, too-much}
 use Rattle.xml_model.proofs.Repeats.{repeat-ind}
-
--- "40 not well formed", 41 not accepted, 42 too much
-pub data Code (c : ℕ) : Type 0 where
-  accepted : c ≡ 0 → Code c
-  not-formed : c ≡ 40 → Code c
-  not-accepted : c ≡ 41 → Code c
-  too-much : c ≡ 42 → Code c
 
 -- what holds of both values of a choice
 pub on-cond : {A : Type 0} (P : A → Type 0) (b : Bool) (x y : A) → (b ≡ true → P x) → (b ≡ false → P y) → P (cond b x y)

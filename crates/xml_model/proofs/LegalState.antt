@@ -32,7 +32,8 @@ use Rattle.xml_model.specs.State.{counted, idsIn, idPosition, isGiven, n
 use Rattle.xml_model.specs.State.{stored, textDone, keyDone, withOneAsset, assetDone, howMany, kindLegal}
 use Rattle.xml_model.specs.State.{withEntries, kindDone, containerDone, closing}
 use Rattle.xml_model.proofs.LegalBook.{asset-fresh, asset-legal, entries-fresh, entries-legal}
-use Rattle.xml_model.proofs.LegalCodes.{Code, accepted, not-accepted, too-much, on-cond}
+use Rattle.xml_model.specs.Import.{Code, accepted, not-accepted, too-much}
+use Rattle.xml_model.proofs.LegalCodes.{on-cond}
 
 -- ## What is kept
 

@@ -12,4 +12,5 @@ pub mod Legal
 pub mod DecidesScan
 pub mod DecidesState
 pub mod Decides
+pub mod Import
 pub mod Examples
