@@ -1,5 +1,6 @@
 -- What is read from a text is a fresh and legal book whose numbers fit their types: it can be written as an image, read back, and
--- run. A refusal leaves nothing. All of it is claimed of every list of numbers as a text.
+-- run. A refusal leaves nothing. All of it is claimed of every list of numbers as a text; `one` of `Examples` runs one that is
+-- accepted, with an asset and an entry.
 use Prim.Native.Nat.{ℕ, _+_, _-_, _≤_}
 use mathlib.Core.Path.{_≡_, refl, ap, subst}
 use mathlib.Core.Bool.{not, _||_}

@@ -30,6 +30,10 @@ use Rattle.model.proofs.Legal.Rules.{lawfulIn, playerPasses, Counted, MeterOk, 
 use Rattle.xml_model.specs.declared.State.{State}
 use Rattle.xml_model.specs.State.{withOneAsset, howMany, assetFor, limitsFor, forAsset, kindLegal, filled, withEntries}
 
+-- a number of an asset that fits its type. The rules bound the number of each asset, but not the number that it inherits from.
+abbrev pub Small : ℕ → Type 0
+Small x = x < 65536
+
 -- ## Searches for a number
 
 first-same : (f g : ℕ → Bool) (n : ℕ) → ((i : ℕ) → i < n → f i ≡ g i) → first f n ≡ first g n
@@ -81,7 +85,7 @@ blank-passes : (b : Book) → playerPasses b noPlayer ≡ true
 unfolding playerLegal playerBlank
 blank-passes b = refl
 
-pub fresh-rules : (b : Book) → Fresh b → assetsLegal b ≡ true → entriesLegal b ≡ true → ruleBroken b ≡ 0
+fresh-rules : (b : Book) → Fresh b → assetsLegal b ≡ true → entriesLegal b ≡ true → ruleBroken b ≡ 0
 fresh-rules b h a e =
     stages-to b (record {
       assets = a;
@@ -213,6 +217,10 @@ module _ (b : Book) (a : Asset) (h : Legal b) (room : assetsIn b < 64)
     rules = fresh-rules new (asset-fresh f) assets-new entries-new;
   }
 
+  pub asset-inherits : ((i : ℕ) → Small (assetAt (b .assets) i .inherit)) → Small (a .inherit)
+      → (i : ℕ) → Small (assetAt (new .assets) i .inherit)
+  asset-inherits old own i = on-same i n (λ e. rw (e, new-asset) own) (λ d. rw (old-asset i d) (old i))
+
 -- ## Entries from position n on
 
 module _ (f : ℕ → Entry) (n : ℕ) (es : List Entry) where
@@ -321,7 +329,7 @@ ranges-tests : (l : Limits) → rangesLegal l ≡ true → (limit (flagged count
 unfolding rangesLegal
 ranges-tests l e = row-passed _ (_ ∷ _ ∷ _ ∷ _ ∷ _ ∷ _ ∷ []) e
 
-limits-fit : (known : Bool) (l : Limits) → limitsLegal known l ≡ true → l .asset < 65536
+limits-fit : (known : Bool) (l : Limits) → limitsLegal known l ≡ true → Small (l .asset)
     → Fit (entryWidths newest) (entryValues (record { limits = l; meters = noMeters }))
 limits-fit known l e a =
     let t = limits-tests known l e in
@@ -342,7 +350,7 @@ limits-fit known l e a =
     )
 
 module _ (b : Book) (h : Legal b) where
-  number-small : (i : ℕ) → i < assetsIn b → assetAt (b .assets) i .number < 65536
+  number-small : (i : ℕ) → i < assetsIn b → Small (assetAt (b .assets) i .number)
   number-small i l =
       omega (
         arith,
@@ -351,14 +359,14 @@ module _ (b : Book) (h : Legal b) where
       )
 
   -- a number in the book is that of an asset
-  in-small : (x : ℕ) → inBook b x ≡ true → x < 65536
+  in-small : (x : ℕ) → inBook b x ≡ true → Small x
   unfolding inBook assetPosition
   in-small x e =
       let at : ℕ → Bool = λ i. eqb (assetAt (b .assets) i .number) x in
       let l = ltb-true (first at (assetsIn b)) (assetsIn b) e in
       omega (arith, number-small (first at (assetsIn b)) l, eqb-true _ x (first-holds at (assetsIn b) l))
 
-  asset-fits : (i : ℕ) → assetAt (b .assets) i .inherit < 65536 → Fit (assetWidths newest) (assetValues (assetAt (b .assets) i))
+  asset-fits : (i : ℕ) → Small (assetAt (b .assets) i .inherit) → Fit (assetWidths newest) (assetValues (assetAt (b .assets) i))
   asset-fits i inherit =
       below-or-not i (assetsIn b)
       (λ l.
@@ -376,7 +384,7 @@ module _ (b : Book) (h : Legal b) where
       (limits-fit known (limitsAt (b .entries) i) t (in-small _ (limits-tests known (limitsAt (b .entries) i) t .1 .0))))
       (λ l. rw (h .entriesBlank i (omega (arith, entries-counted b h, l))) (zeros-fit (entryWidths newest)))
 
-  pub fresh-typed : Fresh b → ((i : ℕ) → assetAt (b .assets) i .inherit < 65536) → Typed b
+  pub fresh-typed : Fresh b → ((i : ℕ) → Small (assetAt (b .assets) i .inherit)) → Typed b
   fresh-typed f inherits = record {
     header = tt;
     assets = λ i. asset-fits i (inherits i);

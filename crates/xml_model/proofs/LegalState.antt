@@ -5,12 +5,11 @@ use mathlib.Core.Bool.{not, _&&_, _||_}
 use mathlib.Core.List.{List, [], _∷_}
 use native.Mathlib.Omega.{arith}
 use native.Mathlib.Nat.{lt-of-le-of-lt}
-use lib.ListN.{length, drop, take}
-use lib.Seq.{getD-set-same, getD-set-other, set-out}
+use lib.ListN.{drop, take}
 use lib.Dec.{eqb, leb, ltb}
 use borrow.Author.Tests.{eqb-true, ltb-true, ltb-false, leb-true, leb-false, not-false}
-use Rattle.numbers.proofs.TableLaws.{blanks, below-or-not}
-use Rattle.numbers.proofs.Tests.{on-same, and-right}
+use Rattle.numbers.proofs.TableLaws.{blanks}
+use Rattle.numbers.proofs.Tests.{and-right}
 use Rattle.book.specs.declared.Asset.{Asset}
 use Rattle.book.specs.declared.Book.{Book}
 use Rattle.book.specs.Blank.{noAsset}
@@ -31,15 +30,11 @@ use Rattle.xml_model.specs.State.{blank, withElements, withIds, withAsse
 use Rattle.xml_model.specs.State.{counted, idsIn, idPosition, isGiven, newId, assetNamed, begun, withIdref, withTimerOf, opening}
 use Rattle.xml_model.specs.State.{stored, textDone, keyDone, withOneAsset, assetDone, howMany, kindLegal}
 use Rattle.xml_model.specs.State.{withEntries, kindDone, containerDone, closing}
-use Rattle.xml_model.proofs.LegalBook.{asset-fresh, asset-legal, entries-fresh, entries-legal}
 use Rattle.xml_model.specs.Import.{Code, accepted, not-accepted, too-much}
+use Rattle.xml_model.proofs.LegalBook.{Small, asset-fresh, asset-legal, asset-inherits, entries-fresh, entries-legal}
 use Rattle.xml_model.proofs.LegalCodes.{on-cond}
 
 -- ## What is kept
-
--- a number of an asset fits its type: order 1's uids go to 65535
-abbrev Small : ℕ → Type 0
-Small x = x < 65536
 
 -- of the book so far, and of the open asset and the number of elements
 pub record Kept (b : Book) (inherit elements : ℕ) : Type 0 where
@@ -89,7 +84,7 @@ pub then-sound : (d : Done) (f : State → Done) → SoundDone d → ((u : State
 unfolding andThen
 then-sound d f h k = on-cond SoundDone (eqb (d .code) 0) (f (d .state)) d (λ q. k (d .state) (h .good)) (λ q. h)
 
--- 41, by far the most frequent
+-- 41, the fault of most tests
 refused : SoundDone (no 41)
 refused = no-sound 41 (not-accepted refl)
 
@@ -215,18 +210,6 @@ key-good : (st : State) → Good st → Good (keyDone st)
 unfolding keyDone
 key-good st g = asset-good _ _ st g (g .open-inherit)
 
--- one asset more keeps what each asset inherits from small
-inherits-kept : (st : State) → Good st → (i : ℕ) → Small (assetAt (withOneAsset (st .asset) (st .book) .assets) i .inherit)
-unfolding withOneAsset
-inherits-kept st g i =
-    let ats = st .book .assets in
-    let n = assetsIn (st .book) in
-    on-same i n
-    (λ e. below-or-not n (length ats)
-    (λ l. rw (e, getD-set-same ats n (st .asset) noAsset l) (g .open-inherit))
-    (λ l. rw (set-out ats n (st .asset) l) (g .inherits i)))
-    (λ d. rw (getD-set-other ats n i (st .asset) noAsset d) (g .inherits i))
-
 asset-sound : (st : State) → Good st → SoundDone (assetDone st)
 unfolding assetDone withIds
 asset-sound st g =
@@ -242,7 +225,7 @@ asset-sound st g =
     ok-sound _ (book-good (withOneAsset (st .asset) b) st g
     (asset-fresh b (st .asset) (g .legal) room test (g .fresh))
     (asset-legal b (st .asset) (g .legal) room test (g .fresh))
-    (inherits-kept st g))))
+    (asset-inherits b (st .asset) (g .legal) room test (g .inherits) (g .open-inherit)))))
 
 kind-sound : (kind : ℕ) (st : State) → Good st → SoundDone (kindDone kind st)
 unfolding kindDone withEntries
