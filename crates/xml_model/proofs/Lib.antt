@@ -7,6 +7,7 @@ pub mod CountsKept
 pub mod Counts
 pub mod Legal
 pub mod DecidesScan
+pub mod DecidesTags
 pub mod DecidesState
 pub mod Decides
 pub mod Examples
