@@ -12,6 +12,7 @@ use Rattle.numbers.proofs.Tests.{on-test}
 use Rattle.xml_model.specs.declared.Tag.{Tag}
 use Rattle.xml_model.specs.declared.State.{State}
 use Rattle.xml_model.specs.declared.Progress.{Progress}
+use Rattle.xml_model.specs.Repeat.{Next, stop, more, repeat}
 use Rattle.xml_model.specs.Bytes.{byteAt, part, spaces, runEnd, stuck}
 use Rattle.xml_model.specs.Tags.{unitAt}
 use Rattle.xml_model.specs.Elements.{nameOf, rightsName, rightsRole}
@@ -20,9 +21,10 @@ use Rattle.xml_model.specs.State.{no, counted}
 use Rattle.xml_model.specs.Text.{Frame, Verdict, leadsTo, opened, ended, judge, refusal, Config}
 use Rattle.xml_model.specs.Text.{ruled, unitStep, go, follow, finish, root, progressOf, readingOf}
 use Rattle.xml_model.proofs.Runs.{byte-out, stuck-pos}
-use Rattle.xml_model.proofs.CountsKept.{Keeps, keeps-ok, keeps-no, keeps-cond, ended-keeps, opened-keeps, judge-cases, judge-scanned}
-use Rattle.xml_model.proofs.CountsUnits.{Leads, leads-cond, repeat-leads, opensAt, opens, none-between, run-opens}
-use Rattle.xml_model.proofs.CountsUnits.{CountsOne, unit-counts, first-form}
+use Rattle.xml_model.proofs.CountsKept.{Keeps, keeps-ok, keeps-no, keeps-cond, ended-keeps, opened-keeps, judge-cases}
+use Rattle.xml_model.proofs.CountsKept.{judge-scanned}
+use Rattle.xml_model.proofs.Repeats.{repeat-ind}
+use Rattle.xml_model.proofs.CountsUnits.{opensAt, opens, none-between, run-opens, unit-opens, first-form}
 
 -- ## What a unit counts
 
@@ -53,6 +55,23 @@ judge-counts s t e k st =
     judge-cases s t e k st (λ v. v .code ≡ 0 → v .state .elements ≡ st .elements + cond (eqb (t .form) 2) 0 1) (λ c f z. absurd (f z))
     (λ _ f c. rw f (omega (arith, ended-counts s t e st c))) (λ _ f role x c. rw f (opened-counts s t role _ st c))
 
+-- ## Loops
+
+-- what holds of a turn that stops, and of a turn if of all that comes after it
+abbrev pub Leads : {A R : Type 0} → (A → R → Type 0) → A → Next A R → Type 0
+Leads P a (stop r) = P a r
+Leads {R = R} P a (more b) = (r : R) → P b r → P a r
+
+pub leads-cond : {A R : Type 0} (P : A → R → Type 0) (a : A) (b : Bool) (x y : Next A R)
+    → (b ≡ true → Leads P a x) → (b ≡ false → Leads P a y)
+    → Leads P a (cond b x y)
+leads-cond P a true x y f g = f refl
+leads-cond P a false x y f g = g refl
+
+pub repeat-leads : {A R : Type 0} (size : A → ℕ) (f : A → Next A R) (none : R) (P : A → R → Type 0)
+    → ((a : A) → P a none) → ((a : A) → Leads P a (f a)) → (a : A) → P a (repeat size f none a)
+repeat-leads size f none P z h = repeat-ind size f none P z (λ a r e. rw e at (h a)) (λ a b r e. (rw e at (h a)) r)
+
 -- ## The text
 
 module _ (s : List ℕ) where
@@ -68,7 +87,7 @@ module _ (s : List ℕ) where
   From c = Adds (c .at) (c .state .elements)
 
   unit-adds : (p : ℕ) (k : List Frame) (st : State) → Leads From (record { at = p; stack = k; state = st }) (unitStep s p k st)
-  unfolding unitStep ruled From Adds CountsOne
+  unfolding unitStep ruled From Adds
   unit-adds p [] st = λ _. refl
   unit-adds p (e ∷ k) st = leads-cond From _ (eqb (judge s t e k st .code) 0) _ _
       (λ q. onwards (eqb-true _ _ q)) (λ q. refusal-adds p _ _ _ (eqb-false _ _ q))
@@ -77,7 +96,7 @@ module _ (s : List ℕ) where
       t = unitAt s p
 
       onwards : judge s t e k st .code ≡ 0 → (r : Progress) → Adds (t .next) (judge s t e k st .state .elements) r → Adds p (st .elements) r
-      onwards z r f c = omega (arith, f c, judge-counts s t e k st z, unit-counts s p (judge-scanned s t e k st z))
+      onwards z r f c = omega (arith, f c, judge-counts s t e k st z, unit-opens s p (judge-scanned s t e k st z))
 
   go-adds : (p : ℕ) (k : List Frame) (st : State) → Adds p (st .elements) (go s p k st)
   unfolding go From
@@ -113,7 +132,7 @@ module _ (s : List ℕ) where
       z = runEnd spaces s (r .at)
 
   root-whole : (i : ℕ) → byteAt s i ≡ 60 → eqb (byteAt s (i + 1)) 47 ≡ false → Whole i (root s (unitAt s i))
-  unfolding root CountsOne Adds blank
+  unfolding root Adds blank
   root-whole i lt sl = on-test (not (eqb (t .code) 0))
       (λ q. rw q (refusal-whole i _ _ (eqb-false _ _ (not-true _ q))))
       (λ q. rw q (on-test (eqb (nameOf (part s (t .name) (t .end))) rightsName)
@@ -125,7 +144,7 @@ module _ (s : List ℕ) where
       t = unitAt s i
 
       first : t .code ≡ 0 → opens s (t .next) ≡ opens s i + 1
-      first z = unit-counts s i z ∙ rw (ne-eqb _ _ (first-form s i lt sl z))
+      first z = unit-opens s i z ∙ rw (ne-eqb _ _ (first-form s i lt sl z))
 
   text-whole : Whole 0 (progressOf s)
   unfolding progressOf Whole

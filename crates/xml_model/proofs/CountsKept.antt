@@ -21,7 +21,8 @@ use Rattle.xml_model.specs.Elements.{timedCountRole, skippedRole, versio
 use Rattle.xml_model.specs.Elements.{isKind, kindsFrom, holdsText, closesFrom, rowOf, rowCount, childRole, nextState, holdsAnything}
 use Rattle.xml_model.specs.Values.{numberIn, valueOf}
 use Rattle.xml_model.specs.State.{withIds, withAsset, withReferences, withLimits, withBook, ok, no, andThen, counted, sameRange}
-use Rattle.xml_model.specs.State.{idsIn, idPosition, isGiven, idOf, newId, assetNamed, named, begun, withIdref, withTimerOf, opening}
+use Rattle.xml_model.specs.State.{idsIn, idPosition, isGiven, idOf, newId, assetNamed, named, begun, withIdref, withTimerOf}
+use Rattle.xml_model.specs.State.{opening}
 use Rattle.xml_model.specs.State.{stored, textDone, keyDone, assetDone, kindLegal, kindDone, howMany, containerDone, closing}
 use Rattle.xml_model.specs.Text.{Frame, frame, Verdict, leadsTo, entered, opened, ended, child, judge}
 
@@ -163,8 +164,13 @@ module _ (Q : State → Type 0) (like : (a b : State) → a .elements ≡ b .ele
         closes : State → Done
         closes u = closing s (t .next) (t .next) role 0 u
 
-        by : (b : Bool) → cond b (leadsTo (frame (t .name) (t .end) role 0 ∷ k) (andThen d counted)) (leadsTo k (andThen (andThen d closes) counted)) .code ≡ 0
-            → Q′ (cond b (leadsTo (frame (t .name) (t .end) role 0 ∷ k) (andThen d counted)) (leadsTo k (andThen (andThen d closes) counted)) .state)
+        first : Verdict
+        first = leadsTo (frame (t .name) (t .end) role 0 ∷ k) (andThen d counted)
+
+        empty : Verdict
+        empty = leadsTo k (andThen (andThen d closes) counted)
+
+        by : (b : Bool) → cond b first empty .code ≡ 0 → Q′ (cond b first empty .state)
         by true = keeps-then Q Q′ d counted (entered-keeps role k) more
         by false = keeps-then Q Q′ (andThen d closes) counted
             (keeps-then Q Q d closes (entered-keeps role k) (λ u f. closing-keeps u f s (t .next) (t .next) role 0)) more

@@ -1,34 +1,35 @@
 -- "The first tag at fault decides": what stands behind the unit at fault of a refused text does not matter.
 use Prim.Native.Nat.{ℕ, _+_, _-_, _<_, _≤_}
 use mathlib.Core.Path.{_≡_, refl, sym, ap, _∙_}
-use mathlib.Core.Bool.{Bool, true, false, cond, not, _&&_}
+use mathlib.Core.Bool.{Bool, true, false, cond, not}
 use mathlib.Core.List.{List, [], _∷_, _++_}
 use native.Mathlib.Omega.{arith}
-use lib.ListN.{length, getD, take, length-append, length-take, List·getD-append}
+use lib.ListN.{length, getD, take, length-append, List·getD-append}
 use lib.Seq.{getD-take, length-take-le}
 use lib.Dec.{eqb, ltb}
-use borrow.Author.Tests.{eqb-true, eqb-false, eq-eqb, ne-eqb, lt-ltb, ltb-false, ltb-true, not-true, not-false}
+use borrow.Author.Tests.{eqb-true, eqb-false, ne-eqb, lt-ltb, ltb-false, ltb-true, not-true, not-false}
 use Rattle.numbers.proofs.Tests.{on-test}
 use Rattle.xml_model.specs.declared.Tag.{Tag}
 use Rattle.xml_model.specs.declared.State.{State}
 use Rattle.xml_model.specs.declared.Progress.{Progress}
-use Rattle.xml_model.specs.declared.Reading.{Reading}
-use Rattle.xml_model.specs.Repeat.{Next, stop, more, repeat}
+use Rattle.xml_model.specs.Repeat.{Next, stop, more}
 use Rattle.xml_model.specs.Bytes.{byteAt, part, spaces, runEnd, stuck, looked}
 use Rattle.xml_model.specs.Tags.{unitAt}
 use Rattle.xml_model.specs.Elements.{nameOf, rightsName, rightsRole}
 use Rattle.xml_model.specs.State.{blank}
-use Rattle.xml_model.specs.Text.{Frame, Verdict, leadsTo, opened, judge, refusal, Config, ruled, unitStep, go, follow, finish, root}
+use Rattle.xml_model.specs.Text.{Frame, Verdict, opened, judge, refusal, Config, ruled, unitStep, go, follow, finish, root}
 use Rattle.xml_model.specs.Text.{progressOf, readingOf}
-use Rattle.xml_model.proofs.Runs.{byte-in, byte-out, byte-inside, run-from, run-within, stuck-pos, looked-on}
-use Rattle.xml_model.proofs.Units.{Lies, unit-lies}
-use Rattle.xml_model.proofs.CountsUnits.{Leads, leads-cond, repeat-leads, first-form}
+use Rattle.xml_model.proofs.Runs.{byte-in, byte-out, byte-inside, run-within, stuck-pos, looked-on}
+use Rattle.xml_model.proofs.Units.{unit-lies}
+use Rattle.xml_model.proofs.CountsUnits.{first-form}
+use Rattle.xml_model.proofs.Counts.{Leads, leads-cond, repeat-leads}
 use Rattle.xml_model.proofs.CountsKept.{judge-scanned}
 use Rattle.xml_model.specs.Import.{Agree}
-use Rattle.xml_model.proofs.DecidesScan.{agree-less, run-agree, part-agree, looked-agree, stuck-agree, Told, told-leaf, told-less}
-use Rattle.xml_model.proofs.DecidesScan.{told-as, told-branch, told-cond, told-run, told-map, nextReach, told-stop, told-repeat, tagReach, unit-told}
-use Rattle.xml_model.proofs.DecidesScan.{first-told}
-use Rattle.xml_model.proofs.DecidesState.{IdsTo, NamesTo, ids-blank, Before, unit-opened, judge-agree, Leaves, opened-leaves, judge-leaves}
+use Rattle.xml_model.proofs.DecidesScan.{part-agree, looked-agree, stuck-agree, Told, told-leaf, told-less}
+use Rattle.xml_model.proofs.DecidesScan.{told-as, told-branch, told-cond, told-byte, told-run, told-map}
+use Rattle.xml_model.proofs.DecidesTags.{nextReach, told-repeat, tagReach, unit-told, first-told}
+use Rattle.xml_model.proofs.DecidesState.{ids-blank, Before, unit-opened, unit-after, judge-agree, Leaves, opened-leaves}
+use Rattle.xml_model.proofs.DecidesState.{judge-leaves}
 
 -- ## The units
 
@@ -48,11 +49,13 @@ unfolding ruled refusal
 ruled-reach p v = on-test (eqb (v .code) 0) (λ q. rw q) (λ q. rw q)
 
 -- a unit that leads on is no fault
-ruled-more : (p : ℕ) (v : Verdict) (c : Config) → ruled p v ≡ more c → (v .code ≡ 0) × (record { at = p; stack = v .stack; state = v .state } ≡ c)
+ruled-more : (p : ℕ) (v : Verdict) (c : Config) → ruled p v ≡ more c
+    → (v .code ≡ 0) × (record { at = p; stack = v .stack; state = v .state } ≡ c)
 unfolding ruled
 ruled-more p v c = by (eqb (v .code) 0) refl
   where
-    by : (b : Bool) → eqb (v .code) 0 ≡ b → cond b (more (record { at = p; stack = v .stack; state = v .state })) (stop (refusal (v .code) p)) ≡ more c
+    by : (b : Bool) → eqb (v .code) 0 ≡ b
+        → cond b (more (record { at = p; stack = v .stack; state = v .state })) (stop (refusal (v .code) p)) ≡ more c
         → (v .code ≡ 0) × (record { at = p; stack = v .stack; state = v .state } ≡ c)
     by true q e = (eqb-true _ _ q, cc)
     by false q e = let o : _≡_ {A = ℕ} 0 1 = cc in absurd (omega arith)
@@ -70,8 +73,7 @@ unit-more s p (f ∷ k) st c e =
 unit-falls : (s : List ℕ) (c d : Config) → unitStep s (c .at) (c .stack) (c .state) ≡ more d → length s - d .at < length s - c .at
 unit-falls s c d e =
     let m = unit-more s (c .at) (c .stack) (c .state) d e in
-    let l = unit-lies s (c .at) (m .0) in
-    omega (arith, m .1, l .text, l .before, l .named, l .ended, l .next)
+    omega (arith, m .1, unit-after s (c .at) (m .0), unit-lies s (c .at) (m .0) .next)
 
 module _ {s z : List ℕ} where
   step-told : (p : ℕ) (k : List Frame) (st : State) → p ≤ length s → Before p k st
@@ -79,7 +81,8 @@ module _ {s z : List ℕ} where
   unfolding unitStep
   step-told p [] st h b = told-leaf (nextReach configPlace progressReach) p _ (omega arith)
   step-told p (e ∷ k) st h b =
-      told-map tagReach (nextReach configPlace progressReach) p (verdict s) (verdict z) (told-less tagReach p (p + 1) (omega arith) (unit-told p h))
+      told-map tagReach (nextReach configPlace progressReach) p (verdict s) (verdict z)
+      (told-less tagReach p (p + 1) (omega arith) (unit-told p h))
       (record {
         on = omega (arith, reach);
         same = λ g. ap (ruled (unitAt s p .next)) (judge-agree p e k st b (rw reach at g));
@@ -95,11 +98,13 @@ module _ {s z : List ℕ} where
   unfolding go
   go-told p k st h b =
       told-repeat configPlace progressReach (λ c. length s - c .at) (λ c. length z - c .at) (λ c. unitStep s (c .at) (c .stack) (c .state))
-      (λ c. unitStep z (c .at) (c .stack) (c .state)) (refusal 40 (length s + 1)) (refusal 40 (length z + 1)) (unit-falls s) (unit-falls z) (Stands s)
+      (λ c. unitStep z (c .at) (c .stack) (c .state)) (refusal 40 (length s + 1)) (refusal 40 (length z + 1))
+      (unit-falls s) (unit-falls z) (Stands s)
       (λ c d q e. let m = unit-more s (c .at) (c .stack) (c .state) d e in
       let l = unit-lies s (c .at) (m .0) in
       record { within = omega (arith, m .1, l .next); before = m .2 (q .before) })
-      (λ c q. step-told (c .at) (c .stack) (c .state) (q .within) (q .before)) (record { at = p; stack = k; state = st }) (record { within = h; before = b })
+      (λ c q. step-told (c .at) (c .stack) (c .state) (q .within) (q .before))
+      (record { at = p; stack = k; state = st }) (record { within = h; before = b })
 
   follow-told : (p : ℕ) (v : Verdict) → p ≤ length s → (v .code ≡ 0 → Before p (v .stack) (v .state))
       → Told s z progressReach p (follow s p v) (follow z p v)
@@ -123,7 +128,8 @@ module _ (s : List ℕ) where
   unfolding follow go refusal Within
   follow-within p v h = on-test (eqb (v .code) 0)
       (λ q. rw q (repeat-leads (λ c. length s - c .at) (λ c. unitStep s (c .at) (c .stack) (c .state)) (refusal 40 (length s + 1)) Within
-      (λ c _ e. absurd (omega arith)) (λ c. unit-within (c .at) (c .stack) (c .state)) (record { at = p; stack = v .stack; state = v .state }) h))
+      (λ c _ e. absurd (omega arith)) (λ c. unit-within (c .at) (c .stack) (c .state))
+      (record { at = p; stack = v .stack; state = v .state }) h))
       (λ q. rw q (λ c. absurd (eqb-false _ _ q c)))
 
 -- ## The whole text
@@ -167,31 +173,39 @@ module _ {s z : List ℕ} where
   unfolding root blank Leaves
   root-told i lt sl = told-branch (reach s) (t .next) (not (eqb (t .code) 0)) _ _ _ _
       (λ q. refusal-told (t .next) (t .code) (t .next) (eqb-false _ _ (not-true _ q)) (omega arith))
-      (λ q. let o = eqb-true (t .code) 0 (not-false _ q) in
+      (λ q.
+      let o = eqb-true (t .code) 0 (not-false _ q) in
       let f = ne-eqb (t .form) 2 (first-form s i lt sl o) in
       let l = unit-lies s i o in
-      told-cond (reach s) (t .next) (eqb (nameOf (part s (t .name) (t .end))) rightsName) (eqb (nameOf (part z (t .name) (t .end))) rightsName) _ _ _ _
-      (λ g. ap (λ (v : List ℕ). eqb (nameOf v) rightsName) (part-agree (t .name) (t .end) (omega (arith, l .ended)) (omega (arith, l .ended, l .next)) g))
+      told-cond (reach s) (t .next) (isRights s) (isRights z) _ _ _ _
+      (λ g. ap (λ (v : List ℕ). eqb (nameOf v) rightsName)
+      (part-agree (t .name) (t .end) (omega (arith, l .ended)) (omega (arith, l .ended, l .next)) g))
       (λ _. told-map progressReach (reach s) (t .next) (finish s) (finish z)
-      (told-as progressReach (t .next) (follow z (t .next) (opened z t rightsRole [] blank))
+      (told-as progressReach (t .next) (follow z (t .next) (first z))
       (λ g. ap (follow z (t .next)) (unit-opened i o f g rightsRole [] blank (ids-blank (t .next))))
-      (follow-told (t .next) (opened s t rightsRole [] blank) (l .next)
+      (follow-told (t .next) (first s) (l .next)
       (opened-leaves s i o f rightsRole [] blank (record { ids = ids-blank (t .next); names = tt }))))
-      (finish-told (follow s (t .next) (opened s t rightsRole [] blank)) (follow-within s (t .next) (opened s t rightsRole [] blank) (l .next))))
+      (finish-told (follow s (t .next) (first s)) (follow-within s (t .next) (first s) (l .next))))
       (λ _. refusal-told (t .next) 41 (t .next) (λ e. omega arith) (omega arith)))
     where
       t : Tag
       t = unitAt s i
 
+      isRights : List ℕ → Bool
+      isRights x = eqb (nameOf (part x (unitAt s i .name) (unitAt s i .end))) rightsName
+
+      first : List ℕ → Verdict
+      first x = opened x (unitAt s i) rightsRole [] blank
+
   progress-told : Told s z (reach s) 0 (progressOf s) (progressOf z)
   unfolding progressOf
   progress-told = told-run (reach s) 0 spaces 0 (starts z) (omega arith)
-      (told-cond (reach s) (i + 1) (not (eqb (byteAt s i) 60)) (not (eqb (byteAt z i) 60)) _ _ _ _
-      (λ g. ap (λ (c : ℕ). not (eqb c 60)) (sym (g .bytes i (omega arith)))) (λ _. stuck-told i (run-within spaces s 0 (omega arith)))
-      (λ q. let lt = eqb-true (byteAt s i) 60 (not-false _ q) in
+      (told-byte (reach s) (i + 1) i (λ c. not (eqb c 60)) (omega arith) (λ _. stuck-told i (run-within spaces s 0 (omega arith)))
+      (λ q.
+      let lt = eqb-true (byteAt s i) 60 (not-false _ q) in
       told-less (reach s) (i + 1) (i + 1 + 1) (omega arith)
-      (told-cond (reach s) (i + 1 + 1) (eqb (byteAt s (i + 1)) 47) (eqb (byteAt z (i + 1)) 47) _ _ _ _
-      (λ g. ap (λ (c : ℕ). eqb c 47) (sym (g .bytes (i + 1) (omega arith)))) (λ _. refusal-told (i + 1 + 1) 40 (i + 2) (λ e. omega arith) (omega arith))
+      (told-byte (reach s) (i + 1 + 1) (i + 1) (λ c. eqb c 47) (omega arith)
+      (λ _. refusal-told (i + 1 + 1) 40 (i + 2) (λ e. omega arith) (omega arith))
       (λ sl. told-map tagReach (reach s) (i + 1 + 1) (root s) (root z) (first-told i lt) (root-told i lt sl)))))
     where
       i : ℕ
@@ -219,7 +233,8 @@ agree-bytes s z n b d f = record { bytes = f; ends = ends }
   where
     ends : (i : ℕ) → i < n → ltb i (length s) ≡ ltb i (length z)
     ends i h = on-test (ltb i (length s))
-        (λ q. let w = byte-in s i (ltb-true i (length s) q) in q ∙ sym (lt-ltb i (length z) (byte-inside z i (omega (arith, f i h, w, b i)))))
+        (λ q. let w = byte-in s i (ltb-true i (length s) q) in
+        q ∙ sym (lt-ltb i (length z) (byte-inside z i (omega (arith, f i h, w, b i)))))
         (λ q. on-test (ltb i (length z))
         (λ r. let w = byte-in z i (ltb-true i (length z) r) in
         absurd (omega (arith, f i h, w, d i, byte-out s i (ltb-false i (length s) q))))
@@ -227,13 +242,16 @@ agree-bytes s z n b d f = record { bytes = f; ends = ends }
 
 -- the first n bytes of a text, and any bytes behind them
 cut-agrees : (s rest : List ℕ) (n : ℕ) → n ≤ length s → Agree s (take n s ++ rest) n
-cut-agrees s rest n h = record { bytes = bytes; ends = λ i l. lt-ltb i (length s) (omega arith) ∙ sym (lt-ltb i (length (take n s ++ rest)) (longer i l)) }
+cut-agrees s rest n h = record { bytes = bytes; ends = ends }
   where
     front : length (take n s) ≡ n
     front = length-take-le n s h
 
     longer : (i : ℕ) → i < n → i < length (take n s ++ rest)
     longer i l = omega (arith, length-append (take n s) rest, front)
+
+    ends : (i : ℕ) → i < n → ltb i (length s) ≡ ltb i (length (take n s ++ rest))
+    ends i l = lt-ltb i (length s) (omega arith) ∙ sym (lt-ltb i (length (take n s ++ rest)) (longer i l))
 
     bytes : (i : ℕ) → i < n → byteAt s i ≡ byteAt (take n s ++ rest) i
     bytes i l =

@@ -1,31 +1,23 @@
 -- Two texts that agree as far as the scan of one of them looks are scanned alike.
 use Prim.Native.Nat.{ℕ, zero, suc, _+_, _-_, _<_, _≤_}
 use mathlib.Core.Path.{_≡_, refl, sym, ap, _∙_}
-use mathlib.Core.Bool.{Bool, true, false, cond, not, _&&_, _||_}
+use mathlib.Core.Bool.{Bool, true, false, cond, _||_}
 use mathlib.Core.List.{List}
 use native.Mathlib.Omega.{arith}
-use lib.ListN.{length, getD, take, drop, length-take, length-drop}
+use lib.ListN.{length, drop, length-take, length-drop}
 use lib.Seq.{getD-take, getD-drop, ext-getD}
-use lib.Dec.{eqb, ltb, leb}
-use borrow.Author.Tests.{eqb-true, eqb-false, eq-eqb, ne-eqb, lt-ltb, le-ltb, ltb-true, ltb-false, le-leb, leb-true}
+use lib.Dec.{eqb, ltb}
+use borrow.Author.Tests.{eqb-true, eq-eqb, ne-eqb, lt-ltb, le-ltb, ltb-false, le-leb, leb-true}
 use Rattle.numbers.proofs.Tests.{on-test, clash}
 use Rattle.numbers.proofs.TableLaws.{below-or-not}
+use Rattle.xml_model.specs.Import.{Agree}
 use Rattle.xml_model.specs.declared.Attribute.{Attribute}
-use Rattle.xml_model.specs.declared.Tail.{Tail}
-use Rattle.xml_model.specs.declared.Tag.{Tag}
-use Rattle.xml_model.specs.declared.Range.{Range}
-use Rattle.xml_model.specs.Repeat.{Next, stop, more, repeat}
 use Rattle.xml_model.specs.Bytes.{byteAt, part, same, isNameStart, spaces, names, texts, digits, inClass, runEnd, bare}
 use Rattle.xml_model.specs.Bytes.{isMark, stuck, looked}
-use Rattle.xml_model.specs.Import.{Agree}
-use Rattle.xml_model.specs.Tags.{stuckAttribute, valueAt, equalsAt, attributeAt, given, tailed, stuckTail, emptyTail}
-use Rattle.xml_model.specs.Tags.{attributeStep, tailStep, tailOf, look, stuckTag, endTag, startTag, tagAt, unitAt}
-use Rattle.xml_model.proofs.Repeats.{repeat-stop, repeat-more}
-use Rattle.xml_model.proofs.Runs.{byte-in, byte-out, byte-inside, inside, name-inside, quote-small, run-on, run-out, run-from}
+use Rattle.xml_model.specs.Tags.{stuckAttribute, valueAt, equalsAt, attributeAt, given}
+use Rattle.xml_model.proofs.Runs.{byte-in, byte-out, byte-inside, inside, quote-small, run-on, run-out, run-from}
 use Rattle.xml_model.proofs.Runs.{run-within, in-run, run-ends, stuck-pos, looked-on}
-use Rattle.xml_model.proofs.CountsUnits.{text-empty}
 use Rattle.xml_model.proofs.Units.{nextAttribute, nextName, attribute-written, attribute-held, given-out, given-here, given-on}
-use Rattle.xml_model.proofs.Units.{look-stuck, look-here, look-on, tail-more, tail-falls, tail-ind}
 
 pub agree-less : {s z : List ℕ} {n : ℕ} (m : ℕ) → m ≤ n → Agree s z n → Agree s z m
 agree-less m h g = record { bytes = λ i l. g .bytes i (omega arith); ends = λ i l. g .ends i (omega arith) }
@@ -49,7 +41,8 @@ module _ (k : ℕ) (s : List ℕ) where
 
   run-class : (i j : ℕ) → i ≤ j → j < runEnd k s i → inClass k (byteAt s j) ≡ true
   run-class i j l m = below-or-not j (length s) (λ h. ap (inClass k) (byte-in s j h) ∙ in-run k s i j l m)
-      (λ h. below-or-not i (length s) (λ q. absurd (omega (arith, run-within k s i (omega arith)))) (λ q. absurd (omega (arith, run-out k s i q))))
+      (λ h. below-or-not i (length s) (λ q. absurd (omega (arith, run-within k s i (omega arith))))
+      (λ q. absurd (omega (arith, run-out k s i q))))
 
   run-stops : (i : ℕ) → inClass k (byteAt s (runEnd k s i)) ≡ false
   run-stops i = below-or-not (runEnd k s i) (length s) (λ h. ap (inClass k) (byte-in s (runEnd k s i) h) ∙ run-ends k s i h)
@@ -67,7 +60,8 @@ module _ (k : ℕ) (s : List ℕ) where
 pub run-agree : {s z : List ℕ} (k i : ℕ) → Agree s z (runEnd k s i + 1) → runEnd k z i ≡ runEnd k s i
 run-agree {s} {z} k i g =
     let h = run-from k s i in
-    let c = run-covers k z (runEnd k s i - i) i (λ j l m. ap (inClass k) (sym (g .bytes j (omega arith))) ∙ run-class k s i j l (omega arith)) in
+    let c = run-covers k z (runEnd k s i - i) i
+    (λ j l m. ap (inClass k) (sym (g .bytes j (omega arith))) ∙ run-class k s i j l (omega arith)) in
     below-or-not (runEnd k s i) (runEnd k z i)
     (λ m. clash (run-class k z i (runEnd k s i) h m) (ap (inClass k) (sym (g .bytes (runEnd k s i) (omega arith))) ∙ run-stops k s i))
     (λ m. omega arith)
@@ -105,7 +99,7 @@ part-agree {s} {z} a b h l g =
 
 -- ## Where the scan is stuck
 
-looked-mark : (s : List ℕ) (i : ℕ) → byteAt s i ≡ 60 → looked s i ≡ i + 2
+pub looked-mark : (s : List ℕ) (i : ℕ) → byteAt s i ≡ 60 → looked s i ≡ i + 2
 unfolding looked
 looked-mark s i e = rw (lt-ltb i (length s) (inside s i 60 (omega arith) e), eq-eqb (byteAt s i) 60 e)
 
@@ -116,9 +110,10 @@ module _ {s z : List ℕ} (i : ℕ) (h : i ≤ length s) (g : Agree s z (looked 
       let l = looked-on s i h in
       let e = g .ends i l in
       on-test (ltb i (length s)) (λ q. rw (← e, ← g .bytes i l, q))
-      (λ q. let w = within-agree i (omega arith) h g in rw (← e, q) (omega (arith, ltb-false i (length s) q, ltb-false i (length z) (sym e ∙ q))))
+      (λ q. let w = within-agree i (omega arith) h g in
+      rw (← e, q) (omega (arith, ltb-false i (length s) q, ltb-false i (length z) (sym e ∙ q))))
 
-  mark-agree : isMark z i ≡ isMark s i
+  pub mark-agree : isMark z i ≡ isMark s i
   unfolding isMark
   mark-agree =
       let l = looked-on s i h in
@@ -157,6 +152,11 @@ module _ {s z : List ℕ} {A : Type 0} (reach : A → ℕ) where
       → (b ≡ false → Told s z reach p y w) → Told s z reach p (cond b x y) (cond c v w)
   told-cond p b c x y v w e f g = told-as p (cond c v w) (λ a. ap (λ (d : Bool). cond d v w) (e a)) (told-branch p b x y v w f g)
 
+  -- a test of the byte at i
+  pub told-byte : {x y v w : A} (p i : ℕ) (f : ℕ → Bool) → i < p → (f (byteAt s i) ≡ true → Told s z reach p x v)
+      → (f (byteAt s i) ≡ false → Told s z reach p y w) → Told s z reach p (cond (f (byteAt s i)) x y) (cond (f (byteAt z i)) v w)
+  told-byte {x} {y} {v} {w} p i f h = told-cond p (f (byteAt s i)) (f (byteAt z i)) x y v w (λ g. ap f (sym (g .bytes i h)))
+
   -- the run from p on
   pub told-run : {x : A} (q k p : ℕ) (f : ℕ → A) → q ≤ p + 1 → Told s z reach (runEnd k s p + 1) x (f (runEnd k s p))
       → Told s z reach q x (f (runEnd k z p))
@@ -179,7 +179,7 @@ reach-stuck : (s : List ℕ) (p : ℕ) → attributeReach (stuckAttribute s p) �
 unfolding attributeReach stuckAttribute
 reach-stuck s p = rw (ne-eqb (stuck s p) 0 (stuck-pos s p))
 
-reach-accepted : (a : Attribute) → a .code ≡ 0 → attributeReach a ≡ a .to + 1
+pub reach-accepted : (a : Attribute) → a .code ≡ 0 → attributeReach a ≡ a .to + 1
 unfolding attributeReach
 reach-accepted a e = rw (eq-eqb (a .code) 0 e)
 
@@ -197,14 +197,12 @@ module _ {s z : List ℕ} where
 
   ending-told : (i e v q w : ℕ) → w ≤ length s → Told s z attributeReach (w + 1) (ending s i e v q w) (ending z i e v q w)
   unfolding ending attributeReach
-  ending-told i e v q w h = told-cond attributeReach (w + 1) (eqb (byteAt s w) q) (eqb (byteAt z w) q) _ _ _ _
-      (λ g. ap (λ (c : ℕ). eqb c q) (sym (g .bytes w (omega arith))))
+  ending-told i e v q w h = told-byte attributeReach (w + 1) w (λ c. eqb c q) (omega arith)
       (λ _. told-leaf attributeReach (w + 1) _ (omega arith)) (λ _. attribute-stuck w h)
 
   value-told : (i e v : ℕ) → v ≤ length s → Told s z attributeReach (v + 1) (valueAt s i e v) (valueAt z i e v)
   unfolding valueAt ending
-  value-told i e v h = told-cond attributeReach (v + 1) (quoted (byteAt s v)) (quoted (byteAt z v)) _ _ _ _
-      (λ g. ap quoted (sym (g .bytes v (omega arith))))
+  value-told i e v h = told-byte attributeReach (v + 1) v quoted (omega arith)
       (λ q. let l = byte-inside s v (quote-small (byteAt s v) q) in
       told-as attributeReach (v + 1) (ended (byteAt z v)) (λ g. ap ended (sym (g .bytes v (omega arith))))
       (told-run attributeReach (v + 1) (byteAt s v) (v + 1) (λ w. ending z i e v (byteAt s v) w) (omega arith)
@@ -219,8 +217,7 @@ module _ {s z : List ℕ} where
 
   equals-told : (i e q : ℕ) → q ≤ length s → Told s z attributeReach (q + 1) (equalsAt s i e q) (equalsAt z i e q)
   unfolding equalsAt
-  equals-told i e q h = told-cond attributeReach (q + 1) (eqb (byteAt s q) 61) (eqb (byteAt z q) 61) _ _ _ _
-      (λ g. ap (λ (c : ℕ). eqb c 61) (sym (g .bytes q (omega arith))))
+  equals-told i e q h = told-byte attributeReach (q + 1) q (λ c. eqb c 61) (omega arith)
       (λ y. let l = inside s q 61 (omega arith) (eqb-true _ _ y) in
       told-run attributeReach (q + 1) spaces (q + 1) (λ v. valueAt z i e v) (omega arith)
       (value-told i e (runEnd spaces s (q + 1)) (run-within spaces s (q + 1) (omega arith))))
@@ -228,8 +225,7 @@ module _ {s z : List ℕ} where
 
   pub attribute-told : (i : ℕ) → i ≤ length s → Told s z attributeReach (i + 1) (attributeAt s i) (attributeAt z i)
   unfolding attributeAt
-  attribute-told i h = told-cond attributeReach (i + 1) (isNameStart (byteAt s i)) (isNameStart (byteAt z i)) _ _ _ _
-      (λ g. ap (λ (c : ℕ). isNameStart c) (sym (g .bytes i (omega arith))))
+  attribute-told i h = told-byte attributeReach (i + 1) i (λ c. isNameStart c) (omega arith)
       (λ _. let l = run-within names s i h in
       told-run attributeReach (i + 1) names i (λ e. equalsAt z i e (runEnd spaces z e)) (omega arith)
       (told-run attributeReach (e + 1) spaces e (λ q. equalsAt z i e q) (omega arith)
@@ -247,23 +243,23 @@ module _ {s z : List ℕ} where
 -- ## "no Name twice in one tag"
 
 -- the attributes from j on lead to p
-data Reaches (s : List ℕ) : ℕ → ℕ → Type 0 where
+pub data Reaches (s : List ℕ) : ℕ → ℕ → Type 0 where
   here : {j : ℕ} → Reaches s j j
   onto : {j p : ℕ} → nextAttribute s j .code ≡ 0 → Reaches s (nextAttribute s j .to + 1) p → Reaches s j p
 
-attribute-after : (s : List ℕ) (j : ℕ) → nextAttribute s j .code ≡ 0 → j < nextAttribute s j .to
+pub attribute-after : (s : List ℕ) (j : ℕ) → nextAttribute s j .code ≡ 0 → j < nextAttribute s j .to
 attribute-after s j o = let w = attribute-held s (runEnd spaces s j) o in omega (arith, run-from spaces s j, w .moved)
 
 reaches-less : {s : List ℕ} {j p : ℕ} → Reaches s j p → j ≤ p
 reaches-less here = omega arith
 reaches-less {s} {j} (onto o r) = omega (arith, attribute-after s j o, reaches-less r)
 
-reaches-next : {s : List ℕ} {j p : ℕ} → Reaches s j p → nextAttribute s p .code ≡ 0 → Reaches s j (nextAttribute s p .to + 1)
+pub reaches-next : {s : List ℕ} {j p : ℕ} → Reaches s j p → nextAttribute s p .code ≡ 0 → Reaches s j (nextAttribute s p .to + 1)
 reaches-next here o = onto o here
 reaches-next (onto q r) o = onto q (reaches-next r o)
 
 module _ {s z : List ℕ} (j : ℕ) (o : nextAttribute s j .code ≡ 0) (g : Agree s z (nextAttribute s j .to + 1)) where
-  held : nextAttribute s j .end ≤ nextAttribute s j .to
+  pub held : nextAttribute s j .end ≤ nextAttribute s j .to
   held =
       let a = nextAttribute s j in
       let w = attribute-written s (runEnd spaces s j) o in
@@ -271,15 +267,15 @@ module _ {s z : List ℕ} (j : ℕ) (o : nextAttribute s j .code ≡ 0) (g : Agr
       let v = run-from spaces s (runEnd spaces s (a .end) + 1) in
       omega (arith, w .at, w .from, w .to, run-from (byteAt s (w .quote)) s (a .from))
 
-  next-agree : nextAttribute z j ≡ nextAttribute s j
+  pub next-agree : nextAttribute z j ≡ nextAttribute s j
   next-agree = let w = attribute-held s (runEnd spaces s j) o in
       next-told {s = s} {z = z} j (omega (arith, run-from spaces s j, w .moved, w .to)) .same (rw (reach-accepted (nextAttribute s j) o) g)
 
-  name-agree : nextName z j ≡ nextName s j
+  pub name-agree : nextName z j ≡ nextName s j
   name-agree = let w = attribute-held s (runEnd spaces s j) o in
       rw next-agree (part-agree (nextAttribute s j .name) (nextAttribute s j .end) (omega (arith, held)) (w .ended) g)
 
-given-agree : {s z : List ℕ} {j p : ℕ} (v : List ℕ) → Reaches s j p → Agree s z p → given z p v j ≡ given s p v j
+pub given-agree : {s z : List ℕ} {j p : ℕ} (v : List ℕ) → Reaches s j p → Agree s z p → given z p v j ≡ given s p v j
 given-agree {s} {z} {j} {p} v here g = given-out z p v j (omega arith) ∙ sym (given-out s p v j (omega arith))
 given-agree {s} {z} {j} {p} v (onto o r) g =
     let l : nextAttribute s j .to + 1 ≤ p = reaches-less r in
@@ -292,250 +288,3 @@ given-agree {s} {z} {j} {p} v (onto o r) g =
     (λ q. given-here z p v j h c (ap (same v) n ∙ q) ∙ sym (given-here s p v j h o q))
     (λ q. given-on z p v j h c (ap (same v) n ∙ q) ∙ ap (λ (a : Attribute). given z p v (a .to + 1)) e
     ∙ given-agree v r g ∙ sym (given-on s p v j h o q))
-
--- ## Loops
-
--- how far a turn has looked: up to the place of the next one, or as far as its result says
-abbrev pub nextReach : {A R : Type 0} → (A → ℕ) → (R → ℕ) → Next A R → ℕ
-nextReach pos reach (stop r) = reach r
-nextReach pos reach (more a) = pos a
-
-pub told-stop : {s z : List ℕ} {A R : Type 0} {x y : R} (pos : A → ℕ) (reach : R → ℕ) (p : ℕ) → Told s z reach p x y
-    → Told {A = Next A R} s z (nextReach pos reach) p (stop x) (stop y)
-told-stop pos reach p t = record { on = t .on; same = λ g. ap stop (t .same g) }
-
--- two loops whose turns are told, as long as Good holds
-module _ {s z : List ℕ} {A R : Type 0} (pos : A → ℕ) (reach : R → ℕ) (size size′ : A → ℕ) (f f′ : A → Next A R) (none none′ : R)
-    (falls : (a b : A) → f a ≡ more b → size b < size a) (falls′ : (a b : A) → f′ a ≡ more b → size′ b < size′ a)
-    (Good : A → Type 0) (keeps : (a b : A) → Good a → f a ≡ more b → Good b)
-    (turn : (a : A) → Good a → Told s z (nextReach pos reach) (pos a) (f a) (f′ a)) where
-  told-turns : (n : ℕ) (a : A) → size a < n → Good a → Told s z reach (pos a) (repeat size f none a) (repeat size′ f′ none′ a)
-  told-turns zero a h c = absurd (omega arith)
-  told-turns (suc n) a h c = by (f a) refl (turn a c) (told-turns n)
-    where
-      by : (x : Next A R) → f a ≡ x → Told s z (nextReach pos reach) (pos a) x (f′ a)
-          → ((b : A) → size b < n → Good b → Told s z reach (pos b) (repeat size f none b) (repeat size′ f′ none′ b))
-          → Told s z reach (pos a) (repeat size f none a) (repeat size′ f′ none′ a)
-      by (stop r) e t ih =
-          rw (repeat-stop size f none a r e)
-          (record { on = t .on; same = λ g. repeat-stop size′ f′ none′ a r (t .same g) })
-      by (more b) e t ih =
-          let u = ih b (omega (arith, falls a b e)) (keeps a b c e) in
-          rw (repeat-more size f none falls a b e)
-          (record {
-            on = omega (arith, t .on, u .on);
-            same = λ g. repeat-more size′ f′ none′ falls′ a b (t .same (agree-less (pos b) (u .on) g)) ∙ u .same g;
-          })
-
-  pub told-repeat : (a : A) → Good a → Told s z reach (pos a) (repeat size f none a) (repeat size′ f′ none′ a)
-  told-repeat a = told-turns (suc (size a)) a (omega arith)
-
--- ## What follows a tag's name
-
-abbrev pub tailReach : Tail → ℕ
-tailReach t = t .next
-
--- a turn that starts at j looks at the byte there
-abbrev behind : ℕ → ℕ
-behind j = j + 1
-
-step-reach : (s : List ℕ) (first j : ℕ) (a : Attribute) → attributeReach a ≤ nextReach behind tailReach (attributeStep s first j a)
-unfolding attributeStep attributeReach tailed
-step-reach s first j a = on-test (eqb (a .code) 0)
-    (λ q. rw q (on-test (given s j (part s (a .name) (a .end)) first) (λ r. rw r (omega arith)) (λ r. rw r (omega arith))))
-    (λ q. rw q (omega arith))
-
--- one turn, where the white space ends at g
-tailTurn : List ℕ → ℕ → ℕ → ℕ → Next ℕ Tail
-tailTurn s first j g =
-    cond (eqb (byteAt s g) 62) (stop (tailed 0 0 (g + 1)))
-    (cond (eqb (byteAt s g) 47) (stop (emptyTail s g))
-    (cond (eqb g j) (stop (stuckTail s g))
-    (attributeStep s first j (attributeAt s g))))
-
-module _ {s z : List ℕ} where
-  tail-stuck : (p : ℕ) → p ≤ length s → Told s z tailReach (p + 1) (stuckTail s p) (stuckTail z p)
-  unfolding tailed
-  tail-stuck p h = record { on = omega (arith, looked-on s p h); same = λ g. rw (looked-agree p h g, stuck-agree p h g) }
-
-  empty-told : (g : ℕ) → g < length s → Told s z tailReach (g + 1 + 1) (emptyTail s g) (emptyTail z g)
-  unfolding emptyTail tailed
-  empty-told g h = told-cond tailReach (g + 1 + 1) (eqb (byteAt s (g + 1)) 62) (eqb (byteAt z (g + 1)) 62) _ _ _ _
-      (λ w. ap (λ (c : ℕ). eqb c 62) (sym (w .bytes (g + 1) (omega arith))))
-      (λ _. told-leaf tailReach (g + 1 + 1) _ (omega arith)) (λ _. tail-stuck (g + 1) (omega arith))
-
-  -- the attribute at the end of the white space from j on
-  step-told : (first j : ℕ) → Reaches s first j → j ≤ length s → Told s z (nextReach behind tailReach) (runEnd spaces s j + 1)
-      (attributeStep s first j (nextAttribute s j)) (attributeStep z first j (attributeAt z (runEnd spaces s j)))
-  unfolding attributeStep
-  step-told first j r h =
-      told-map attributeReach (nextReach behind tailReach) (runEnd spaces s j + 1) (attributeStep s first j) (attributeStep z first j)
-      (attribute-told (runEnd spaces s j) (run-within spaces s j h))
-      (record { on = step-reach s first j a; same = λ g. agrees (agree-less (attributeReach a) (step-reach s first j a) g) })
-    where
-      a : Attribute
-      a = nextAttribute s j
-
-      agrees : Agree s z (attributeReach (nextAttribute s j)) → attributeStep z first j (nextAttribute s j) ≡ attributeStep s first j (nextAttribute s j)
-      agrees g = on-test (eqb (nextAttribute s j .code) 0)
-          (λ q. let o = eqb-true (nextAttribute s j .code) 0 q in
-          let w = rw (reach-accepted (nextAttribute s j) o) at g in
-          let u = attribute-held s (runEnd spaces s j) o in
-          rw (
-            q,
-            part-agree (nextAttribute s j .name) (nextAttribute s j .end) (omega (arith, held {s = s} {z = z} j o w)) (u .ended) w,
-            given-agree (nextName s j) r (agree-less j (omega (arith, attribute-after s j o)) w),
-          ))
-          (λ q. rw q)
-
-  turn-told : (first j : ℕ) → Reaches s first j → j ≤ length s
-      → Told s z (nextReach behind tailReach) (runEnd spaces s j + 1) (tailTurn s first j (runEnd spaces s j)) (tailTurn z first j (runEnd spaces s j))
-  unfolding tailTurn tailed
-  turn-told first j r h =
-      told-cond R (g + 1) (eqb (byteAt s g) 62) (eqb (byteAt z g) 62) _ _ _ _ (λ w. ap (λ (c : ℕ). eqb c 62) (sym (w .bytes g (omega arith))))
-      (λ _. told-leaf R (g + 1) _ (omega arith))
-      (λ _. told-cond R (g + 1) (eqb (byteAt s g) 47) (eqb (byteAt z g) 47) _ _ _ _ (λ w. ap (λ (c : ℕ). eqb c 47) (sym (w .bytes g (omega arith))))
-      (λ q. told-stop behind tailReach (g + 1) (told-less tailReach (g + 1) (g + 1 + 1) (omega arith) (empty-told g (inside s g 47 (omega arith) (eqb-true _ _ q)))))
-      (λ _. told-branch R (g + 1) (eqb g j) _ _ _ _ (λ _. told-stop behind tailReach (g + 1) (tail-stuck g (run-within spaces s j h)))
-      (λ _. step-told first j r h)))
-    where
-      g : ℕ
-      g = runEnd spaces s j
-
-      R : Next ℕ Tail → ℕ
-      R = nextReach behind tailReach
-
-  pub tail-told : (first : ℕ) → first ≤ length s → Told s z tailReach (first + 1) (tailOf s first) (tailOf z first)
-  unfolding tailOf tailStep tailTurn
-  tail-told first h =
-      told-repeat behind tailReach (λ j. length s - j) (λ j. length z - j) (tailStep s first) (tailStep z first) (stuckTail s (length s))
-      (stuckTail z (length z)) (tail-falls s first) (tail-falls z first) (λ j. Reaches s first j × (j ≤ length s))
-      (λ j b c e. let m = tail-more s first j b e in
-      let w = attribute-held s (runEnd spaces s j) (m .1) in
-      rw (← m .3) (reaches-next (c .0) (m .1), omega (arith, w .to)))
-      (λ j c. told-run (nextReach behind tailReach) (j + 1) spaces j (λ g. tailTurn z first j g) (omega arith) (turn-told first j (c .0) (c .1)))
-      first (here, h)
-
--- ## The attribute of a name
-
-no-attribute : (s : List ℕ) (j c : ℕ) → isNameStart c ≡ false → byteAt s (runEnd spaces s j) ≡ c → nextAttribute s j .code ≡ 0 → ⊥
-no-attribute s j c n e o = clash (attribute-written s (runEnd spaces s j) o .starts) (ap (λ (b : ℕ). isNameStart b) e ∙ n)
-
--- what is found from j on, in a tag that ends with tail t
-pub record Found (s z : List ℕ) (j : ℕ) (t : Tail) : Type 0 where
-  pub moved : j < t .next
-  pub to : (v : List ℕ) → look s v j .to ≤ t .next
-  pub same : Agree s z (t .next) → (v : List ℕ) → look z v j ≡ look s v j
-
-module _ {s z : List ℕ} where
-  -- no attribute is left, but the byte c
-  none-found : (j c : ℕ) (t : Tail) → isNameStart c ≡ false → byteAt s (runEnd spaces s j) ≡ c → runEnd spaces s j < t .next → Found s z j t
-  none-found j c t n e h =
-      let f = run-from spaces s j in
-      record {
-        moved = omega arith;
-        to = λ v. rw (look-stuck s v j (no-attribute s j c n e)) (omega arith);
-        same = λ g v.
-            let w = run-agree spaces j (agree-less (runEnd spaces s j + 1) (omega arith) g) in
-            look-stuck z v j (no-attribute z j c n (ap (byteAt z) w ∙ sym (g .bytes (runEnd spaces s j) h) ∙ e))
-            ∙ sym (look-stuck s v j (no-attribute s j c n e));
-      }
-
-  more-found : (j : ℕ) (t : Tail) → nextAttribute s j .code ≡ 0 → Found s z (nextAttribute s j .to + 1) t → Found s z j t
-  more-found j t o f =
-      record {
-        moved = omega (arith, attribute-after s j o, f .moved);
-        to = λ v. on-test (same v (nextName s j))
-            (λ q. rw (look-here s v j o q) (omega (arith, f .moved))) (λ q. rw (look-on s v j o q) (f .to v));
-        same = λ g v.
-            let w = agree-less (nextAttribute s j .to + 1) (omega (arith, f .moved)) g in
-            let e = next-agree j o w in
-            let n = name-agree j o w in
-            let c : nextAttribute z j .code ≡ 0 = ap (λ (a : Attribute). a .code) e ∙ o in
-            on-test (same v (nextName s j))
-            (λ q. look-here z v j c (ap (same v) n ∙ q) ∙ ap (λ (a : Attribute). record { from = a .from; to = a .to }) e ∙ sym (look-here s v j o q))
-            (λ q. look-on z v j c (ap (same v) n ∙ q) ∙ ap (λ (a : Attribute). look z v (a .to + 1)) e ∙ f .same g v ∙ sym (look-on s v j o q));
-      }
-
-  pub look-found : (first : ℕ) → tailOf s first .code ≡ 0 → Found s z first (tailOf s first)
-  unfolding tailed
-  look-found first =
-      tail-ind s first (Found s z) (λ j e. none-found j 62 _ refl e (omega arith)) (λ j e _. none-found j 47 _ refl e (omega arith))
-      (λ j t _ o _ f. more-found j t o f)
-
--- ## A unit
-
-abbrev pub tagReach : Tag → ℕ
-tagReach t = t .next
-
-module _ {s z : List ℕ} where
-  tag-stuck : (p : ℕ) → p ≤ length s → Told s z tagReach (p + 1) (stuckTag s p) (stuckTag z p)
-  unfolding stuckTag
-  tag-stuck p h = record { on = omega (arith, looked-on s p h); same = λ g. rw (looked-agree p h g, stuck-agree p h g) }
-
-  end-told : (from at e : ℕ) → e ≤ length s → Told s z tagReach (e + 1) (endTag s from at e) (endTag z from at e)
-  unfolding endTag
-  end-told from at e h = told-run tagReach (e + 1) spaces e (ended z) (omega arith)
-      (told-cond tagReach (g + 1) (eqb (byteAt s g) 62) (eqb (byteAt z g) 62) _ _ _ _ (λ w. ap (λ (c : ℕ). eqb c 62) (sym (w .bytes g (omega arith))))
-      (λ _. told-leaf tagReach (g + 1) _ (omega arith)) (λ _. tag-stuck g (run-within spaces s e h)))
-    where
-      g : ℕ
-      g = runEnd spaces s e
-
-      ended : List ℕ → ℕ → Tag
-      ended t g = cond (eqb (byteAt t g) 62) (record { code = 0; form = 2; from = from; at = at; name = at + 2; end = e; next = g + 1 }) (stuckTag t g)
-
-  start-told : (from at e : ℕ) → e ≤ length s → Told s z tagReach (e + 1) (startTag s from at e) (startTag z from at e)
-  unfolding startTag
-  start-told from at e h = let t = tail-told {s = s} {z = z} e h in record { on = t .on; same = λ g. rw (t .same g) }
-
-  tag-told : (from at : ℕ) → at < length s → Told s z tagReach (at + 1 + 1) (tagAt s from at) (tagAt z from at)
-  unfolding tagAt
-  tag-told from at h =
-      told-cond tagReach (at + 1 + 1) (eqb (byteAt s (at + 1)) 47) (eqb (byteAt z (at + 1)) 47) _ _ _ _
-      (λ w. ap (λ (c : ℕ). eqb c 47) (sym (w .bytes (at + 1) (omega arith))))
-      (λ q. let l = inside s (at + 1) 47 (omega arith) (eqb-true _ _ q) in
-      told-less tagReach (at + 1 + 1) (at + 2 + 1) (omega arith)
-      (told-cond tagReach (at + 2 + 1) (isNameStart (byteAt s (at + 2))) (isNameStart (byteAt z (at + 2))) _ _ _ _
-      (λ w. ap (λ (c : ℕ). isNameStart c) (sym (w .bytes (at + 2) (omega arith))))
-      (λ _. told-run tagReach (at + 2 + 1) names (at + 2) (λ e. endTag z from at e) (omega arith)
-      (end-told from at (runEnd names s (at + 2)) (run-within names s (at + 2) (omega arith))))
-      (λ _. tag-stuck (at + 2) (omega arith))))
-      (λ _. told-cond tagReach (at + 1 + 1) (isNameStart (byteAt s (at + 1))) (isNameStart (byteAt z (at + 1))) _ _ _ _
-      (λ w. ap (λ (c : ℕ). isNameStart c) (sym (w .bytes (at + 1) (omega arith))))
-      (λ _. told-run tagReach (at + 1 + 1) names (at + 1) (λ e. startTag z from at e) (omega arith)
-      (start-told from at (runEnd names s (at + 1)) (run-within names s (at + 1) (omega arith))))
-      (λ _. tag-stuck (at + 1) (omega arith)))
-
-  -- a `<` that is a mark or not
-  mark-told : (i at : ℕ) → byteAt s at ≡ 60
-      → Told s z tagReach (at + 1 + 1) (cond (not (isMark s at)) (tagAt s i at) (stuckTag s at)) (cond (not (isMark z at)) (tagAt z i at) (stuckTag z at))
-  unfolding stuckTag
-  mark-told i at e =
-      let h = inside s at 60 (omega arith) e in
-      told-cond tagReach (at + 1 + 1) (not (isMark s at)) (not (isMark z at)) _ _ _ _
-      (λ g. ap not (mark-agree at (omega arith) (agree-less (looked s at) (omega (arith, looked-mark s at e)) g)))
-      (λ _. tag-told i at h)
-      (λ _. record { on = omega (arith, looked-mark s at e); same = tag-stuck at (omega arith) .same })
-
-  pub unit-told : (i : ℕ) → i ≤ length s → Told s z tagReach (i + 1) (unitAt s i) (unitAt z i)
-  unfolding unitAt
-  unit-told i h = told-run tagReach (i + 1) texts i (tagged z) (omega arith)
-      (told-as tagReach {y = cond (eqb (byteAt s at) 60 && not (isMark z at)) (tagAt z i at) (stuckTag z at)} (at + 1) (tagged z at)
-      (λ g. rw (← g .bytes at (omega arith)))
-      (on-test (eqb (byteAt s at) 60)
-      (λ q. rw q (told-less tagReach (at + 1) (at + 1 + 1) (omega arith) (mark-told i at (eqb-true _ _ q))))
-      (λ q. rw q (tag-stuck at (run-within texts s i h)))))
-    where
-      at : ℕ
-      at = runEnd texts s i
-
-      tagged : List ℕ → ℕ → Tag
-      tagged t j = cond (eqb (byteAt t j) 60 && not (isMark t j)) (tagAt t i j) (stuckTag t j)
-
-  -- at a `<`, the byte behind it is looked at
-  pub first-told : (i : ℕ) → byteAt s i ≡ 60 → Told s z tagReach (i + 1 + 1) (unitAt s i) (unitAt z i)
-  unfolding unitAt
-  first-told i e =
-      let h = inside s i 60 (omega arith) e in
-      record { on = rw (text-empty s i e, eq-eqb (byteAt s i) 60 e) (mark-told i i e .on); same = unit-told i (omega arith) .same }

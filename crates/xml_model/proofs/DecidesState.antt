@@ -1,35 +1,33 @@
 -- A unit is judged alike in two texts that agree up to its end, if no id and no name of an open element lies behind it.
 use Prim.Native.Nat.{ℕ, zero, suc, _+_, _-_, _<_, _≤_}
-use mathlib.Core.Path.{_≡_, refl, sym, ap, _∙_}
-use mathlib.Core.Bool.{Bool, true, false, cond, not, _&&_, _||_, true≢false}
+use mathlib.Core.Path.{_≡_, refl, ap, _∙_}
+use mathlib.Core.Bool.{Bool, false, cond, not, true≢false}
 use mathlib.Core.List.{List, [], _∷_}
 use native.Mathlib.Omega.{arith}
 use lib.ListN.{length, getD, set}
 use lib.Seq.{set-out, getD-set-same, getD-set-other}
 use lib.Dec.{eqb, ltb, leb}
 use borrow.Author.Tests.{eqb-true, not-false}
-use Rattle.numbers.specs.Count.{all, first}
+use Rattle.numbers.specs.Count.{first}
 use Rattle.numbers.proofs.Tests.{on-test, on-same}
 use Rattle.numbers.proofs.TableLaws.{all-same, below-or-not, blanks}
-use Rattle.model.specs.Book.{mostTimes}
 use Rattle.xml_model.specs.declared.Range.{Range}
-use Rattle.xml_model.specs.declared.Tail.{Tail}
 use Rattle.xml_model.specs.declared.Tag.{Tag}
 use Rattle.xml_model.specs.declared.Id.{Id}
-use Rattle.xml_model.specs.declared.Ids.{Ids}
 use Rattle.xml_model.specs.declared.State.{State}
 use Rattle.xml_model.specs.declared.Done.{Done}
-use Rattle.xml_model.specs.Bytes.{byteAt, part, bare}
 use Rattle.xml_model.specs.Tags.{look, tailOf, unitAt, startTag}
-use Rattle.xml_model.specs.Elements.{idBytes, idrefBytes, timerBytes, nameOf, rowOf, skippedRole, holdsAnything, childRole, nextState}
-use Rattle.xml_model.specs.Values.{numberIn}
-use Rattle.xml_model.specs.State.{noId, blank, ok, no, andThen, counted, withElements, withIds, alike, sameRange, isId, idsIn, idPosition}
-use Rattle.xml_model.specs.State.{isGiven, idOf, newId, assetNamed, named, begun, withIdref, withTimerOf, opening, textDone, closing}
+use Rattle.xml_model.specs.Elements.{idBytes, idrefBytes, timerBytes, skippedRole, childRole, nextState}
+use Rattle.xml_model.specs.State.{noId, blank, ok, no, andThen, counted, withElements, withIds, alike, sameRange, isId, idsIn}
+use Rattle.xml_model.specs.State.{idPosition}
+use Rattle.xml_model.specs.State.{idOf, newId, assetNamed, named, begun, withIdref, withTimerOf, opening, closing}
 use Rattle.xml_model.specs.Text.{Frame, frame, Verdict, leadsTo, entered, opened, ended, child, judge}
-use Rattle.xml_model.proofs.Units.{look-lies, unit-cases, Lies, unit-lies}
-use Rattle.xml_model.proofs.CountsKept.{Keeps, withId, keeps-ok, keeps-no, keeps-cond, new-keeps, begun-keeps, ended-keeps, opened-keeps, judge-cases}
+use Rattle.xml_model.proofs.Units.{look-lies, unit-cases, unit-lies}
+use Rattle.xml_model.proofs.CountsKept.{Keeps, withId, keeps-ok, keeps-no, keeps-cond, new-keeps, begun-keeps, ended-keeps}
+use Rattle.xml_model.proofs.CountsKept.{opened-keeps, judge-cases}
 use Rattle.xml_model.specs.Import.{Agree}
-use Rattle.xml_model.proofs.DecidesScan.{agree-less, bare-agree, part-agree, Found, look-found}
+use Rattle.xml_model.proofs.DecidesScan.{agree-less, bare-agree, part-agree}
+use Rattle.xml_model.proofs.DecidesTags.{Found, look-found}
 
 -- ## Ids and names that end at n or before
 
@@ -130,7 +128,8 @@ module _ {s z : List ℕ} {n : ℕ} (g : Agree s z n) (t : Tag) (looks : (v : Li
       rw (looks idBytes, looks idrefBytes, looks timerBytes)
       (ap (λ (d : Done). andThen d (others z)) (new-agree g id (begun role id st) (to idBytes) begins)
       ∙ then-agree (newId s id (begun role id st)) (others s) (others z) (λ c. after (newId s id (begun role id st) .state)
-      (new-keeps (IdsTo n) (ids-like n) (ids-named n) (begun role id st) begins s id (ids-fresh n id (to idBytes) (begun role id st) begins) c)))
+      (new-keeps (IdsTo n) (ids-like n) (ids-named n) (begun role id st) begins s id
+      (ids-fresh n id (to idBytes) (begun role id st) begins) c)))
     where
       id : Range
       id = look s idBytes (t .end)
@@ -160,16 +159,22 @@ module _ {s z : List ℕ} {n : ℕ} (g : Agree s z n) (t : Tag) (looks : (v : Li
   unfolding opened entered
   opened-agree h l role k =
       rw (opening-agree role)
-      (ap (λ (d : Done). cond (eqb (t .form) 0) (leadsTo (frame (t .name) (t .end) role 0 ∷ k) (andThen enters counted)) (leadsTo k (andThen d counted)))
+      (ap (λ (d : Done). cond (eqb (t .form) 0) opens (leadsTo k (andThen d counted)))
       (then-agree enters (closes s) (closes z) (λ _. closing-agree g (t .next) (t .next) role 0 _ h l)))
     where
       enters : Done
       enters = cond (leb 12 (length k)) (no 41) (cond (eqb role skippedRole) (ok st) (opening s t role st))
 
+      opens : Verdict
+      opens = leadsTo (frame (t .name) (t .end) role 0 ∷ k) (andThen enters counted)
+
       closes : List ℕ → State → Done
       closes x u = closing x (t .next) (t .next) role 0 u
 
 -- ## A unit
+
+pub unit-after : (s : List ℕ) (p : ℕ) → unitAt s p .code ≡ 0 → p < unitAt s p .next
+unit-after s p o = let l = unit-lies s p o in omega (arith, l .text, l .before, l .named, l .ended)
 
 -- a tag that opens an element ends where its tail does
 unit-found : {s z : List ℕ} (p : ℕ) → unitAt s p .code ≡ 0 → eqb (unitAt s p .form) 2 ≡ false
@@ -180,7 +185,8 @@ unit-found {s} {z} p = unit-cases s p _ refl
     (λ _ _ _ e c _ _ _ f. absurd (true≢false f)) (λ _ _ _ e _ o _. (look-found e o, refl))
 
 module _ {s z : List ℕ} (p : ℕ) (o : unitAt s p .code ≡ 0) (q : eqb (unitAt s p .form) 2 ≡ false) (g : Agree s z (unitAt s p .next)) where
-  pub unit-opened : (role : ℕ) (k : List Frame) (st : State) → IdsTo (unitAt s p .next) st → opened z (unitAt s p) role k st ≡ opened s (unitAt s p) role k st
+  pub unit-opened : (role : ℕ) (k : List Frame) (st : State) → IdsTo (unitAt s p .next) st
+      → opened z (unitAt s p) role k st ≡ opened s (unitAt s p) role k st
   unit-opened role k st f =
       let w = unit-found {s = s} {z = z} p o q in
       let l = unit-lies s p o in
@@ -192,35 +198,42 @@ module _ {s z : List ℕ} (p : ℕ) (e : Frame) (k : List Frame) (st : State) (b
   ended-agree o =
       let t = unitAt s p in
       let l = unit-lies s p o in
+      let h = unit-after s p o in
+      let m : t .at ≤ t .next = omega (arith, l .before, l .named, l .ended) in
       rw (
-        range-agree g (t .name) (t .end) (e .name) (e .end) (omega (arith, l .ended)) (omega (arith, b .names .0, l .text, l .before, l .named, l .ended)),
-        closing-agree g (t .from) (t .at) (e .role) (e .state) st (omega (arith, l .before, l .named, l .ended)) (omega (arith, l .before, l .named, l .ended, l .next)),
+        range-agree g (t .name) (t .end) (e .name) (e .end) (omega (arith, l .ended)) (omega (arith, b .names .0)),
+        closing-agree g (t .from) (t .at) (e .role) (e .state) st m (omega (arith, l .next)),
       )
 
-  child-agree : (o : unitAt s p .code ≡ 0) → eqb (unitAt s p .form) 2 ≡ false → (m : ℕ) → child z (unitAt s p) e k st m ≡ child s (unitAt s p) e k st m
+  -- an element that it opens in e
+  in-agree : (o : unitAt s p .code ≡ 0) → eqb (unitAt s p .form) 2 ≡ false → (role x : ℕ)
+      → opened z (unitAt s p) role (frame (e .name) (e .end) (e .role) x ∷ k) st
+      ≡ opened s (unitAt s p) role (frame (e .name) (e .end) (e .role) x ∷ k) st
+  in-agree o q role x =
+      let h = unit-after s p o in unit-opened p o q g role _ st (ids-less p (unitAt s p .next) st (omega arith) (b .ids))
+
+  child-agree : (o : unitAt s p .code ≡ 0) → eqb (unitAt s p .form) 2 ≡ false → (m : ℕ)
+      → child z (unitAt s p) e k st m ≡ child s (unitAt s p) e k st m
   unfolding child
   child-agree o q m =
       let t = unitAt s p in
       let l = unit-lies s p o in
       rw (
         bare-agree (t .from) (t .at) (agree-less (t .at) (omega (arith, l .before, l .named, l .ended)) g),
-        unit-opened p o q g (childRole m) (frame (e .name) (e .end) (e .role) (nextState m) ∷ k) st
-            (ids-less p (t .next) st (omega (arith, l .text, l .before, l .named, l .ended)) (b .ids)),
+        in-agree o q (childRole m) (nextState m),
       )
 
   pub judge-agree : judge z (unitAt s p) e k st ≡ judge s (unitAt s p) e k st
   unfolding judge
   judge-agree = on-test (not (eqb (unitAt s p .code) 0)) (λ c. rw c)
-      (λ c. let o = eqb-true (unitAt s p .code) 0 (not-false _ c) in
+      (λ c.
+      let t = unitAt s p in
+      let o = eqb-true (t .code) 0 (not-false _ c) in
       let l = unit-lies s p o in
+      let w = part-agree (t .name) (t .end) (omega (arith, l .ended)) (omega (arith, l .ended, l .next)) g in
       rw c
       (on-test (eqb (unitAt s p .form) 2) (λ q. rw (q, ended-agree o))
-      (λ q. rw (
-        q,
-        part-agree (unitAt s p .name) (unitAt s p .end) (omega (arith, l .ended)) (omega (arith, l .ended, l .next)) g,
-        child-agree o q,
-        unit-opened p o q g skippedRole (e ∷ k) st (ids-less p (unitAt s p .next) st (omega (arith, l .text, l .before, l .named, l .ended)) (b .ids)),
-      ))))
+      (λ q. rw (q, w, child-agree o q, in-agree o q skippedRole (e .state)))))
 
 -- ## What a unit leads to lies before its end
 
@@ -228,12 +241,13 @@ module _ (s : List ℕ) (p : ℕ) where
   unfoldable pub Leaves : Verdict → Type 0
   Leaves v = v .code ≡ 0 → Before (unitAt s p .next) (v .stack) (v .state)
 
-  opened-names : (n : ℕ) (t : Tag) (role : ℕ) (k : List Frame) (st : State) → t .end ≤ n → NamesTo n k → NamesTo n (opened s t role k st .stack)
+  opened-names : (n : ℕ) (t : Tag) (role : ℕ) (k : List Frame) (st : State) → t .end ≤ n → NamesTo n k
+      → NamesTo n (opened s t role k st .stack)
   unfolding opened leadsTo
   opened-names n t role k st h f = on-test (eqb (t .form) 0) (λ q. rw q (h, f)) (λ q. rw q f)
 
-  pub opened-leaves : unitAt s p .code ≡ 0 → eqb (unitAt s p .form) 2 ≡ false → (role : ℕ) (k : List Frame) (st : State) → Before (unitAt s p .next) k st
-      → Leaves (opened s (unitAt s p) role k st)
+  pub opened-leaves : unitAt s p .code ≡ 0 → eqb (unitAt s p .form) 2 ≡ false → (role : ℕ) (k : List Frame) (st : State)
+      → Before (unitAt s p .next) k st → Leaves (opened s (unitAt s p) role k st)
   unfolding Leaves
   opened-leaves o q role k st b c =
       let t = unitAt s p in
@@ -241,7 +255,8 @@ module _ (s : List ℕ) (p : ℕ) where
       let w = unit-found {s = s} {z = s} p o q in
       record {
         ids = opened-keeps (IdsTo (t .next)) (ids-like (t .next)) (ids-named (t .next)) s t
-            (ids-fresh (t .next) (look s idBytes (t .end)) (rw (w .1) at (w .0 .to idBytes))) st (b .ids) (IdsTo (t .next)) (ids-counted (t .next)) role k c;
+            (ids-fresh (t .next) (look s idBytes (t .end)) (rw (w .1) at (w .0 .to idBytes))) st (b .ids) (IdsTo (t .next))
+            (ids-counted (t .next)) role k c;
         names = opened-names (t .next) t role k st (omega (arith, l .ended)) (b .names);
       }
 
@@ -250,14 +265,12 @@ module _ (s : List ℕ) (p : ℕ) where
   judge-leaves e k st b =
       judge-cases s (unitAt s p) e k st Leaves (λ c f z. absurd (f z))
       (λ o _ c. let n = unitAt s p .next in
-      let l = unit-lies s p o in
-      let h : p ≤ unitAt s p .next = omega (arith, l .text, l .before, l .named, l .ended) in
+      let h : p ≤ unitAt s p .next = omega (arith, unit-after s p o) in
       record {
         ids = ended-keeps (IdsTo n) (ids-like n) (ids-named n) st (ids-less p n st h (b .ids)) s (unitAt s p) e c;
         names = names-less p n k h (b .names .1);
       })
       (λ o q role x. let n = unitAt s p .next in
-      let l = unit-lies s p o in
-      let h : p ≤ unitAt s p .next = omega (arith, l .text, l .before, l .named, l .ended) in
+      let h : p ≤ unitAt s p .next = omega (arith, unit-after s p o) in
       opened-leaves o q role (frame (e .name) (e .end) (e .role) x ∷ k) st
       (record { ids = ids-less p n st h (b .ids); names = names-less p n (e ∷ k) h (b .names) }))

@@ -10,6 +10,7 @@ pub mod LegalCodes
 pub mod LegalState
 pub mod Legal
 pub mod DecidesScan
+pub mod DecidesTags
 pub mod DecidesState
 pub mod Decides
 pub mod Import
