@@ -22,7 +22,8 @@ use Rattle.xml_model.proofs.Runs.{run-within, looked-on}
 use Rattle.xml_model.proofs.CountsUnits.{text-empty}
 use Rattle.xml_model.proofs.Units.{nextAttribute, nextName, attribute-written, attribute-held}
 use Rattle.xml_model.proofs.Units.{look-stuck, look-here, look-on, tail-more, tail-falls, tail-ind}
-use Rattle.xml_model.proofs.DecidesScan.{Agree, agree-less, run-agree, part-agree, looked-mark, looked-agree, mark-agree}
+use Rattle.xml_model.specs.Import.{Agree}
+use Rattle.xml_model.proofs.DecidesScan.{agree-less, run-agree, part-agree, looked-mark, looked-agree, mark-agree}
 use Rattle.xml_model.proofs.DecidesScan.{stuck-agree, Told, told-leaf, told-less, told-as, told-branch}
 use Rattle.xml_model.proofs.DecidesScan.{told-cond, told-byte, told-run, told-map, attributeReach, reach-accepted, attribute-told}
 use Rattle.xml_model.proofs.DecidesScan.{Reaches}
