@@ -24,7 +24,6 @@ use book::at_most_64;
 use book::blank_entry;
 use book::refusal;
 use choice::Best;
-use choice::begin_code;
 use choice::consider_row;
 use choice::row_of;
 use index::end_of;
@@ -36,6 +35,7 @@ use lent::shut_player;
 use numbers::min_size;
 use numbers::min_time;
 use record::decode;
+use rules::begin_code;
 use rules::gate_of;
 use rules::kind_number;
 use rules::noted_last;
@@ -105,6 +105,7 @@ pub fn answer_block(b: Book, records: &[u8], out: &mut [u8]) -> Block
             }
             Decoded::Valid(event) => {
                 let request = event.request;
+                let noted = noted_last(event, refusal(0));
                 let j = (event.player % 16) as usize;
                 let asking = book.players[j];
                 let last = asking.last;
@@ -113,8 +114,8 @@ pub fn answer_block(b: Book, records: &[u8], out: &mut [u8]) -> Block
                         at = put_line(out, at, refusal(code));
                     }
                     Gate::Resend => {
-                        let stored = last.answer;
-                        at = put_line(out, at, stored);
+                        let again = last.answer;
+                        at = put_line(out, at, again);
                     }
                     Gate::Take => {
                         let t = event.time;
@@ -232,15 +233,17 @@ pub fn answer_block(b: Book, records: &[u8], out: &mut [u8]) -> Block
                             }
                             answer = part.answer;
                             current = part.current;
+                            let end = end_of(current);
+                            ends[j] = end;
+                            next = min_time(next, end);
                         }
+                        let mut stored = noted;
+                        stored.answer = answer;
                         let q = Player {
-                            last: noted_last(event, answer),
+                            last: stored,
                             current: current,
                         };
                         book.players[j] = q;
-                        let end = end_of(current);
-                        ends[j] = end;
-                        next = min_time(next, end);
                         at = put_line(out, at, answer);
                     }
                 }

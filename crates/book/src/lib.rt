@@ -10,7 +10,7 @@ ghost use Rattle.book.specs.Blank.{noAsset, noEntry, noPlayer, noBook, c
 pub const LATEST_TIME: u32 = 4000000000;
 
 // Later than any time that an event or an until can have.
-pub const NEVER: u32 = 4294967295;
+pub const NEVER: u32 = u32::MAX;
 
 // Later than any end.
 pub const NO_END: u64 = 4294967296;
@@ -19,9 +19,6 @@ pub const NO_END: u64 = 4294967296;
 pub const RECORD_SIZE: usize = 13;
 
 pub const RECORD_LAST: usize = RECORD_SIZE - 1;
-
-// "13 | suitable, none grantable"
-pub const NONE_GRANTABLE: u8 = 13;
 
 pub struct Asset {
     pub number: u16,
