@@ -52,7 +52,8 @@ use Rattle.batch.specs.NextExpiry.{NextExpiry, leastEnd, expiry-start, S
 use Rattle.batch.specs.NextExpiry.{end-due, end-on, reached, kept-end, ends-next, ends-same, shut-end}
 use Rattle.batch.specs.StepCases.{looked, looked-most, actOn, closing, doneOn, Admitted, admitted, Planned, planned-continue}
 use Rattle.batch.specs.StepCases.{planned-stop, planned-begin, usable-is, parent-is, case-invalid, case-refused, case-resent}
-use Rattle.batch.specs.StepCases.{answeredBy, noted-answer, case-taken, released-due, released-far, released-still, shut-not, rows-next}
+use Rattle.batch.specs.StepCases.{answeredBy, noted-answer, case-taken, released-due, released-far, released-still, shut-not}
+use Rattle.batch.specs.StepCases.{rows-next}
 use Rattle.batch.proofs.answer_block.Statement.{statement}
 use Rattle.batch.proofs.answer_block.Tie as tie
 
@@ -231,7 +232,8 @@ planned c =
     let asset = w .1 .given .0 .1 .0 in
     let kind = w .3 .result in
     let r = w .6 .result in
-    let tables = c .before .before .before .before .before .before .before .before .before .before .before .before .before .before .before .before .before .before .before .before .before .before .before .before .before .before .before .fill-places .ensures in
+    let tables = c .before .before .before .before .before .before .before .before .before .before .before .before .before .before
+    .before .before .before .before .before .before .before .before .before .before .before .before .before .fill-places .ensures in
     let hr = w .6 .ensures ∙ ap₂ (λ (x y : List ℕ). reachAt x y asset) (tables .0) (tables .1) in
     let end : w .10 .e ≡ w .9 .result = omega (arith, w .10 .inv .0, w .11 .left) in
     planned-begin n e o sort asset kind (c .match3 .k) (c .match3 .code) (w .9 .result) r (w .10 .best)
@@ -504,7 +506,7 @@ put-line-requires-2 :
 put-line-requires-2 c κs = tt
 
 loop-less-2 : tie.Need-loop-less-2 Inv-loop2 μ-loop2 Inv-loop3 μ-loop3 Inv-loop μ-loop
-loop-less-2 c = omega (arith, c .before .before .before .before .before .before .before .before .before .before .before .before .before .before .before .before .before .before .before .before .loop-test .taken)
+loop-less-2 c = let r = read (c .before .before .before .before .before .before .before .before) in omega (arith, turn r .loop-test .taken)
 
 loop-again-2 : tie.Need-loop-again-2 Inv-loop2 μ-loop2 Inv-loop3 μ-loop3 Inv-loop μ-loop
 loop-again-2 c =
@@ -861,7 +863,9 @@ put-line-requires-4 :
 put-line-requires-4 c κs = tt
 
 loop-less-4 : tie.Need-loop-less-4 Inv-loop2 μ-loop2 Inv-loop3 μ-loop3 Inv-loop μ-loop
-loop-less-4 c = omega (arith, c .before .before .before .before .before .before .before .before .before .before .before .before .before .before .before .before .before .before .before .before .before .before .before .before .before .before .before .loop-test .taken)
+loop-less-4 c =
+    let r = read (judged (taken (all-settled (chosen (c .before .before .before .before))))) in
+    omega (arith, turn r .loop-test .taken)
 
 loop-again-4 : tie.Need-loop-again-4 Inv-loop2 μ-loop2 Inv-loop3 μ-loop3 Inv-loop μ-loop
 loop-again-4 c =

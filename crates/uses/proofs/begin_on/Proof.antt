@@ -31,7 +31,10 @@ returns-2 : tie.Need-returns-2
 unfolding beginOn
 returns-2 c =
     let a = c .before .before .before .before .before .args in
-    rw (sym (c .before .before .before .grantable .ensures) ∙ not-false _ (c .before .before .if1 .left), lt-leb _ _ (c .before .if2 .taken))
+    rw (
+      sym (c .before .before .before .grantable .ensures) ∙ not-false _ (c .before .before .if1 .left),
+      lt-leb _ _ (c .before .if2 .taken),
+    )
     (c .kept2 .ensures ∙ ap (λ (x : ℕ). kept x (a .m) (a .o)) (c .before .before .before .before .begin-code .ensures))
 
 grant-until-requires : tie.Need-grant-until-requires
