@@ -19,7 +19,7 @@ pub const MOST_TIMES: u32 = 1000000;
 pub const MOST_SECONDS: u32 = 100000000;
 
 // Later than any time that an event or an until can have.
-pub const NEVER: u32 = 4294967295;
+pub const NEVER: u32 = u32::MAX;
 
 // Later than any end.
 pub const NO_END: u64 = 4294967296;
@@ -28,9 +28,6 @@ pub const NO_END: u64 = 4294967296;
 pub const RECORD_SIZE: usize = 13;
 
 pub const RECORD_LAST: usize = RECORD_SIZE - 1;
-
-// "13 | suitable, none grantable"
-pub const NONE_GRANTABLE: u8 = 13;
 
 pub struct Asset {
     pub number: u16,

@@ -2,8 +2,8 @@
 use mathlib.Core.Path.{refl}
 use native.Mathlib.Omega.{arith}
 use Rattle.model.specs.Image.{headerSize}
-use Rattle.image_parse.proofs.header_size.Statement.{statement}
-use Rattle.image_parse.proofs.header_size.Tie as tie
+use Rattle.image_pieces.proofs.header_size.Statement.{statement}
+use Rattle.image_pieces.proofs.header_size.Tie as tie
 
 returns : tie.Need-returns
 unfolding headerSize

@@ -2,9 +2,9 @@
 use mathlib.Core.Path.{refl}
 use Prim.Native.Nat.{_≤_}
 use native.Mathlib.Omega.{arith}
-use Rattle.image_parse.specs.Tables.{rows-most}
-use Rattle.image_parse.proofs.rows.Statement.{statement}
-use Rattle.image_parse.proofs.rows.Tie as tie
+use Rattle.image_pieces.specs.Sizes.{rows-most}
+use Rattle.image_pieces.proofs.rows.Statement.{statement}
+use Rattle.image_pieces.proofs.rows.Tie as tie
 
 mul-result : tie.Need-mul-result
 mul-result c = let n : c .args .n ≤ 255 = omega arith in let h = rows-most (c .args .width) (c .args .n) (c .pre) n in omega (arith, h)

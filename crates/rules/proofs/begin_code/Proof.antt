@@ -1,9 +1,9 @@
--- `choice::begin_code` meets its contract: each return is the definition's case.
+-- `rules::begin_code` meets its contract: each return is the definition's case.
 use mathlib.Core.Path.{refl}
 use borrow.Author.Tests.{lt-ltb, le-ltb, not-true, not-false}
 use borrow.Author.Needs.{needs}
-use Rattle.choice.proofs.begin_code.Statement.{statement}
-use Rattle.choice.proofs.begin_code.Tie as tie
+use Rattle.rules.proofs.begin_code.Statement.{statement}
+use Rattle.rules.proofs.begin_code.Tie as tie
 
 returns : tie.Need-returns
 returns c = search needs

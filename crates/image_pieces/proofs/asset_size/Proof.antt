@@ -2,8 +2,8 @@
 use mathlib.Core.Path.{refl}
 use native.Mathlib.Omega.{arith}
 use Rattle.model.specs.Image.{assetSize}
-use Rattle.image_parse.proofs.asset_size.Statement.{statement}
-use Rattle.image_parse.proofs.asset_size.Tie as tie
+use Rattle.image_pieces.proofs.asset_size.Statement.{statement}
+use Rattle.image_pieces.proofs.asset_size.Tie as tie
 
 returns : tie.Need-returns
 unfolding assetSize
