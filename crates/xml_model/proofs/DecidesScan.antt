@@ -18,7 +18,8 @@ use Rattle.xml_model.proofs.Runs.{byte-in, byte-out, byte-inside, insid
 use Rattle.xml_model.proofs.Runs.{run-within, in-run, run-ends, stuck-pos, looked-on}
 use Rattle.xml_model.proofs.Units.{nextAttribute, nextName, attribute-written, attribute-held, given-out, given-here, given-on}
 
--- the first n places of two texts hold the same: one byte, or the end of both
+-- The first n places of two texts hold the same: one byte, or the end of both. The bytes say where a text ends if it is of bytes
+-- (`agree-bytes` in `Decides`); a list that holds 256 is none.
 pub record Agree (s z : List ℕ) (n : ℕ) : Type 0 where
   pub bytes : (i : ℕ) → i < n → byteAt s i ≡ byteAt z i
   pub ends : (i : ℕ) → i < n → ltb i (length s) ≡ ltb i (length z)
