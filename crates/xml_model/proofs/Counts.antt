@@ -1,6 +1,6 @@
 -- "The reader reports the number of elements it opened, the same as in the text".
 use Prim.Native.Nat.{ℕ, zero, suc, _+_, _-_, _≤_}
-use mathlib.Core.Path.{_≡_, refl, sym, ap, _∙_}
+use mathlib.Core.Path.{_≡_, refl, sym, _∙_}
 use mathlib.Core.Bool.{Bool, true, false, cond, not, _&&_}
 use mathlib.Core.List.{List, [], _∷_}
 use native.Mathlib.Omega.{arith}
@@ -35,7 +35,7 @@ Elements n st = st .elements ≡ n
 counted-more : (n : ℕ) (st : State) → Elements n st → Keeps (Elements (n + 1)) (counted st)
 unfolding counted withElements Elements
 counted-more n st e = keeps-cond (Elements (n + 1)) (ltb (st .elements) 256) _ _
-    (keeps-ok (Elements (n + 1)) _ (ap (λ (m : ℕ). m + 1) e)) (keeps-no (Elements (n + 1)) 42 (λ z. omega arith))
+    (keeps-ok (Elements (n + 1)) _ (omega arith)) (keeps-no (Elements (n + 1)) 42 (λ z. omega arith))
 
 opened-counts : (s : List ℕ) (t : Tag) (role : ℕ) (k : List Frame) (st : State) → opened s t role k st .code ≡ 0
     → opened s t role k st .state .elements ≡ st .elements + 1

@@ -186,7 +186,7 @@ module _ {s z : List ℕ} where
       (follow-told (t .next) (first s) (l .next)
       (opened-leaves s i o f rightsRole [] blank (record { ids = ids-blank (t .next); names = tt }))))
       (finish-told (follow s (t .next) (first s)) (follow-within s (t .next) (first s) (l .next))))
-      (λ _. refusal-told (t .next) 41 (t .next) (λ e. omega arith) (omega arith)))
+      (λ _. refusal-told (t .next) 41 _ (λ e. omega arith) (omega arith)))
     where
       t : Tag
       t = unitAt s i

@@ -21,7 +21,8 @@ pub data Code (c : ℕ) : Type 0 where
   not-accepted : c ≡ 41 → Code c
   too-much : c ≡ 42 → Code c
 
--- the first n places of two texts hold the same: one byte, or the end of both
+-- The first n places of two texts hold the same: one byte, or the end of both. Of texts of bytes, the bytes say where they end
+-- (`agreeing` below).
 pub record Agree (s z : List ℕ) (n : ℕ) : Type 0 where
   pub bytes : (i : ℕ) → i < n → byteAt s i ≡ byteAt z i
   pub ends : (i : ℕ) → i < n → ltb i (length s) ≡ ltb i (length z)
