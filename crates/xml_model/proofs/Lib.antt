@@ -1,4 +1,5 @@
 -- Laws of the definitions in specs/, theorems about the reader of XML rights objects, and runs on constants.
+pub mod Examples
 pub mod Repeats
 pub mod Runs
 pub mod Units
@@ -14,4 +15,3 @@ pub mod DecidesTags
 pub mod DecidesState
 pub mod Decides
 pub mod Import
-pub mod Examples
