@@ -104,10 +104,7 @@ pub fn with_book(b: Book, mut st: State) -> State
 pub fn accepted(st: State) -> Done
     ensures { λ r. ⌜ r ≡ ok st ⌝ }
 {
-    Done {
-        code: 0,
-        state: st,
-    }
+    Done { code: 0, state: st }
 }
 
 // Rules out: a state that is not blank beside the code of a fault.

@@ -3,10 +3,7 @@ use mathlib.Core.Path.{refl}
 use Rattle.xml_model.specs.State.{ok}
 use Rattle.xml_steps.proofs.accepted.Statement.{statement}
 use Rattle.xml_steps.proofs.accepted.Tie as tie
-use Rattle.xml_steps.proofs.accepted.Reads as reads
-use Rattle.xml_steps.proofs.accepted.Lts as lts
 
--- src/lib.rt:104:1
 returns : tie.Need-returns
 unfolding ok
 returns c = refl

@@ -3,25 +3,16 @@ use Rattle.xml_model.specs.State.{blank}
 use borrow.Author.Needs.{needs}
 use Rattle.xml_steps.proofs.blank_state.Statement.{statement}
 use Rattle.xml_steps.proofs.blank_state.Tie as tie
-use Rattle.xml_steps.proofs.blank_state.Reads as reads
-use Rattle.xml_steps.proofs.blank_state.Lts as lts
-use Rattle.book.proofs.blank_asset.Reads as blank-asset-reads
-use Rattle.book.proofs.blank_book.Reads as blank-book-reads
-use Rattle.book.proofs.blank_entry.Reads as blank-entry-reads
 
--- src/lib.rt:27:9
 blank-entry-requires : tie.Need-blank-entry-requires
 blank-entry-requires c κs = search needs
 
--- src/lib.rt:45:16
 blank-asset-requires : tie.Need-blank-asset-requires
 blank-asset-requires c κs = search needs
 
--- src/lib.rt:49:15
 blank-book-requires : tie.Need-blank-book-requires
 blank-book-requires c κs = search needs
 
--- src/lib.rt:24:1
 returns : tie.Need-returns
 unfolding blank
 returns c = rw (c .blank-book .ensures, c .before .blank-asset .ensures, c .before .before .before .blank-entry .ensures)

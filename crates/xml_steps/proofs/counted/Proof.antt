@@ -4,34 +4,23 @@ use Rattle.xml_model.specs.State.{counted}
 use borrow.Author.Needs.{needs}
 use Rattle.xml_steps.proofs.counted.Statement.{statement}
 use Rattle.xml_steps.proofs.counted.Tie as tie
-use Rattle.xml_steps.proofs.counted.Reads as reads
-use Rattle.xml_steps.proofs.counted.Lts as lts
-use Rattle.xml_steps.proofs.accepted.Reads as accepted-reads
-use Rattle.xml_steps.proofs.refused.Reads as refused-reads
-use Rattle.xml_steps.proofs.with_elements.Reads as with-elements-reads
 
--- src/lib.rt:130:39
 add-with-elements : tie.Need-add-with-elements
 add-with-elements c = search needs
 
--- src/lib.rt:130:25
 with-elements-requires : tie.Need-with-elements-requires
 with-elements-requires c κs = search needs
 
--- src/lib.rt:130:9
 accepted-requires : tie.Need-accepted-requires
 accepted-requires c κs = search needs
 
--- src/lib.rt:130:9
 returns : tie.Need-returns
 unfolding counted
 returns c = rw (c .accepted .ensures, c .before .with-elements .ensures, lt-ltb _ _ (c .before .before .if1 .taken))
 
--- src/lib.rt:132:5
 refused-requires : tie.Need-refused-requires
 refused-requires c κs = search needs
 
--- src/lib.rt:125:1
 returns-2 : tie.Need-returns-2
 unfolding counted
 returns-2 c = rw (c .refused .ensures, le-ltb _ _ (c .before .if1 .left))

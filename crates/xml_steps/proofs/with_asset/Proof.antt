@@ -3,10 +3,7 @@ use mathlib.Core.Path.{refl}
 use Rattle.xml_model.specs.State.{withAsset}
 use Rattle.xml_steps.proofs.with_asset.Statement.{statement}
 use Rattle.xml_steps.proofs.with_asset.Tie as tie
-use Rattle.xml_steps.proofs.with_asset.Reads as reads
-use Rattle.xml_steps.proofs.with_asset.Lts as lts
 
--- src/lib.rt:70:1
 returns : tie.Need-returns
 unfolding withAsset
 returns c = refl

@@ -3,10 +3,7 @@ use mathlib.Core.Path.{refl}
 use Rattle.xml_model.specs.State.{withBook}
 use Rattle.xml_steps.proofs.with_book.Statement.{statement}
 use Rattle.xml_steps.proofs.with_book.Tie as tie
-use Rattle.xml_steps.proofs.with_book.Reads as reads
-use Rattle.xml_steps.proofs.with_book.Lts as lts
 
--- src/lib.rt:95:1
 returns : tie.Need-returns
 unfolding withBook
 returns c = refl

@@ -3,10 +3,7 @@ use mathlib.Core.Path.{refl}
 use Rattle.xml_model.specs.State.{withElements}
 use Rattle.xml_steps.proofs.with_elements.Statement.{statement}
 use Rattle.xml_steps.proofs.with_elements.Tie as tie
-use Rattle.xml_steps.proofs.with_elements.Reads as reads
-use Rattle.xml_steps.proofs.with_elements.Lts as lts
 
--- src/lib.rt:54:1
 returns : tie.Need-returns
 unfolding withElements
 returns c = refl

@@ -3,10 +3,7 @@ use mathlib.Core.Path.{refl}
 use Rattle.xml_model.specs.State.{withIds}
 use Rattle.xml_steps.proofs.with_ids.Statement.{statement}
 use Rattle.xml_steps.proofs.with_ids.Tie as tie
-use Rattle.xml_steps.proofs.with_ids.Reads as reads
-use Rattle.xml_steps.proofs.with_ids.Lts as lts
 
--- src/lib.rt:62:1
 returns : tie.Need-returns
 unfolding withIds
 returns c = refl

@@ -3,10 +3,7 @@ use mathlib.Core.Path.{refl}
 use Rattle.xml_model.specs.State.{withLimits}
 use Rattle.xml_steps.proofs.with_limits.Statement.{statement}
 use Rattle.xml_steps.proofs.with_limits.Tie as tie
-use Rattle.xml_steps.proofs.with_limits.Reads as reads
-use Rattle.xml_steps.proofs.with_limits.Lts as lts
 
--- src/lib.rt:87:1
 returns : tie.Need-returns
 unfolding withLimits
 returns c = refl

@@ -3,10 +3,7 @@ use mathlib.Core.Path.{refl}
 use Rattle.xml_model.specs.State.{withReferences}
 use Rattle.xml_steps.proofs.with_references.Statement.{statement}
 use Rattle.xml_steps.proofs.with_references.Tie as tie
-use Rattle.xml_steps.proofs.with_references.Reads as reads
-use Rattle.xml_steps.proofs.with_references.Lts as lts
 
--- src/lib.rt:79:1
 returns : tie.Need-returns
 unfolding withReferences
 returns c = refl
