@@ -2,9 +2,10 @@
 // is a range of the text. No function here asks anything of the ranges or of the tables' counts.
 ghost use mathlib.Core.Path.{_≡_};
 ghost use mathlib.Core.Bool.{false, cond};
-ghost use Prim.Native.Nat.{_+_, _<_, _≤_};
-ghost use Rattle.xml_model.specs.State.{idsIn, idPosition, withOneId, newId, assetNamed, objectAlone, withTimer, flagOf, withFlag};
-ghost use Rattle.xml_model.specs.State.{withLimit, begun, referred, withIdref, stored, keyDone};
+ghost use Prim.Native.Nat.{_+_, _<_, _≤_, min};
+ghost use lib.ListN.{set};
+ghost use Rattle.xml_model.specs.State.{idsIn, idPosition, idOf, newId, assetNamed, objectAlone, withTimer, flagOf, withFlag};
+ghost use Rattle.xml_model.specs.State.{withLimit, referred, withIdref, stored, keyDone};
 use book::Limits;
 use book::blank_asset;
 use numbers::min_size;
@@ -25,6 +26,20 @@ use xml_steps::with_asset;
 use xml_steps::with_ids;
 use xml_steps::with_limits;
 use xml_steps::with_references;
+
+const ASSET: u8 = 10;
+const PERMISSION: u8 = 14;
+const REFERENCE: u8 = 15;
+const COUNT: u8 = 22;
+const TIMED_COUNT: u8 = 23;
+const START: u8 = 25;
+const END: u8 = 26;
+const INTERVAL: u8 = 27;
+const ACCUMULATED: u8 = 28;
+const VERSION: u8 = 5;
+const OBJECT_UID: u8 = 6;
+const ASSET_UID: u8 = 7;
+const INHERIT_UID: u8 = 8;
 
 fn ids_in(g: Ids) -> usize
     ensures { λ r. ⌜ r ≡ idsIn g ⌝ }
@@ -50,7 +65,7 @@ fn id_position(s: &[u8], g: Ids, value: Range) -> usize
 
 // One id more. A full table stays as it is.
 fn with_one_id(value: Range, mut g: Ids) -> Ids
-    ensures { λ r. ⌜ r ≡ withOneId value g ⌝ }
+    ensures { λ r. ⌜ r ≡ record { count = min (idsIn g + 1) 256; table = set (g .table) (idsIn g) (idOf value) } ⌝ }
 {
     let n = ids_in(g);
     if 256 <= n {
@@ -165,4 +180,73 @@ fn with_limit(role: u8, x: u32, l: Limits) -> Limits
         interval: pick32(role == INTERVAL, x, l.interval),
         accumulated: pick32(role == ACCUMULATED, x, l.accumulated),
     }
+}
+
+// One reference more. Those behind the 64th are counted, up to 65.
+fn referred(x: u16, mut references: References) -> References
+    ensures { λ r. ⌜ r ≡ referred x references ⌝ }
+{
+    let n = references.count as usize;
+    if 64 <= n {
+        references.count = 65;
+        return references;
+    }
+    references.table[n] = x;
+    references.count = (n + 1) as u8;
+    references
+}
+
+// An idref, if there is one, is the id of an asset that is closed; an asset reference has one.
+fn with_idref(s: &[u8], value: Range, role: u8, st: State) -> Done
+    ensures { λ r. ⌜ r ≡ withIdref (now (s .entry)) value role st ⌝ }
+{
+    if value.from == 0 {
+        if role == REFERENCE {
+            return refused(41);
+        }
+        return accepted(st);
+    }
+    let g = st.ids;
+    let x = asset_named(s, g, value);
+    if x == 0 {
+        return refused(41);
+    }
+    if role == REFERENCE {
+        let references = st.references;
+        return accepted(with_references(referred(x, references), st));
+    }
+    accepted(st)
+}
+
+// A text value in its place.
+fn stored(role: u8, x: u32, st: State) -> State
+    requires { ⌜ (6 ≤ role → role ≤ 8 → x ≤ 65535) ⌝ }
+    ensures { λ r. ⌜ r ≡ stored role x st ⌝ }
+{
+    if role == VERSION {
+        return st;
+    }
+    if role == OBJECT_UID {
+        return with_limits(object_alone(x as u16), st);
+    }
+    let mut a = st.asset;
+    let i = st.assetid;
+    if role == ASSET_UID {
+        a.number = x as u16;
+        return with_asset(a, i, st);
+    }
+    if role == INHERIT_UID {
+        a.inherit = x as u16;
+        return with_asset(a, i, st);
+    }
+    let l = st.limits;
+    with_limits(with_limit(role, x, l), st)
+}
+
+fn key_done(st: State) -> State
+    ensures { λ r. ⌜ r ≡ keyDone st ⌝ }
+{
+    let mut a = st.asset;
+    a.key = 1;
+    with_asset(a, st.assetid, st)
 }
