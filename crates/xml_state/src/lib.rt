@@ -28,17 +28,29 @@ use xml_steps::with_limits;
 use xml_steps::with_references;
 
 const ASSET: u8 = 10;
+
 const PERMISSION: u8 = 14;
+
 const REFERENCE: u8 = 15;
+
 const COUNT: u8 = 22;
+
 const TIMED_COUNT: u8 = 23;
+
 const START: u8 = 25;
+
 const END: u8 = 26;
+
 const INTERVAL: u8 = 27;
+
 const ACCUMULATED: u8 = 28;
+
 const VERSION: u8 = 5;
+
 const OBJECT_UID: u8 = 6;
+
 const ASSET_UID: u8 = 7;
+
 const INHERIT_UID: u8 = 8;
 
 fn ids_in(g: Ids) -> usize
