@@ -1,12 +1,25 @@
 -- `xml_state::id_position` meets its contract. The invariant: none of the first i ids is the value.
-use mathlib.Core.Path.{_≡_, refl, sym, ap, _∙_}
-use Prim.Native.Nat.{_-_, _≤_}
+use mathlib.Core.Path.{_≡_, refl, sym, _∙_}
+use mathlib.Core.Bool.{true}
+use mathlib.Core.List.{List}
+use Prim.Native.Nat.{ℕ, _-_, _<_, _≤_}
 use native.Mathlib.Omega.{arith}
 use Rattle.numbers.specs.Count.{first}
 use Rattle.numbers.proofs.Loops.{first-on, first-found}
+use Rattle.xml_model.specs.declared.Range.{Range}
+use Rattle.xml_model.specs.declared.Ids.{Ids}
 use Rattle.xml_model.specs.State.{isId, idsIn, idPosition}
 use Rattle.xml_state.proofs.id_position.Statement.{statement}
 use Rattle.xml_state.proofs.id_position.Tie as tie
+
+module _ (s : List ℕ) (g : Ids) (v : Range) (n i : ℕ) (e : n ≡ idsIn g) where
+  found : i < n → first (isId s (g .table) v) i ≡ i → isId s (g .table) v i ≡ true → i ≡ idPosition s g v
+  unfolding idPosition
+  found h none here = rw (← e) (sym (first-found (isId s (g .table) v) i n h none here))
+
+  missed : i ≡ n → first (isId s (g .table) v) i ≡ i → n ≡ idPosition s g v
+  unfolding idPosition
+  missed q none = rw (← e, ← q) (sym none)
 
 abbrev Inv-loop : tie.InvT-loop
 Inv-loop s value g n i₀ i = (i ≤ n) × (first (isId s (g .table) value) i ≡ i)
@@ -33,12 +46,13 @@ same-range-requires : tie.Need-same-range-requires Inv-loop μ-loop
 same-range-requires c κs = tt
 
 returns : tie.Need-returns Inv-loop μ-loop
-unfolding idPosition isId
-returns c = let a = c .before .before .before .before .before .before .before .args in
+unfolding isId
+returns c =
+    let a = c .before .before .before .before .before .before .before .args in
     let l = c .before .before .before .before .loop in
-    let f = isId (a .s .now) (a .t2 .table) (a .value) in
-    sym (ap (first f) (sym (c .before .before .before .before .before .ids-in .ensures))
-    ∙ first-found f (l .i) (c .before .before .before .before .before .ids-in .result) (c .before .before .before .loop-test .taken) (l .inv .1) (sym (c .before .same-range .ensures) ∙ c .if1 .taken))
+    let n = c .before .before .before .before .before .ids-in in
+    found (a .s .now) (a .t2) (a .value) (n .result) (l .i) (n .ensures) (c .before .before .before .loop-test .taken) (l .inv .1)
+    (sym (c .before .same-range .ensures) ∙ c .if1 .taken)
 
 add-i : tie.Need-add-i Inv-loop μ-loop
 add-i c = omega arith
@@ -48,16 +62,18 @@ loop-less c = omega arith
 
 loop-again : tie.Need-loop-again Inv-loop μ-loop
 unfolding isId
-loop-again c = let a = c .before .before .before .before .before .before .before .args in
+loop-again c =
+    let a = c .before .before .before .before .before .before .before .args in
     let l = c .before .before .before .before .loop in
-    (omega arith, first-on (isId (a .s .now) (a .t2 .table) (a .value)) (l .i) (l .inv .1) (sym (c .before .same-range .ensures) ∙ c .if1 .left))
+    let other = sym (c .before .same-range .ensures) ∙ c .if1 .left in
+    (omega arith, first-on (isId (a .s .now) (a .t2 .table) (a .value)) (l .i) (l .inv .1) other)
 
 returns-2 : tie.Need-returns-2 Inv-loop μ-loop
-unfolding idPosition
-returns-2 c = let a = c .before .before .before .before .args in
+returns-2 c =
+    let a = c .before .before .before .before .args in
     let l = c .before .loop in
-    let e : l .i ≡ c .before .before .ids-in .result = omega arith in
-    sym (ap (first (isId (a .s .now) (a .t2 .table) (a .value))) (sym (c .before .before .ids-in .ensures) ∙ sym e) ∙ l .inv .1 ∙ e)
+    let n = c .before .before .ids-in in
+    missed (a .s .now) (a .t2) (a .value) (n .result) (l .i) (n .ensures) (omega arith) (l .inv .1)
 
 pub id-position-spec : {M : Type 1} → statement M
 id-position-spec =
