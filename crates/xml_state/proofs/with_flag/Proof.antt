@@ -1,5 +1,5 @@
-use Prim.Native.Nat.{_/_, _%_}
 -- `xml_state::with_flag` meets its contract: the flag is that of the role, and one that is not set leaves room for it.
+use Prim.Native.Nat.{_/_, _%_}
 use native.Mathlib.Omega.{arith}
 use borrow.Author.Tests.{eqb-false, eq-eqb, ne-eqb}
 use Rattle.model.specs.Book.{flagged}
