@@ -1,0 +1,4 @@
+-- Why the two readers meet their contracts: one law for each way through them.
+mod StandIn
+pub mod Units
+pub mod Nested

@@ -1,0 +1,212 @@
+-- The two readers: one law for each way through them.
+use Prim.Native.Nat.{ℕ, _+_, _-_, _<_, _≤_}
+use mathlib.Core.Path.{_≡_, refl, sym, ap, _∙_}
+use mathlib.Core.Bool.{Bool, true, false, cond, not, _&&_, _||_, true≢false, false≢true}
+use mathlib.Core.List.{List, [], _∷_}
+use native.Mathlib.Omega.{arith}
+use lib.ListN.{length}
+use lib.Dec.{eqb, leb}
+use borrow.Author.Tests.{eqb-true, eqb-false, eq-eqb, ne-eqb, le-leb, lt-leb}
+use Rattle.numbers.proofs.Tests.{on-test}
+use Rattle.xml_model.specs.declared.Tag.{Tag}
+use Rattle.xml_model.specs.declared.State.{State}
+use Rattle.xml_model.specs.declared.Done.{Done}
+use Rattle.xml_model.specs.declared.Progress.{Progress}
+use Rattle.xml_model.specs.Bytes.{part, bare}
+use Rattle.xml_model.specs.Tags.{unitAt}
+use Rattle.xml_model.specs.Elements.{nameOf, skippedRole, rowOf, rowCount, childRole, nextState, holdsAnything}
+use Rattle.xml_model.specs.State.{no, ok, andThen, counted, opening, closing}
+use Rattle.xml_model.specs.Text.{Frame, frame, leadsTo, entered, opened, ended, child, judge, refusal, go, follow}
+use Rattle.xml_read.proofs.StandIn.{Lies, unit-lies}
+use Rattle.xml_read.specs.declared.Child.{Child}
+use Rattle.xml_read.specs.Nesting.{childAt, entering, firstTag, reached, after, Element, Contents, Turn}
+use Rattle.xml_read.proofs.Units.{go-unit, go-done, follow-leads, after-good, after-fault}
+
+-- ## Steps at a tag
+
+reached-at : (p : ℕ) (d : Done) → reached p d .at ≡ p
+unfolding reached refusal
+reached-at p d = on-test (eqb (d .code) 0) (λ q. rw q) (λ q. rw q)
+
+reached-fault : (p : ℕ) (d : Done) → (d .code ≡ 0 → ⊥) → reached p d ≡ refusal (d .code) p
+unfolding reached
+reached-fault p d h = rw (ne-eqb _ _ h)
+
+-- a fault is what follows it
+follow-fault : (s : List ℕ) (p : ℕ) (k : List Frame) (d : Done) → (d .code ≡ 0 → ⊥) → follow s p (leadsTo k d) ≡ refusal (d .code) p
+unfolding follow leadsTo
+follow-fault s p k d h = rw (ne-eqb _ _ h)
+
+follow-good : (s : List ℕ) (p : ℕ) (k : List Frame) (d : Done) → d .code ≡ 0 → follow s p (leadsTo k d) ≡ go s p k (d .state)
+unfolding follow leadsTo
+follow-good s p k d h = rw (eq-eqb _ _ h)
+
+after-refusal : (s : List ℕ) (k : List Frame) (c p : ℕ) → (c ≡ 0 → ⊥) → after s k (refusal c p) ≡ refusal c p
+unfolding refusal
+after-refusal s k c p h = after-fault s k (refusal c p) h
+
+not-refused : {P : Type 0} (c p : ℕ) → (c ≡ 0 → ⊥) → refusal c p .code ≡ 0 → P
+unfolding refusal
+not-refused c p h e = absurd (h e)
+
+-- ## An element
+
+module _ (s : List ℕ) (t : Tag) (role left : ℕ) (st : State) where
+  refused : (c : ℕ) → (c ≡ 0 → ⊥)
+      → ((k : List Frame) → length k + left ≡ 12 → follow s (t .next) (opened s t role k st) ≡ refusal c (t .next))
+      → Element s t role left st (refusal c (t .next))
+  refused c h f = record {
+    reads = λ k e. f k e ∙ sym (after-refusal s k c (t .next) h);
+    moved = not-refused c (t .next) h;
+    within = not-refused c (t .next) h;
+  }
+
+  pub el-deep : left ≡ 0 → Element s t role left st (refusal 41 (t .next))
+  unfolding opened entered andThen no
+  el-deep z = refused 41 (λ e. omega arith) (λ k e. deep k e)
+    where
+      deep : (k : List Frame) → length k + left ≡ 12 → follow s (t .next) (opened s t role k st) ≡ refusal 41 (t .next)
+      deep k e = rw (le-leb 12 (length k) (omega arith)) (on-test (eqb (t .form) 0)
+          (λ q. rw q (follow-fault s (t .next) (frame (t .name) (t .end) role 0 ∷ k) (no 41) (λ e. omega arith)))
+          (λ q. rw q (follow-fault s (t .next) k (no 41) (λ e. omega arith))))
+
+  module _ (z : left ≡ 0 → ⊥) where
+    -- an element that ends with its first tag
+    pub el-empty : t .next ≤ length s → (t .form ≡ 0 → ⊥) → Element s t role left st (reached (t .next) (firstTag s t role st))
+    unfolding opened entered firstTag entering
+    el-empty w f = record {
+      reads = λ k e. empty k e ∙ follow-leads s (t .next) k (firstTag s t role st);
+      moved = λ _. omega (arith, reached-at (t .next) (firstTag s t role st));
+      within = λ _. omega (arith, w, reached-at (t .next) (firstTag s t role st));
+    }
+      where
+        empty : (k : List Frame) → length k + left ≡ 12 
+            → follow s (t .next) (opened s t role k st) ≡ follow s (t .next) (leadsTo k (firstTag s t role st))
+        empty k e = rw (lt-leb 12 (length k) (omega (arith, z)), ne-eqb _ _ f)
+
+    module _ (f : t .form ≡ 0) where
+      opens : (k : List Frame) → length k + left ≡ 12
+          → opened s t role k st ≡ leadsTo (frame (t .name) (t .end) role 0 ∷ k) (firstTag s t role st)
+      unfolding opened entered firstTag entering
+      opens k e = rw (lt-leb 12 (length k) (omega (arith, z)), eq-eqb _ _ f)
+
+      pub el-fault : (firstTag s t role st .code ≡ 0 → ⊥) → Element s t role left st (refusal (firstTag s t role st .code) (t .next))
+      el-fault n = refused _ n (λ k e. ap (follow s (t .next)) (opens k e) ∙ follow-fault s (t .next) _ (firstTag s t role st) n)
+
+      pub el-open : firstTag s t role st .code ≡ 0 → (r : Progress)
+          → Contents s (t .next) (t .name) (t .end) role (left - 1) (firstTag s t role st .state) r → Element s t role left st r
+      el-open q r h = record {
+        reads = λ k e.
+            ap (follow s (t .next)) (opens k e) ∙ follow-good s (t .next) _ (firstTag s t role st) q ∙ h .reads k (omega (arith, z));
+        moved = h .moved;
+        within = h .within;
+      }
+
+-- an element that is in no other
+pub el-root : (s : List ℕ) (t : Tag) (role : ℕ) (st : State) (r : Progress) → Element s t role 12 st r
+    → r ≡ follow s (t .next) (opened s t role [] st)
+el-root s t role st r h = whole ∙ sym (h .reads [] refl)
+  where
+    good : r .code ≡ 0 → r ≡ record { code = 0; at = r .at; state = r .state }
+    good e = λ i. record { code = e i; at = r .at; state = r .state }
+
+    whole : r ≡ after s [] r
+    whole = on-test (eqb (r .code) 0)
+        (λ q. good (eqb-true _ _ q) ∙ sym (go-done s (r .at) (r .state)) ∙ sym (after-good s [] r (eqb-true _ _ q)))
+        (λ q. sym (after-fault s [] r (eqb-false _ _ q)))
+
+-- ## Contents
+
+-- a child, in an element of that role and state
+module _ (s : List ℕ) (t : Tag) (q : t .code ≡ 0) (f : t .form ≡ 2 → ⊥) (name end role state : ℕ) (k : List Frame) (st : State) where
+  abbrev row : ℕ
+  row = rowOf role state (nameOf (part s (t .name) (t .end)))
+
+  judge-child : childAt s t role state .accepted ≡ true
+      → judge s t (frame name end role state) k st
+      ≡ opened s t (childAt s t role state .role) (frame name end role (childAt s t role state .state) ∷ k) st
+  unfolding judge child childAt
+  judge-child h = on-test (holdsAnything role)
+      (λ x. rw (eq-eqb _ _ q, ne-eqb _ _ f, x))
+      (λ x. on-test (leb rowCount row)
+      (λ y. absurd (false≢true (rw (x, y) at h)))
+      (λ y. on-test (bare s (t .from) (t .at))
+      (λ z. rw (eq-eqb _ _ q, ne-eqb _ _ f, x, y, z))
+      (λ z. absurd (false≢true (rw (x, y, z) at h)))))
+
+  judge-none : childAt s t role state .accepted ≡ false → judge s t (frame name end role state) k st ≡ leadsTo [] (no 41)
+  unfolding judge child childAt
+  judge-none h = on-test (holdsAnything role)
+      (λ x. absurd (true≢false (rw x at h)))
+      (λ x. on-test (leb rowCount row)
+      (λ y. rw (eq-eqb _ _ q, ne-eqb _ _ f, x, y))
+      (λ y. on-test (bare s (t .from) (t .at))
+      (λ z. absurd (true≢false (rw (x, y, z) at h)))
+      (λ z. rw (eq-eqb _ _ q, ne-eqb _ _ f, x, y, z))))
+
+module _ (s : List ℕ) (at name end role left : ℕ) (st₀ : State) where
+  pub co-start : Turn s at name end role left st₀ at 0 st₀
+  co-start = record { reads = λ k e. refl; moved = omega arith }
+
+  module _ (p state : ℕ) (st : State) (h : Turn s at name end role left st₀ p state st) where
+    unit : (k : List Frame) → length k + left ≡ 11
+        → go s at (frame name end role 0 ∷ k) st₀
+        ≡ follow s (unitAt s p .next) (judge s (unitAt s p) (frame name end role state) k st)
+    unit k e = h .reads k e ∙ go-unit s p (frame name end role state) k st
+
+    -- a unit at fault
+    stopped : (c : ℕ) → (c ≡ 0 → ⊥)
+        → ((k : List Frame) → judge s (unitAt s p) (frame name end role state) k st ≡ leadsTo [] (no c))
+        → Contents s at name end role left st₀ (refusal c (unitAt s p .next))
+    unfolding no
+    stopped c n f = record {
+      reads = λ k e.
+          unit k e ∙ ap (follow s (unitAt s p .next)) (f k) ∙ follow-fault s (unitAt s p .next) [] (no c) n
+          ∙ sym (after-refusal s k c (unitAt s p .next) n);
+      moved = not-refused c (unitAt s p .next) n;
+      within = not-refused c (unitAt s p .next) n;
+    }
+
+    pub co-stuck : (unitAt s p .code ≡ 0 → ⊥) → Contents s at name end role left st₀ (refusal (unitAt s p .code) (unitAt s p .next))
+    unfolding judge
+    co-stuck n = stopped (unitAt s p .code) n (λ k. rw (ne-eqb _ _ n))
+
+    module _ (q : unitAt s p .code ≡ 0) where
+      -- the end tag
+      pub co-ended : unitAt s p .form ≡ 2
+          → Contents s at name end role left st₀ (reached (unitAt s p .next) (ended s (unitAt s p) (frame name end role state) st))
+      unfolding judge
+      co-ended f = record {
+        reads = λ k e.
+            unit k e ∙ rw (eq-eqb _ _ q, eq-eqb _ _ f)
+            (follow-leads s (unitAt s p .next) k (ended s (unitAt s p) (frame name end role state) st));
+        moved = λ _. omega (arith, h .moved, unit-lies s p q .moved, reached-at (unitAt s p .next) _);
+        within = λ _. omega (arith, unit-lies s p q .next, reached-at (unitAt s p .next) _);
+      }
+
+      module _ (f : unitAt s p .form ≡ 2 → ⊥) where
+        pub co-none : childAt s (unitAt s p) role state .accepted ≡ false
+            → Contents s at name end role left st₀ (refusal 41 (unitAt s p .next))
+        co-none m = stopped 41 (λ e. omega arith) (λ k. judge-none s (unitAt s p) q f name end role state k st m)
+
+        module _ (m : childAt s (unitAt s p) role state .accepted ≡ true) (r : Progress)
+            (el : Element s (unitAt s p) (childAt s (unitAt s p) role state .role) left st r) where
+          holds : (k : List Frame) → length k + left ≡ 11
+              → go s at (frame name end role 0 ∷ k) st₀ ≡ after s (frame name end role (childAt s (unitAt s p) role state .state) ∷ k) r
+          holds k e =
+              unit k e ∙ ap (follow s (unitAt s p .next)) (judge-child s (unitAt s p) q f name end role state k st m)
+              ∙ el .reads (frame name end role (childAt s (unitAt s p) role state .state) ∷ k) (omega arith)
+
+          pub co-fault : (r .code ≡ 0 → ⊥) → Contents s at name end role left st₀ r
+          co-fault n = record {
+            reads = λ k e. holds k e ∙ after-fault s _ r n ∙ sym (after-fault s k r n);
+            moved = λ g. absurd (n g);
+            within = λ g. absurd (n g);
+          }
+
+          pub co-child : r .code ≡ 0
+              → Turn s at name end role left st₀ (r .at) (childAt s (unitAt s p) role state .state) (r .state)
+          co-child g = record {
+            reads = λ k e. holds k e ∙ after-good s _ r g;
+            moved = omega (arith, h .moved, el .moved g, unit-lies s p q .moved);
+          }
