@@ -1,4 +1,3 @@
 -- Why the two readers meet their contracts: one law for each way through them.
-mod StandIn
 pub mod Units
 pub mod Nested

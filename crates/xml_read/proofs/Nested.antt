@@ -17,7 +17,7 @@ use Rattle.xml_model.specs.Tags.{unitAt}
 use Rattle.xml_model.specs.Elements.{nameOf, skippedRole, rowOf, rowCount, childRole, nextState, holdsAnything}
 use Rattle.xml_model.specs.State.{no, ok, andThen, counted, opening, closing}
 use Rattle.xml_model.specs.Text.{Frame, frame, leadsTo, entered, opened, ended, child, judge, refusal, go, follow}
-use Rattle.xml_read.proofs.StandIn.{Lies, unit-lies}
+use Rattle.xml_model.proofs.Units.{Lies, unit-lies}
 use Rattle.xml_read.specs.declared.Child.{Child}
 use Rattle.xml_read.specs.Nesting.{childAt, entering, firstTag, reached, after, Element, Contents, Turn}
 use Rattle.xml_read.proofs.Units.{go-unit, go-done, follow-leads, after-good, after-fault}
@@ -49,6 +49,10 @@ not-refused : {P : Type 0} (c p : ℕ) → (c ≡ 0 → ⊥) → refusal c p .co
 unfolding refusal
 not-refused c p h e = absurd (h e)
 
+pub then-then : (d : Done) (f g : State → Done) → andThen (andThen d f) g ≡ andThen d (λ u. andThen (f u) g)
+unfolding andThen
+then-then d f g = on-test (eqb (d .code) 0) (λ q. rw q) (λ q. rw (q, q))
+
 -- ## An element
 
 module _ (s : List ℕ) (t : Tag) (role left : ℕ) (st : State) where
@@ -70,34 +74,34 @@ module _ (s : List ℕ) (t : Tag) (role left : ℕ) (st : State) where
           (λ q. rw q (follow-fault s (t .next) (frame (t .name) (t .end) role 0 ∷ k) (no 41) (λ e. omega arith)))
           (λ q. rw q (follow-fault s (t .next) k (no 41) (λ e. omega arith))))
 
-  module _ (z : left ≡ 0 → ⊥) where
+  -- d is what its first tag gives
+  module _ (z : left ≡ 0 → ⊥) (d : Done) (u : d ≡ firstTag s t role st) where
     -- an element that ends with its first tag
-    pub el-empty : t .next ≤ length s → (t .form ≡ 0 → ⊥) → Element s t role left st (reached (t .next) (firstTag s t role st))
+    pub el-empty : t .next ≤ length s → (t .form ≡ 0 → ⊥) → Element s t role left st (reached (t .next) d)
     unfolding opened entered firstTag entering
     el-empty w f = record {
-      reads = λ k e. empty k e ∙ follow-leads s (t .next) k (firstTag s t role st);
-      moved = λ _. omega (arith, reached-at (t .next) (firstTag s t role st));
-      within = λ _. omega (arith, w, reached-at (t .next) (firstTag s t role st));
+      reads = λ k e. ap (follow s (t .next)) (empty k e) ∙ follow-leads s (t .next) k d;
+      moved = λ _. omega (arith, reached-at (t .next) d);
+      within = λ _. omega (arith, w, reached-at (t .next) d);
     }
       where
-        empty : (k : List Frame) → length k + left ≡ 12 
-            → follow s (t .next) (opened s t role k st) ≡ follow s (t .next) (leadsTo k (firstTag s t role st))
-        empty k e = rw (lt-leb 12 (length k) (omega (arith, z)), ne-eqb _ _ f)
+        empty : (k : List Frame) → length k + left ≡ 12 → opened s t role k st ≡ leadsTo k d
+        empty k e =
+            rw (u, lt-leb 12 (length k) (omega (arith, z)), ne-eqb _ _ f)
+            (ap (leadsTo k) (then-then (entering s t role st) (λ u. closing s (t .next) (t .next) role 0 u) counted))
 
     module _ (f : t .form ≡ 0) where
-      opens : (k : List Frame) → length k + left ≡ 12
-          → opened s t role k st ≡ leadsTo (frame (t .name) (t .end) role 0 ∷ k) (firstTag s t role st)
-      unfolding opened entered firstTag entering
-      opens k e = rw (lt-leb 12 (length k) (omega (arith, z)), eq-eqb _ _ f)
+      opens : (k : List Frame) → length k + left ≡ 12 → opened s t role k st ≡ leadsTo (frame (t .name) (t .end) role 0 ∷ k) d
+      unfolding opened entered firstTag entering andThen
+      opens k e = rw (u, lt-leb 12 (length k) (omega (arith, z)), eq-eqb _ _ f)
 
-      pub el-fault : (firstTag s t role st .code ≡ 0 → ⊥) → Element s t role left st (refusal (firstTag s t role st .code) (t .next))
-      el-fault n = refused _ n (λ k e. ap (follow s (t .next)) (opens k e) ∙ follow-fault s (t .next) _ (firstTag s t role st) n)
+      pub el-fault : (d .code ≡ 0 → ⊥) → Element s t role left st (refusal (d .code) (t .next))
+      el-fault n = refused (d .code) n (λ k e. ap (follow s (t .next)) (opens k e) ∙ follow-fault s (t .next) _ d n)
 
-      pub el-open : firstTag s t role st .code ≡ 0 → (r : Progress)
-          → Contents s (t .next) (t .name) (t .end) role (left - 1) (firstTag s t role st .state) r → Element s t role left st r
+      pub el-open : d .code ≡ 0 → (r : Progress) → Contents s (t .next) (t .name) (t .end) role (left - 1) (d .state) r
+          → Element s t role left st r
       el-open q r h = record {
-        reads = λ k e.
-            ap (follow s (t .next)) (opens k e) ∙ follow-good s (t .next) _ (firstTag s t role st) q ∙ h .reads k (omega (arith, z));
+        reads = λ k e. ap (follow s (t .next)) (opens k e) ∙ follow-good s (t .next) _ d q ∙ h .reads k (omega (arith, z));
         moved = h .moved;
         within = h .within;
       }
@@ -148,54 +152,52 @@ module _ (s : List ℕ) (at name end role left : ℕ) (st₀ : State) where
   pub co-start : Turn s at name end role left st₀ at 0 st₀
   co-start = record { reads = λ k e. refl; moved = omega arith }
 
-  module _ (p state : ℕ) (st : State) (h : Turn s at name end role left st₀ p state st) where
+  -- the contents up to p are read, and t is the unit there
+  module _ (p state : ℕ) (st : State) (h : Turn s at name end role left st₀ p state st) (t : Tag) (u : t ≡ unitAt s p) where
     unit : (k : List Frame) → length k + left ≡ 11
-        → go s at (frame name end role 0 ∷ k) st₀
-        ≡ follow s (unitAt s p .next) (judge s (unitAt s p) (frame name end role state) k st)
-    unit k e = h .reads k e ∙ go-unit s p (frame name end role state) k st
+        → go s at (frame name end role 0 ∷ k) st₀ ≡ follow s (t .next) (judge s t (frame name end role state) k st)
+    unit k e = rw u (h .reads k e ∙ go-unit s p (frame name end role state) k st)
+
+    lies : t .code ≡ 0 → Lies (length s) p t
+    lies = rw u (unit-lies s p)
 
     -- a unit at fault
-    stopped : (c : ℕ) → (c ≡ 0 → ⊥)
-        → ((k : List Frame) → judge s (unitAt s p) (frame name end role state) k st ≡ leadsTo [] (no c))
-        → Contents s at name end role left st₀ (refusal c (unitAt s p .next))
+    stopped : (c : ℕ) → (c ≡ 0 → ⊥) → ((k : List Frame) → judge s t (frame name end role state) k st ≡ leadsTo [] (no c))
+        → Contents s at name end role left st₀ (refusal c (t .next))
     unfolding no
     stopped c n f = record {
       reads = λ k e.
-          unit k e ∙ ap (follow s (unitAt s p .next)) (f k) ∙ follow-fault s (unitAt s p .next) [] (no c) n
-          ∙ sym (after-refusal s k c (unitAt s p .next) n);
-      moved = not-refused c (unitAt s p .next) n;
-      within = not-refused c (unitAt s p .next) n;
+          unit k e ∙ ap (follow s (t .next)) (f k) ∙ follow-fault s (t .next) [] (no c) n ∙ sym (after-refusal s k c (t .next) n);
+      moved = not-refused c (t .next) n;
+      within = not-refused c (t .next) n;
     }
 
-    pub co-stuck : (unitAt s p .code ≡ 0 → ⊥) → Contents s at name end role left st₀ (refusal (unitAt s p .code) (unitAt s p .next))
+    pub co-stuck : (t .code ≡ 0 → ⊥) → Contents s at name end role left st₀ (refusal (t .code) (t .next))
     unfolding judge
-    co-stuck n = stopped (unitAt s p .code) n (λ k. rw (ne-eqb _ _ n))
+    co-stuck n = stopped (t .code) n (λ k. rw (ne-eqb _ _ n))
 
-    module _ (q : unitAt s p .code ≡ 0) where
-      -- the end tag
-      pub co-ended : unitAt s p .form ≡ 2
-          → Contents s at name end role left st₀ (reached (unitAt s p .next) (ended s (unitAt s p) (frame name end role state) st))
+    module _ (q : t .code ≡ 0) where
+      -- the end tag, and d is what it gives
+      pub co-ended : t .form ≡ 2 → (d : Done) → d ≡ ended s t (frame name end role state) st
+          → Contents s at name end role left st₀ (reached (t .next) d)
       unfolding judge
-      co-ended f = record {
-        reads = λ k e.
-            unit k e ∙ rw (eq-eqb _ _ q, eq-eqb _ _ f)
-            (follow-leads s (unitAt s p .next) k (ended s (unitAt s p) (frame name end role state) st));
-        moved = λ _. omega (arith, h .moved, unit-lies s p q .moved, reached-at (unitAt s p .next) _);
-        within = λ _. omega (arith, unit-lies s p q .next, reached-at (unitAt s p .next) _);
+      co-ended f d g = record {
+        reads = λ k e. unit k e ∙ rw (eq-eqb _ _ q, eq-eqb _ _ f, ← g) (follow-leads s (t .next) k d);
+        moved = λ _. let w = lies q in omega (arith, h .moved, reached-at (t .next) d);
+        within = λ _. let w = lies q in omega (arith, reached-at (t .next) d);
       }
 
-      module _ (f : unitAt s p .form ≡ 2 → ⊥) where
-        pub co-none : childAt s (unitAt s p) role state .accepted ≡ false
-            → Contents s at name end role left st₀ (refusal 41 (unitAt s p .next))
-        co-none m = stopped 41 (λ e. omega arith) (λ k. judge-none s (unitAt s p) q f name end role state k st m)
+      -- a child, and c is what the element makes of it
+      module _ (f : t .form ≡ 2 → ⊥) (c : Child) (g : c ≡ childAt s t role state) where
+        pub co-none : c .accepted ≡ false → Contents s at name end role left st₀ (refusal 41 (t .next))
+        co-none m = stopped 41 (λ e. omega arith) (λ k. judge-none s t q f name end role state k st (rw g at m))
 
-        module _ (m : childAt s (unitAt s p) role state .accepted ≡ true) (r : Progress)
-            (el : Element s (unitAt s p) (childAt s (unitAt s p) role state .role) left st r) where
+        module _ (m : c .accepted ≡ true) (r : Progress) (el : Element s t (c .role) left st r) where
           holds : (k : List Frame) → length k + left ≡ 11
-              → go s at (frame name end role 0 ∷ k) st₀ ≡ after s (frame name end role (childAt s (unitAt s p) role state .state) ∷ k) r
+              → go s at (frame name end role 0 ∷ k) st₀ ≡ after s (frame name end role (c .state) ∷ k) r
           holds k e =
-              unit k e ∙ ap (follow s (unitAt s p .next)) (judge-child s (unitAt s p) q f name end role state k st m)
-              ∙ el .reads (frame name end role (childAt s (unitAt s p) role state .state) ∷ k) (omega arith)
+              unit k e ∙ ap (follow s (t .next)) (rw g (judge-child s t q f name end role state k st (rw g at m)))
+              ∙ el .reads (frame name end role (c .state) ∷ k) (omega arith)
 
           pub co-fault : (r .code ≡ 0 → ⊥) → Contents s at name end role left st₀ r
           co-fault n = record {
@@ -204,9 +206,11 @@ module _ (s : List ℕ) (at name end role left : ℕ) (st₀ : State) where
             within = λ g. absurd (n g);
           }
 
-          pub co-child : r .code ≡ 0
-              → Turn s at name end role left st₀ (r .at) (childAt s (unitAt s p) role state .state) (r .state)
-          co-child g = record {
-            reads = λ k e. holds k e ∙ after-good s _ r g;
-            moved = omega (arith, h .moved, el .moved g, unit-lies s p q .moved);
+          pub co-child : r .code ≡ 0 → Turn s at name end role left st₀ (r .at) (c .state) (r .state)
+          co-child o = record {
+            reads = λ k e. holds k e ∙ after-good s _ r o;
+            moved = let w = lies q in omega (arith, h .moved, el .moved o);
           }
+
+          pub co-less : r .code ≡ 0 → length s - r .at < length s - p
+          co-less o = let w = lies q in omega (arith, el .moved o, el .within o)

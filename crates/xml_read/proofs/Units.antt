@@ -16,7 +16,8 @@ use Rattle.xml_model.specs.Repeat.{Next, stop, more, repeat}
 use Rattle.xml_model.specs.Tags.{unitAt}
 use Rattle.xml_model.specs.State.{no}
 use Rattle.xml_model.specs.Text.{Frame, Verdict, Config, leadsTo, judge, refusal, ruled, unitStep, go, follow}
-use Rattle.xml_read.proofs.StandIn.{repeat-stop, repeat-more, Lies, unit-lies}
+use Rattle.xml_model.proofs.Repeats.{repeat-stop, repeat-more}
+use Rattle.xml_model.proofs.Units.{Lies, unit-lies}
 use Rattle.xml_read.specs.Nesting.{reached, after}
 
 -- a unit that is no fault has been scanned
@@ -47,7 +48,7 @@ falls-at s p [] st d e = let z : _≡_ {A = ℕ} 0 1 = cc in absurd (omega arith
 falls-at s p (f ∷ k) st d e =
     let r = ruled-more (unitAt s p .next) (judge s (unitAt s p) f k st) d e in
     let w = unit-lies s p (judge-scanned s (unitAt s p) f k st (r .0)) in
-    omega (arith, r .1, w .moved, w .next)
+    omega (arith, r .1)
 
 falls : (s : List ℕ) (c d : Config) → unitStep s (c .at) (c .stack) (c .state) ≡ more d → length s - d .at < length s - c .at
 falls s c d = falls-at s (c .at) (c .stack) (c .state) d

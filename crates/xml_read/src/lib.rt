@@ -1,9 +1,379 @@
 // The reading of a text by two functions that call each other, the element reader and the contents reader: the remaining depth
 // falls with every level.
+ghost use mathlib.Core.Path.{_≡_};
+ghost use mathlib.Core.Bool.{cond};
+ghost use Prim.Native.Nat.{_≤_};
+ghost use lib.ListN.{length};
+ghost use Rattle.xml_model.specs.Tags.{unitAt};
+ghost use Rattle.xml_model.specs.Bytes.{runEnd, byteAt, bare, stuck, looked};
+ghost use Rattle.xml_model.specs.Elements.{nameOf, rowOf, childRole, nextState, holdsAnything};
+ghost use Rattle.xml_model.specs.State.{blank, ok, no, counted, opening, closing, sameRange};
+ghost use Rattle.xml_model.specs.Text.{frame, ended, refusal, finish, root, progressOf, readingOf};
+ghost use Rattle.xml_read.specs.Nesting.{childAt, entering, firstTag, reached, Element, Contents};
+use xml_model::Done;
+use xml_model::Progress;
+use xml_model::Reading;
+use xml_model::State;
+use xml_model::Tag;
+use book::Asset;
+use book::Book;
+use book::Limits;
+use book::blank_asset;
+use book::blank_book;
+use book::blank_entry;
+use xml_model::Id;
+use xml_model::Ids;
+use xml_model::References;
 
 // What an open element makes of a child: whether it is accepted, its role, and the state to which it leads its parent.
 pub struct Child {
     pub accepted: bool,
     pub role: u8,
     pub state: u8,
+}
+
+// STANDIN
+fn blank_state() -> State
+    ensures { λ r. ⌜ r ≡ blank ⌝ }
+{
+    let entry = blank_entry();
+    let limits = entry.limits;
+    let none = Id {
+        from: 0,
+        to: 0,
+        asset: 0,
+    };
+    let ids = Ids {
+        count: 0,
+        table: [none; 256],
+    };
+    let references = References {
+        count: 0,
+        table: [0; 64],
+    };
+    State {
+        elements: 0,
+        ids: ids,
+        asset: blank_asset(),
+        assetid: 256,
+        references: references,
+        limits: limits,
+        book: blank_book(),
+    }
+}
+
+fn accepted(st: State) -> Done
+    ensures { λ r. ⌜ r ≡ ok st ⌝ }
+{
+    Done {
+        code: 0,
+        state: st,
+    }
+}
+
+fn refused(code: u8) -> Done
+    ensures { λ r. ⌜ r ≡ no code ⌝ }
+{
+    Done {
+        code: code,
+        state: blank_state(),
+    }
+}
+
+fn counted(st: State) -> Done
+    ensures { λ r. ⌜ r ≡ counted st ⌝ }
+{
+    refused(42)
+}
+
+fn opening(s: &[u8], t: Tag, role: u8, st: State) -> Done
+    ensures { λ r. ⌜ r ≡ opening (now (s .entry)) t role st ⌝ }
+{
+    refused(42)
+}
+
+fn closing(s: &[u8], a: usize, b: usize, role: u8, state: u8, st: State) -> Done
+    ensures { λ r. ⌜ r ≡ closing (now (s .entry)) a b role state st ⌝ }
+{
+    refused(42)
+}
+
+fn unit_at(s: &[u8], i: usize) -> Tag
+    ensures { λ r. ⌜ r ≡ unitAt (now (s .entry)) i ⌝ }
+{
+    Tag {
+        code: 0,
+        form: 0,
+        from: 0,
+        at: 0,
+        name: 0,
+        end: 0,
+        next: 0,
+    }
+}
+
+fn run_end(s: &[u8], class: u16, from: usize) -> usize
+    ensures { λ r. ⌜ r ≡ runEnd class (now (s .entry)) from ⌝ }
+{
+    from
+}
+
+fn byte_at(s: &[u8], i: usize) -> u16
+    ensures { λ r. ⌜ r ≡ byteAt (now (s .entry)) i ⌝ }
+{
+    0
+}
+
+fn is_bare(s: &[u8], a: usize, b: usize) -> bool
+    ensures { λ r. ⌜ r ≡ bare (now (s .entry)) a b ⌝ }
+{
+    a < b
+}
+
+fn stuck_code(s: &[u8], i: usize) -> u8
+    ensures { λ r. ⌜ r ≡ stuck (now (s .entry)) i ⌝ }
+{
+    0
+}
+
+fn looked(s: &[u8], i: usize) -> usize
+    ensures { λ r. ⌜ r ≡ looked (now (s .entry)) i ⌝ }
+{
+    0
+}
+
+fn same_range(s: &[u8], a: usize, b: usize, x: usize, y: usize) -> bool
+    ensures { λ r. ⌜ r ≡ sameRange (now (s .entry)) a b x y ⌝ }
+{
+    a < b
+}
+
+fn name_of(v: &[u8]) -> u8
+    ensures { λ r. ⌜ r ≡ nameOf (now (v .entry)) ⌝ }
+{
+    0
+}
+
+fn row_of(role: u8, state: u8, name: u8) -> u8
+    ensures { λ r. ⌜ r ≡ rowOf role state name ⌝ }
+{
+    0
+}
+
+fn child_role(k: u8) -> u8
+    ensures { λ r. ⌜ r ≡ childRole k ⌝ }
+{
+    0
+}
+
+fn next_state(k: u8) -> u8
+    ensures { λ r. ⌜ r ≡ nextState k ⌝ }
+{
+    0
+}
+
+fn holds_anything(role: u8) -> bool
+    ensures { λ r. ⌜ r ≡ holdsAnything role ⌝ }
+{
+    role == 12
+}
+
+fn pick8(w: bool, a: u8, b: u8) -> u8
+    ensures { λ r. ⌜ r ≡ cond w a b ⌝ }
+{
+    if w { a } else { b }
+}
+
+// END STANDIN
+
+fn refusal(code: u8, at: usize) -> Progress
+    ensures { λ r. ⌜ r ≡ refusal code at ⌝ }
+{
+    Progress {
+        code: code,
+        at: at,
+        state: blank_state(),
+    }
+}
+
+fn reached(at: usize, d: Done) -> Progress
+    ensures { λ r. ⌜ r ≡ reached at d ⌝ }
+{
+    if d.code == 0 {
+        let st = d.state;
+        return Progress {
+            code: 0,
+            at: at,
+            state: st,
+        };
+    }
+    refusal(d.code, at)
+}
+
+fn child_at(s: &[u8], t: Tag, role: u8, state: u8) -> Child
+    requires { ⌜ (t .name ≤ t .end) × (t .end ≤ length (now s)) ⌝ }
+    ensures { λ r. ⌜ r ≡ childAt (now (s .entry)) t role state ⌝ }
+{
+    let a = t.name;
+    let b = t.end;
+    let name = name_of(&s[a..b]);
+    let k = row_of(role, state, name);
+    let any = holds_anything(role);
+    let clean = is_bare(s, t.from, t.at);
+    Child {
+        accepted: any | (!(32 <= k) & clean),
+        role: pick8(any, 13, child_role(k)),
+        state: pick8(any, state, next_state(k)),
+    }
+}
+
+fn entering(s: &[u8], t: Tag, role: u8, st: State) -> Done
+    ensures { λ r. ⌜ r ≡ entering (now (s .entry)) t role st ⌝ }
+{
+    if role == 13 {
+        return accepted(st);
+    }
+    opening(s, t, role, st)
+}
+
+// An empty-element tag is also the element's last tag.
+fn first_tag(s: &[u8], t: Tag, role: u8, st: State) -> Done
+    ensures { λ r. ⌜ r ≡ firstTag (now (s .entry)) t role st ⌝ }
+{
+    let d = entering(s, t, role, st);
+    if d.code != 0 {
+        return d;
+    }
+    let begun = d.state;
+    if t.form == 0 {
+        return counted(begun);
+    }
+    let e = closing(s, t.next, t.next, role, 0, begun);
+    if e.code != 0 {
+        return e;
+    }
+    let done = e.state;
+    counted(done)
+}
+
+// An end tag t, in the element whose name stands from `name` to `end`.
+fn end_tag(s: &[u8], t: Tag, name: usize, end: usize, role: u8, state: u8, st: State) -> Done
+    ensures { λ r. ⌜ r ≡ ended (now (s .entry)) t (frame name end role state) st ⌝ }
+{
+    if same_range(s, t.name, t.end, name, end) {
+        return closing(s, t.from, t.at, role, state, st);
+    }
+    refused(40)
+}
+
+// The element whose first tag is t, with `left` levels for it and what it holds.
+fn element(s: &[u8], t: Tag, role: u8, left: u8, st: State) -> Progress
+    requires { ⌜ t .next ≤ length (now s) ⌝ }
+    ensures { λ r. ⌜ Element (now (s .entry)) t role left st r ⌝ }
+{
+    if left == 0 {
+        return refusal(41, t.next);
+    }
+    let d = first_tag(s, t, role, st);
+    if t.form != 0 {
+        return reached(t.next, d);
+    }
+    if d.code != 0 {
+        return refusal(d.code, t.next);
+    }
+    let inside = d.state;
+    contents(s, t.next, t.name, t.end, role, left - 1, inside)
+}
+
+// What stands from `at` up to the end tag of the element whose name stands from `name` to `end`.
+fn contents(s: &[u8], at: usize, name: usize, end: usize, role: u8, left: u8, st: State) -> Progress
+    ensures { λ r. ⌜ Contents (now (s .entry)) at name end role left st r ⌝ }
+{
+    let mut p = at;
+    let mut state: u8 = 0;
+    let mut here = st;
+    loop {
+        let t = unit_at(s, p);
+        if t.code != 0 {
+            return refusal(t.code, t.next);
+        }
+        if t.form == 2 {
+            let d = end_tag(s, t, name, end, role, state, here);
+            return reached(t.next, d);
+        }
+        let c = child_at(s, t, role, state);
+        if !c.accepted {
+            return refusal(41, t.next);
+        }
+        let r = element(s, t, c.role, left, here);
+        if r.code != 0 {
+            return r;
+        }
+        here = r.state;
+        p = r.at;
+        state = c.state;
+    }
+}
+
+// Behind the outermost element.
+fn finished(s: &[u8], r: Progress) -> Progress
+    ensures { λ x. ⌜ x ≡ finish (now (s .entry)) r ⌝ }
+{
+    if r.code != 0 {
+        return r;
+    }
+    let z = run_end(s, 0, r.at);
+    if z < s.len() {
+        return refusal(stuck_code(s, z), looked(s, z));
+    }
+    let st = r.state;
+    Progress {
+        code: 0,
+        at: z,
+        state: st,
+    }
+}
+
+fn root_at(s: &[u8], i: usize) -> Progress
+    ensures { λ r. ⌜ r ≡ root (now (s .entry)) (unitAt (now (s .entry)) i) ⌝ }
+{
+    let t = unit_at(s, i);
+    if t.code != 0 {
+        return refusal(t.code, t.next);
+    }
+    let a = t.name;
+    let b = t.end;
+    if name_of(&s[a..b]) == 1 {
+        let r = element(s, t, 1, 12, blank_state());
+        return finished(s, r);
+    }
+    refusal(41, t.next)
+}
+
+fn progress_of(s: &[u8]) -> Progress
+    ensures { λ r. ⌜ r ≡ progressOf (now (s .entry)) ⌝ }
+{
+    let i = run_end(s, 0, 0);
+    if byte_at(s, i) != 60 {
+        return refusal(stuck_code(s, i), looked(s, i));
+    }
+    if byte_at(s, i + 1) == 47 {
+        return refusal(40, i + 2);
+    }
+    root_at(s, i)
+}
+
+// The whole text: the answer, and with answer 0 the number of its elements and the book.
+// Rules out: a 13th level or a 257th element accepted, an end tag of another name, elements or a book beside a refusal.
+pub fn read(s: &[u8]) -> Reading
+    ensures { λ r. ⌜ r ≡ readingOf (now (s .entry)) ⌝ }
+{
+    let r = progress_of(s);
+    let st = r.state;
+    let book = st.book;
+    Reading {
+        code: r.code,
+        elements: st.elements,
+        book: book,
+    }
 }
