@@ -53,6 +53,10 @@ pub then-then : (d : Done) (f g : State → Done) → andThen (andThen d f) g �
 unfolding andThen
 then-then d f g = on-test (eqb (d .code) 0) (λ q. rw q) (λ q. rw (q, q))
 
+-- where a unit lies
+pub lies-at : (s : List ℕ) (p : ℕ) (t : Tag) → t ≡ unitAt s p → t .code ≡ 0 → Lies (length s) p t
+lies-at s p t u = rw u (unit-lies s p)
+
 -- ## An element
 
 module _ (s : List ℕ) (t : Tag) (role left : ℕ) (st : State) where
@@ -159,7 +163,7 @@ module _ (s : List ℕ) (at name end role left : ℕ) (st₀ : State) where
     unit k e = rw u (h .reads k e ∙ go-unit s p (frame name end role state) k st)
 
     lies : t .code ≡ 0 → Lies (length s) p t
-    lies = rw u (unit-lies s p)
+    lies = lies-at s p t u
 
     -- a unit at fault
     stopped : (c : ℕ) → (c ≡ 0 → ⊥) → ((k : List Frame) → judge s t (frame name end role state) k st ≡ leadsTo [] (no c))

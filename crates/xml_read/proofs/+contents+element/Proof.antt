@@ -1,3 +1,5 @@
+use Rattle.xml_model.proofs.Units.{Lies}
+use Rattle.xml_read.proofs.Nested.{el-deep, el-empty, el-fault, el-open, co-start, co-stuck, co-ended, co-none, co-fault, co-child, co-less, lies-at}
 use borrow.Author.Tests.{not-true, not-false}
 use native.Mathlib.Omega.{arith}
 use mathlib.Core.Path.{_≡_, sym, _∙_}
@@ -183,7 +185,7 @@ contents-child-at-requires : (t : ℕ) → contents-lts.Need-child-at-requires (
   element-below t,
   element.Post,
 ) (contents-at t) contents.Post contents-Inv-loop contents-μ-loop
-contents-child-at-requires t c κs = let w = unit-lies (c .before .before .before .before .before .before .before .args .s .now) (c .before .before .before .before .before .loop .p) (rw (c .before .before .before .before .unit-at .ensures) at (c .before .before .if1 .left)) in rw (c .before .before .before .before .unit-at .ensures) (w .named, omega arith)
+contents-child-at-requires t c κs = let w = lies-at _ _ _ (c .before .before .before .before .unit-at .ensures) (c .before .before .if1 .left) in (w .named, omega arith)
 
 -- src/lib.rt:306:13
 contents-refusal-requires-2 : (t : ℕ) → contents-lts.Need-refusal-requires-2 (
@@ -234,7 +236,7 @@ contents-element-requires : (t : ℕ) → contents-lts.Need-element-requires (
   element-below t,
   element.Post,
 ) (contents-at t) contents.Post contents-Inv-loop contents-μ-loop
-contents-element-requires t c κs = let w = unit-lies (c .before .before .before .before .before .before .before .before .before .before .args .s .now) (c .before .before .before .before .before .before .before .before .loop .p) (rw (c .before .before .before .before .before .before .before .unit-at .ensures) at (c .before .before .before .before .before .if1 .left)) in (omega (arith, c .before .before .before .before .before .before .before .before .before .before .pre .0), rw (c .before .before .before .before .before .before .before .unit-at .ensures) (w .next))
+contents-element-requires t c κs = (omega (arith, c .before .before .before .before .before .before .before .before .before .before .pre .0), lies-at _ _ _ (c .before .before .before .before .before .before .before .unit-at .ensures) (c .before .before .before .before .before .if1 .left) .next)
 
 -- src/lib.rt:310:13
 contents-returns-4 : (t : ℕ) → contents-lts.Need-returns-4 (
