@@ -19,7 +19,7 @@ use Rattle.xml_model.specs.State.{no, ok, andThen, counted, opening, closing}
 use Rattle.xml_model.specs.Text.{Frame, frame, leadsTo, entered, opened, ended, child, judge, refusal, go, follow}
 use Rattle.xml_model.proofs.Units.{Lies, unit-lies}
 use Rattle.xml_read.specs.declared.Child.{Child}
-use Rattle.xml_read.specs.Nesting.{childAt, entering, firstTag, reached, after, Element, Contents, Turn}
+use Rattle.xml_read.specs.Nesting.{childAt, entering, openingTag, emptyTag, reached, after, Element, Contents, Turn}
 use Rattle.xml_read.proofs.Units.{go-unit, go-done, follow-leads, after-good, after-fault}
 
 -- ## Steps at a tag
@@ -49,10 +49,6 @@ not-refused : {P : Type 0} (c p : ℕ) → (c ≡ 0 → ⊥) → refusal c p .co
 unfolding refusal
 not-refused c p h e = absurd (h e)
 
-pub then-then : (d : Done) (f g : State → Done) → andThen (andThen d f) g ≡ andThen d (λ u. andThen (f u) g)
-unfolding andThen
-then-then d f g = on-test (eqb (d .code) 0) (λ q. rw q) (λ q. rw (q, q))
-
 -- where a unit lies
 pub lies-at : (s : List ℕ) (p : ℕ) (t : Tag) → t ≡ unitAt s p → t .code ≡ 0 → Lies (length s) p t
 lies-at s p t u = rw u (unit-lies s p)
@@ -78,25 +74,23 @@ module _ (s : List ℕ) (t : Tag) (role left : ℕ) (st : State) where
           (λ q. rw q (follow-fault s (t .next) (frame (t .name) (t .end) role 0 ∷ k) (no 41) (λ e. omega arith)))
           (λ q. rw q (follow-fault s (t .next) k (no 41) (λ e. omega arith))))
 
-  -- d is what its first tag gives
-  module _ (z : left ≡ 0 → ⊥) (d : Done) (u : d ≡ firstTag s t role st) where
-    -- an element that ends with its first tag
-    pub el-empty : t .next ≤ length s → (t .form ≡ 0 → ⊥) → Element s t role left st (reached (t .next) d)
-    unfolding opened entered firstTag entering
+  module _ (z : left ≡ 0 → ⊥) where
+    -- an empty-element tag
+    pub el-empty : t .next ≤ length s → (t .form ≡ 0 → ⊥) → Element s t role left st (reached (t .next) (emptyTag s t role st))
+    unfolding opened entered emptyTag entering
     el-empty w f = record {
-      reads = λ k e. ap (follow s (t .next)) (empty k e) ∙ follow-leads s (t .next) k d;
-      moved = λ _. omega (arith, reached-at (t .next) d);
-      within = λ _. omega (arith, w, reached-at (t .next) d);
+      reads = λ k e. ap (follow s (t .next)) (empty k e) ∙ follow-leads s (t .next) k (emptyTag s t role st);
+      moved = λ _. omega (arith, reached-at (t .next) (emptyTag s t role st));
+      within = λ _. omega (arith, w, reached-at (t .next) (emptyTag s t role st));
     }
       where
-        empty : (k : List Frame) → length k + left ≡ 12 → opened s t role k st ≡ leadsTo k d
-        empty k e =
-            rw (u, lt-leb 12 (length k) (omega (arith, z)), ne-eqb _ _ f)
-            (ap (leadsTo k) (then-then (entering s t role st) (λ u. closing s (t .next) (t .next) role 0 u) counted))
+        empty : (k : List Frame) → length k + left ≡ 12 → opened s t role k st ≡ leadsTo k (emptyTag s t role st)
+        empty k e = rw (lt-leb 12 (length k) (omega (arith, z)), ne-eqb _ _ f)
 
-    module _ (f : t .form ≡ 0) where
+    -- an opening tag, and d is what it gives
+    module _ (f : t .form ≡ 0) (d : Done) (u : d ≡ openingTag s t role st) where
       opens : (k : List Frame) → length k + left ≡ 12 → opened s t role k st ≡ leadsTo (frame (t .name) (t .end) role 0 ∷ k) d
-      unfolding opened entered firstTag entering andThen
+      unfolding opened entered openingTag entering
       opens k e = rw (u, lt-leb 12 (length k) (omega (arith, z)), eq-eqb _ _ f)
 
       pub el-fault : (d .code ≡ 0 → ⊥) → Element s t role left st (refusal (d .code) (t .next))
@@ -180,15 +174,17 @@ module _ (s : List ℕ) (at name end role left : ℕ) (st₀ : State) where
     unfolding judge
     co-stuck n = stopped (t .code) n (λ k. rw (ne-eqb _ _ n))
 
+    abbrev last : Done
+    last = ended s t (frame name end role state) st
+
     module _ (q : t .code ≡ 0) where
-      -- the end tag, and d is what it gives
-      pub co-ended : t .form ≡ 2 → (d : Done) → d ≡ ended s t (frame name end role state) st
-          → Contents s at name end role left st₀ (reached (t .next) d)
+      -- the end tag
+      pub co-ended : t .form ≡ 2 → Contents s at name end role left st₀ (reached (t .next) last)
       unfolding judge
-      co-ended f d g = record {
-        reads = λ k e. unit k e ∙ rw (eq-eqb _ _ q, eq-eqb _ _ f, ← g) (follow-leads s (t .next) k d);
-        moved = λ _. let w = lies q in omega (arith, h .moved, reached-at (t .next) d);
-        within = λ _. let w = lies q in omega (arith, reached-at (t .next) d);
+      co-ended f = record {
+        reads = λ k e. unit k e ∙ rw (eq-eqb _ _ q, eq-eqb _ _ f) (follow-leads s (t .next) k last);
+        moved = λ _. let w = lies q in omega (arith, h .moved, reached-at (t .next) last);
+        within = λ _. let w = lies q in omega (arith, reached-at (t .next) last);
       }
 
       -- a child, and c is what the element makes of it

@@ -33,11 +33,12 @@ childAt s t role state =
 unfoldable pub entering : List ℕ → Tag → ℕ → State → Done
 entering s t role st = cond (eqb role skippedRole) (ok st) (opening s t role st)
 
--- ... and counted; an empty-element tag is also its last tag
-unfoldable pub firstTag : List ℕ → Tag → ℕ → State → Done
-firstTag s t role st =
-    andThen (entering s t role st) (λ u.
-    cond (eqb (t .form) 0) (counted u) (andThen (closing s (t .next) (t .next) role 0 u) counted))
+-- an opening tag, and an empty-element tag, which is also the element's last tag
+unfoldable pub openingTag : List ℕ → Tag → ℕ → State → Done
+openingTag s t role st = andThen (entering s t role st) counted
+
+unfoldable pub emptyTag : List ℕ → Tag → ℕ → State → Done
+emptyTag s t role st = andThen (andThen (entering s t role st) (λ u. closing s (t .next) (t .next) role 0 u)) counted
 
 -- a step at a tag that ends at p
 unfoldable pub reached : ℕ → Done → Progress

@@ -9,7 +9,7 @@ ghost use Rattle.xml_model.specs.Bytes.{runEnd, byteAt, bare, stuck, looked};
 ghost use Rattle.xml_model.specs.Elements.{nameOf, rowOf, childRole, nextState, holdsAnything};
 ghost use Rattle.xml_model.specs.State.{blank, ok, no, counted, opening, closing, sameRange};
 ghost use Rattle.xml_model.specs.Text.{frame, ended, refusal, finish, root, progressOf, readingOf};
-ghost use Rattle.xml_read.specs.Nesting.{childAt, entering, firstTag, reached, Element, Contents};
+ghost use Rattle.xml_read.specs.Nesting.{childAt, entering, openingTag, emptyTag, reached, Element, Contents};
 use xml_model::Done;
 use xml_model::Progress;
 use xml_model::Reading;
@@ -227,6 +227,7 @@ fn child_at(s: &[u8], t: Tag, role: u8, state: u8) -> Child
     }
 }
 
+// The first tag of an element, but for its count.
 fn entering(s: &[u8], t: Tag, role: u8, st: State) -> Done
     ensures { λ r. ⌜ r ≡ entering (now (s .entry)) t role st ⌝ }
 {
@@ -236,37 +237,46 @@ fn entering(s: &[u8], t: Tag, role: u8, st: State) -> Done
     opening(s, t, role, st)
 }
 
-// An empty-element tag is also the element's last tag.
-fn first_tag(s: &[u8], t: Tag, role: u8, st: State) -> Done
-    ensures { λ r. ⌜ r ≡ firstTag (now (s .entry)) t role st ⌝ }
+// An opening tag.
+fn opening_tag(s: &[u8], t: Tag, role: u8, st: State) -> Done
+    ensures { λ r. ⌜ r ≡ openingTag (now (s .entry)) t role st ⌝ }
 {
     let d = entering(s, t, role, st);
     if d.code != 0 {
         return d;
     }
     let begun = d.state;
-    if t.form == 0 {
-        return counted(begun);
+    counted(begun)
+}
+
+// An empty-element tag.
+fn empty_tag(s: &[u8], t: Tag, role: u8, st: State) -> Progress
+    ensures { λ r. ⌜ r ≡ reached (t .next) (emptyTag (now (s .entry)) t role st) ⌝ }
+{
+    let d = entering(s, t, role, st);
+    if d.code != 0 {
+        return refusal(d.code, t.next);
     }
+    let begun = d.state;
     let e = closing(s, t.next, t.next, role, 0, begun);
     if e.code != 0 {
-        return e;
+        return refusal(e.code, t.next);
     }
     let done = e.state;
-    counted(done)
+    reached(t.next, counted(done))
 }
 
-// An end tag t, in the element whose name stands from `name` to `end`.
-fn end_tag(s: &[u8], t: Tag, name: usize, end: usize, role: u8, state: u8, st: State) -> Done
-    ensures { λ r. ⌜ r ≡ ended (now (s .entry)) t (frame name end role state) st ⌝ }
+// An end tag, in the element whose name stands from `name` to `end`.
+fn end_tag(s: &[u8], t: Tag, name: usize, end: usize, role: u8, state: u8, st: State) -> Progress
+    ensures { λ r. ⌜ r ≡ reached (t .next) (ended (now (s .entry)) t (frame name end role state) st) ⌝ }
 {
     if same_range(s, t.name, t.end, name, end) {
-        return closing(s, t.from, t.at, role, state, st);
+        return reached(t.next, closing(s, t.from, t.at, role, state, st));
     }
-    refused(40)
+    refusal(40, t.next)
 }
 
-// The element whose first tag is t, with `left` levels for it and what it holds.
+// The element reader: the element whose first tag is t, with `left` levels for it and what it holds.
 fn element(s: &[u8], t: Tag, role: u8, left: u8, st: State) -> Progress
     requires { ⌜ t .next ≤ length (now s) ⌝ }
     ensures { λ r. ⌜ Element (now (s .entry)) t role left st r ⌝ }
@@ -274,10 +284,10 @@ fn element(s: &[u8], t: Tag, role: u8, left: u8, st: State) -> Progress
     if left == 0 {
         return refusal(41, t.next);
     }
-    let d = first_tag(s, t, role, st);
     if t.form != 0 {
-        return reached(t.next, d);
+        return empty_tag(s, t, role, st);
     }
+    let d = opening_tag(s, t, role, st);
     if d.code != 0 {
         return refusal(d.code, t.next);
     }
@@ -285,32 +295,33 @@ fn element(s: &[u8], t: Tag, role: u8, left: u8, st: State) -> Progress
     contents(s, t.next, t.name, t.end, role, left - 1, inside)
 }
 
-// What stands from `at` up to the end tag of the element whose name stands from `name` to `end`.
+// The contents reader: what stands from `at` on in the element whose name stands from `name` to `end`, with its end tag. One value
+// holds the state in turn, since a copy of it in each frame is what the readers need of the stack.
 fn contents(s: &[u8], at: usize, name: usize, end: usize, role: u8, left: u8, st: State) -> Progress
     ensures { λ r. ⌜ Contents (now (s .entry)) at name end role left st r ⌝ }
 {
-    let mut p = at;
     let mut state: u8 = 0;
-    let mut here = st;
+    let mut here = Progress {
+        code: 0,
+        at: at,
+        state: st,
+    };
     loop {
-        let t = unit_at(s, p);
+        let t = unit_at(s, here.at);
         if t.code != 0 {
             return refusal(t.code, t.next);
         }
         if t.form == 2 {
-            let d = end_tag(s, t, name, end, role, state, here);
-            return reached(t.next, d);
+            return end_tag(s, t, name, end, role, state, here.state);
         }
         let c = child_at(s, t, role, state);
         if !c.accepted {
             return refusal(41, t.next);
         }
-        let r = element(s, t, c.role, left, here);
-        if r.code != 0 {
-            return r;
+        here = element(s, t, c.role, left, here.state);
+        if here.code != 0 {
+            return here;
         }
-        here = r.state;
-        p = r.at;
         state = c.state;
     }
 }

@@ -1,13 +1,10 @@
-use Rattle.xml_model.proofs.Units.{Lies}
-use Rattle.xml_read.proofs.Nested.{el-deep, el-empty, el-fault, el-open, co-start, co-stuck, co-ended, co-none, co-fault, co-child, co-less, lies-at}
-use borrow.Author.Tests.{not-true, not-false}
 use native.Mathlib.Omega.{arith}
-use mathlib.Core.Path.{_≡_, sym, _∙_}
+use borrow.Author.Tests.{not-true, not-false}
 use Prim.Native.Nat.{_+_, _-_}
 use lib.ListN.{length}
-use Rattle.xml_model.proofs.Units.{Lies, unit-lies}
-use Rattle.xml_read.specs.Nesting.{Element, Contents, Turn}
-use Rattle.xml_read.proofs.Nested.{el-deep, el-empty, el-fault, el-open, co-start, co-stuck, co-ended, co-none, co-fault, co-child, co-less}
+use Rattle.xml_model.proofs.Units.{Lies}
+use Rattle.xml_read.specs.Nesting.{Turn}
+use Rattle.xml_read.proofs.Nested.{el-deep, el-empty, el-fault, el-open, co-start, co-stuck, co-ended, co-none, co-fault, co-child, co-less, lies-at}
 use Prim.Native.Nat.{ℕ, _<_}
 use borrow.Fn.Kinds.{In}
 use borrow.Fn.PlainCycle.{Measures, is, falls, and}
@@ -18,9 +15,9 @@ use Rattle.xml_read.proofs.element.Reads as element
 use Rattle.xml_read.proofs.element.Kinds as element-kinds
 use Rattle.xml_read.proofs.+contents+element.Lts-element as element-lts
 use Rattle.xml_read.proofs.child_at.Reads as child-at-reads
+use Rattle.xml_read.proofs.empty_tag.Reads as empty-tag-reads
 use Rattle.xml_read.proofs.end_tag.Reads as end-tag-reads
-use Rattle.xml_read.proofs.first_tag.Reads as first-tag-reads
-use Rattle.xml_read.proofs.reached.Reads as reached-reads
+use Rattle.xml_read.proofs.opening_tag.Reads as opening-tag-reads
 use Rattle.xml_read.proofs.refusal.Reads as refusal-reads
 use Rattle.xml_read.proofs.unit_at.Reads as unit-at-reads
 use Rattle.xml_read.proofs.+contents+element.{statement}
@@ -46,12 +43,12 @@ abbrev element-below : ℕ → In 1 element-kinds.ps
 element-below t = and 1 element-kinds.ps (falls 1 element-kinds.ps _<_ μ-element t) element.Pre
 
 abbrev contents-Inv-loop : contents-lts.InvT-loop
-contents-Inv-loop s at name end role left p₀ state₀ here₀ p state here = Turn s at name end role left here₀ p state here
+contents-Inv-loop s at name end role left state₀ here₀ state here = Turn s at name end role left (here₀ .state) (here .at) state (here .state)
 
 abbrev contents-μ-loop : contents-lts.MeasureT-loop
-contents-μ-loop s at name end role left p₀ state₀ here₀ p state here = length s - p
+contents-μ-loop s at name end role left state₀ here₀ state here = length s - here .at
 
--- src/lib.rt:295:5
+-- src/lib.rt:309:5
 contents-loop-holds : (t : ℕ) → contents-lts.Need-loop-holds (
   unit-at-reads.Asked,
   unit-at-reads.Learnt,
@@ -59,8 +56,6 @@ contents-loop-holds : (t : ℕ) → contents-lts.Need-loop-holds (
   refusal-reads.Learnt,
   end-tag-reads.Asked,
   end-tag-reads.Learnt,
-  reached-reads.Asked,
-  reached-reads.Learnt,
   child-at-reads.Asked,
   child-at-reads.Learnt,
   element-below t,
@@ -68,7 +63,7 @@ contents-loop-holds : (t : ℕ) → contents-lts.Need-loop-holds (
 ) (contents-at t) contents.Post contents-Inv-loop contents-μ-loop
 contents-loop-holds t c = co-start _ _ _ _ _ _ _
 
--- src/lib.rt:296:13
+-- src/lib.rt:310:13
 contents-unit-at-requires : (t : ℕ) → contents-lts.Need-unit-at-requires (
   unit-at-reads.Asked,
   unit-at-reads.Learnt,
@@ -76,8 +71,6 @@ contents-unit-at-requires : (t : ℕ) → contents-lts.Need-unit-at-requires (
   refusal-reads.Learnt,
   end-tag-reads.Asked,
   end-tag-reads.Learnt,
-  reached-reads.Asked,
-  reached-reads.Learnt,
   child-at-reads.Asked,
   child-at-reads.Learnt,
   element-below t,
@@ -85,7 +78,7 @@ contents-unit-at-requires : (t : ℕ) → contents-lts.Need-unit-at-requires (
 ) (contents-at t) contents.Post contents-Inv-loop contents-μ-loop
 contents-unit-at-requires t c κs = tt
 
--- src/lib.rt:298:13
+-- src/lib.rt:312:13
 contents-refusal-requires : (t : ℕ) → contents-lts.Need-refusal-requires (
   unit-at-reads.Asked,
   unit-at-reads.Learnt,
@@ -93,8 +86,6 @@ contents-refusal-requires : (t : ℕ) → contents-lts.Need-refusal-requires (
   refusal-reads.Learnt,
   end-tag-reads.Asked,
   end-tag-reads.Learnt,
-  reached-reads.Asked,
-  reached-reads.Learnt,
   child-at-reads.Asked,
   child-at-reads.Learnt,
   element-below t,
@@ -102,7 +93,7 @@ contents-refusal-requires : (t : ℕ) → contents-lts.Need-refusal-requires (
 ) (contents-at t) contents.Post contents-Inv-loop contents-μ-loop
 contents-refusal-requires t c κs = tt
 
--- src/lib.rt:298:13
+-- src/lib.rt:312:13
 contents-returns : (t : ℕ) → contents-lts.Need-returns (
   unit-at-reads.Asked,
   unit-at-reads.Learnt,
@@ -110,8 +101,6 @@ contents-returns : (t : ℕ) → contents-lts.Need-returns (
   refusal-reads.Learnt,
   end-tag-reads.Asked,
   end-tag-reads.Learnt,
-  reached-reads.Asked,
-  reached-reads.Learnt,
   child-at-reads.Asked,
   child-at-reads.Learnt,
   element-below t,
@@ -119,7 +108,7 @@ contents-returns : (t : ℕ) → contents-lts.Need-returns (
 ) (contents-at t) contents.Post contents-Inv-loop contents-μ-loop
 contents-returns t c = rw (c .refusal .ensures) (co-stuck _ _ _ _ _ _ _ _ _ _ (c .before .before .before .before .loop .inv) _ (c .before .before .before .unit-at .ensures) (c .before .if1 .taken))
 
--- src/lib.rt:301:17
+-- src/lib.rt:315:13
 contents-end-tag-requires : (t : ℕ) → contents-lts.Need-end-tag-requires (
   unit-at-reads.Asked,
   unit-at-reads.Learnt,
@@ -127,8 +116,6 @@ contents-end-tag-requires : (t : ℕ) → contents-lts.Need-end-tag-requires (
   refusal-reads.Learnt,
   end-tag-reads.Asked,
   end-tag-reads.Learnt,
-  reached-reads.Asked,
-  reached-reads.Learnt,
   child-at-reads.Asked,
   child-at-reads.Learnt,
   element-below t,
@@ -136,24 +123,7 @@ contents-end-tag-requires : (t : ℕ) → contents-lts.Need-end-tag-requires (
 ) (contents-at t) contents.Post contents-Inv-loop contents-μ-loop
 contents-end-tag-requires t c κs = tt
 
--- src/lib.rt:302:13
-contents-reached-requires : (t : ℕ) → contents-lts.Need-reached-requires (
-  unit-at-reads.Asked,
-  unit-at-reads.Learnt,
-  refusal-reads.Asked,
-  refusal-reads.Learnt,
-  end-tag-reads.Asked,
-  end-tag-reads.Learnt,
-  reached-reads.Asked,
-  reached-reads.Learnt,
-  child-at-reads.Asked,
-  child-at-reads.Learnt,
-  element-below t,
-  element.Post,
-) (contents-at t) contents.Post contents-Inv-loop contents-μ-loop
-contents-reached-requires t c κs = tt
-
--- src/lib.rt:302:13
+-- src/lib.rt:315:13
 contents-returns-2 : (t : ℕ) → contents-lts.Need-returns-2 (
   unit-at-reads.Asked,
   unit-at-reads.Learnt,
@@ -161,16 +131,14 @@ contents-returns-2 : (t : ℕ) → contents-lts.Need-returns-2 (
   refusal-reads.Learnt,
   end-tag-reads.Asked,
   end-tag-reads.Learnt,
-  reached-reads.Asked,
-  reached-reads.Learnt,
   child-at-reads.Asked,
   child-at-reads.Learnt,
   element-below t,
   element.Post,
 ) (contents-at t) contents.Post contents-Inv-loop contents-μ-loop
-contents-returns-2 t c = rw (c .reached .ensures) (co-ended _ _ _ _ _ _ _ _ _ _ (c .before .before .before .before .before .before .before .loop .inv) _ (c .before .before .before .before .before .before .unit-at .ensures) (c .before .before .before .before .if1 .left) (c .before .before .if2 .taken) _ (c .before .end-tag .ensures))
+contents-returns-2 t c = rw (c .end-tag .ensures) (co-ended _ _ _ _ _ _ _ _ _ _ (c .before .before .before .before .before .before .loop .inv) _ (c .before .before .before .before .before .unit-at .ensures) (c .before .before .before .if1 .left) (c .before .if2 .taken))
 
--- src/lib.rt:304:13
+-- src/lib.rt:317:13
 contents-child-at-requires : (t : ℕ) → contents-lts.Need-child-at-requires (
   unit-at-reads.Asked,
   unit-at-reads.Learnt,
@@ -178,8 +146,6 @@ contents-child-at-requires : (t : ℕ) → contents-lts.Need-child-at-requires (
   refusal-reads.Learnt,
   end-tag-reads.Asked,
   end-tag-reads.Learnt,
-  reached-reads.Asked,
-  reached-reads.Learnt,
   child-at-reads.Asked,
   child-at-reads.Learnt,
   element-below t,
@@ -187,7 +153,7 @@ contents-child-at-requires : (t : ℕ) → contents-lts.Need-child-at-requires (
 ) (contents-at t) contents.Post contents-Inv-loop contents-μ-loop
 contents-child-at-requires t c κs = let w = lies-at _ _ _ (c .before .before .before .before .unit-at .ensures) (c .before .before .if1 .left) in (w .named, omega arith)
 
--- src/lib.rt:306:13
+-- src/lib.rt:319:13
 contents-refusal-requires-2 : (t : ℕ) → contents-lts.Need-refusal-requires-2 (
   unit-at-reads.Asked,
   unit-at-reads.Learnt,
@@ -195,8 +161,6 @@ contents-refusal-requires-2 : (t : ℕ) → contents-lts.Need-refusal-requires-2
   refusal-reads.Learnt,
   end-tag-reads.Asked,
   end-tag-reads.Learnt,
-  reached-reads.Asked,
-  reached-reads.Learnt,
   child-at-reads.Asked,
   child-at-reads.Learnt,
   element-below t,
@@ -204,7 +168,7 @@ contents-refusal-requires-2 : (t : ℕ) → contents-lts.Need-refusal-requires-2
 ) (contents-at t) contents.Post contents-Inv-loop contents-μ-loop
 contents-refusal-requires-2 t c κs = tt
 
--- src/lib.rt:306:13
+-- src/lib.rt:319:13
 contents-returns-3 : (t : ℕ) → contents-lts.Need-returns-3 (
   unit-at-reads.Asked,
   unit-at-reads.Learnt,
@@ -212,8 +176,6 @@ contents-returns-3 : (t : ℕ) → contents-lts.Need-returns-3 (
   refusal-reads.Learnt,
   end-tag-reads.Asked,
   end-tag-reads.Learnt,
-  reached-reads.Asked,
-  reached-reads.Learnt,
   child-at-reads.Asked,
   child-at-reads.Learnt,
   element-below t,
@@ -221,7 +183,7 @@ contents-returns-3 : (t : ℕ) → contents-lts.Need-returns-3 (
 ) (contents-at t) contents.Post contents-Inv-loop contents-μ-loop
 contents-returns-3 t c = rw (c .refusal2 .ensures) (co-none _ _ _ _ _ _ _ _ _ _ (c .before .before .before .before .before .before .before .before .before .loop .inv) _ (c .before .before .before .before .before .before .before .before .unit-at .ensures) (c .before .before .before .before .before .before .if1 .left) (c .before .before .before .before .if2 .left) _ (c .before .before .before .child-at .ensures) (not-true _ (c .before .if3 .taken)))
 
--- src/lib.rt:308:13
+-- src/lib.rt:321:9
 contents-element-requires : (t : ℕ) → contents-lts.Need-element-requires (
   unit-at-reads.Asked,
   unit-at-reads.Learnt,
@@ -229,8 +191,6 @@ contents-element-requires : (t : ℕ) → contents-lts.Need-element-requires (
   refusal-reads.Learnt,
   end-tag-reads.Asked,
   end-tag-reads.Learnt,
-  reached-reads.Asked,
-  reached-reads.Learnt,
   child-at-reads.Asked,
   child-at-reads.Learnt,
   element-below t,
@@ -238,7 +198,7 @@ contents-element-requires : (t : ℕ) → contents-lts.Need-element-requires (
 ) (contents-at t) contents.Post contents-Inv-loop contents-μ-loop
 contents-element-requires t c κs = (omega (arith, c .before .before .before .before .before .before .before .before .before .before .pre .0), lies-at _ _ _ (c .before .before .before .before .before .before .before .unit-at .ensures) (c .before .before .before .before .before .if1 .left) .next)
 
--- src/lib.rt:310:13
+-- src/lib.rt:323:13
 contents-returns-4 : (t : ℕ) → contents-lts.Need-returns-4 (
   unit-at-reads.Asked,
   unit-at-reads.Learnt,
@@ -246,8 +206,6 @@ contents-returns-4 : (t : ℕ) → contents-lts.Need-returns-4 (
   refusal-reads.Learnt,
   end-tag-reads.Asked,
   end-tag-reads.Learnt,
-  reached-reads.Asked,
-  reached-reads.Learnt,
   child-at-reads.Asked,
   child-at-reads.Learnt,
   element-below t,
@@ -255,7 +213,7 @@ contents-returns-4 : (t : ℕ) → contents-lts.Need-returns-4 (
 ) (contents-at t) contents.Post contents-Inv-loop contents-μ-loop
 contents-returns-4 t c = co-fault _ _ _ _ _ _ _ _ _ _ (c .before .before .before .before .before .before .before .before .before .before .before .loop .inv) _ (c .before .before .before .before .before .before .before .before .before .before .unit-at .ensures) (c .before .before .before .before .before .before .before .before .if1 .left) (c .before .before .before .before .before .before .if2 .left) _ (c .before .before .before .before .before .child-at .ensures) (not-false _ (c .before .before .before .if3 .left)) _ (c .before .before .element .ensures) (c .if4 .taken)
 
--- src/lib.rt:295:5
+-- src/lib.rt:309:5
 contents-loop-less : (t : ℕ) → contents-lts.Need-loop-less (
   unit-at-reads.Asked,
   unit-at-reads.Learnt,
@@ -263,16 +221,14 @@ contents-loop-less : (t : ℕ) → contents-lts.Need-loop-less (
   refusal-reads.Learnt,
   end-tag-reads.Asked,
   end-tag-reads.Learnt,
-  reached-reads.Asked,
-  reached-reads.Learnt,
   child-at-reads.Asked,
   child-at-reads.Learnt,
   element-below t,
   element.Post,
 ) (contents-at t) contents.Post contents-Inv-loop contents-μ-loop
-contents-loop-less t c = co-less _ _ _ _ _ _ _ _ _ _ (c .before .before .before .before .before .before .before .before .before .before .before .before .loop .inv) _ (c .before .before .before .before .before .before .before .before .before .before .before .unit-at .ensures) (c .before .before .before .before .before .before .before .before .before .if1 .left) (c .before .before .before .before .before .before .before .if2 .left) _ (c .before .before .before .before .before .before .child-at .ensures) (not-false _ (c .before .before .before .before .if3 .left)) _ (c .before .before .before .element .ensures) (c .before .if4 .left)
+contents-loop-less t c = co-less _ _ _ _ _ _ _ _ _ _ (c .before .before .before .before .before .before .before .before .before .before .before .loop .inv) _ (c .before .before .before .before .before .before .before .before .before .before .unit-at .ensures) (c .before .before .before .before .before .before .before .before .if1 .left) (c .before .before .before .before .before .before .if2 .left) _ (c .before .before .before .before .before .child-at .ensures) (not-false _ (c .before .before .before .if3 .left)) _ (c .before .before .element .ensures) (c .if4 .left)
 
--- src/lib.rt:295:5
+-- src/lib.rt:309:5
 contents-loop-again : (t : ℕ) → contents-lts.Need-loop-again (
   unit-at-reads.Asked,
   unit-at-reads.Learnt,
@@ -280,144 +236,142 @@ contents-loop-again : (t : ℕ) → contents-lts.Need-loop-again (
   refusal-reads.Learnt,
   end-tag-reads.Asked,
   end-tag-reads.Learnt,
-  reached-reads.Asked,
-  reached-reads.Learnt,
   child-at-reads.Asked,
   child-at-reads.Learnt,
   element-below t,
   element.Post,
 ) (contents-at t) contents.Post contents-Inv-loop contents-μ-loop
-contents-loop-again t c = co-child _ _ _ _ _ _ _ _ _ _ (c .before .before .before .before .before .before .before .before .before .before .before .before .loop .inv) _ (c .before .before .before .before .before .before .before .before .before .before .before .unit-at .ensures) (c .before .before .before .before .before .before .before .before .before .if1 .left) (c .before .before .before .before .before .before .before .if2 .left) _ (c .before .before .before .before .before .before .child-at .ensures) (not-false _ (c .before .before .before .before .if3 .left)) _ (c .before .before .before .element .ensures) (c .before .if4 .left)
+contents-loop-again t c = co-child _ _ _ _ _ _ _ _ _ _ (c .before .before .before .before .before .before .before .before .before .before .before .loop .inv) _ (c .before .before .before .before .before .before .before .before .before .before .unit-at .ensures) (c .before .before .before .before .before .before .before .before .if1 .left) (c .before .before .before .before .before .before .if2 .left) _ (c .before .before .before .before .before .child-at .ensures) (not-false _ (c .before .before .before .if3 .left)) _ (c .before .before .element .ensures) (c .if4 .left)
 
--- src/lib.rt:275:9
+-- src/lib.rt:285:9
 element-refusal-requires : (t : ℕ) → element-lts.Need-refusal-requires (
   refusal-reads.Asked,
   refusal-reads.Learnt,
-  first-tag-reads.Asked,
-  first-tag-reads.Learnt,
-  reached-reads.Asked,
-  reached-reads.Learnt,
+  empty-tag-reads.Asked,
+  empty-tag-reads.Learnt,
+  opening-tag-reads.Asked,
+  opening-tag-reads.Learnt,
   contents-below t,
   contents.Post,
 ) (element-at t) element.Post
 element-refusal-requires t c κs = tt
 
--- src/lib.rt:275:9
+-- src/lib.rt:285:9
 element-returns : (t : ℕ) → element-lts.Need-returns (
   refusal-reads.Asked,
   refusal-reads.Learnt,
-  first-tag-reads.Asked,
-  first-tag-reads.Learnt,
-  reached-reads.Asked,
-  reached-reads.Learnt,
+  empty-tag-reads.Asked,
+  empty-tag-reads.Learnt,
+  opening-tag-reads.Asked,
+  opening-tag-reads.Learnt,
   contents-below t,
   contents.Post,
 ) (element-at t) element.Post
 element-returns t c = rw (c .refusal .ensures) (el-deep _ _ _ _ _ (c .before .if1 .taken))
 
--- src/lib.rt:277:9
-element-first-tag-requires : (t : ℕ) → element-lts.Need-first-tag-requires (
+-- src/lib.rt:288:9
+element-empty-tag-requires : (t : ℕ) → element-lts.Need-empty-tag-requires (
   refusal-reads.Asked,
   refusal-reads.Learnt,
-  first-tag-reads.Asked,
-  first-tag-reads.Learnt,
-  reached-reads.Asked,
-  reached-reads.Learnt,
+  empty-tag-reads.Asked,
+  empty-tag-reads.Learnt,
+  opening-tag-reads.Asked,
+  opening-tag-reads.Learnt,
   contents-below t,
   contents.Post,
 ) (element-at t) element.Post
-element-first-tag-requires t c κs = tt
+element-empty-tag-requires t c κs = tt
 
--- src/lib.rt:279:9
-element-reached-requires : (t : ℕ) → element-lts.Need-reached-requires (
-  refusal-reads.Asked,
-  refusal-reads.Learnt,
-  first-tag-reads.Asked,
-  first-tag-reads.Learnt,
-  reached-reads.Asked,
-  reached-reads.Learnt,
-  contents-below t,
-  contents.Post,
-) (element-at t) element.Post
-element-reached-requires t c κs = tt
-
--- src/lib.rt:279:9
+-- src/lib.rt:288:9
 element-returns-2 : (t : ℕ) → element-lts.Need-returns-2 (
   refusal-reads.Asked,
   refusal-reads.Learnt,
-  first-tag-reads.Asked,
-  first-tag-reads.Learnt,
-  reached-reads.Asked,
-  reached-reads.Learnt,
+  empty-tag-reads.Asked,
+  empty-tag-reads.Learnt,
+  opening-tag-reads.Asked,
+  opening-tag-reads.Learnt,
   contents-below t,
   contents.Post,
 ) (element-at t) element.Post
-element-returns-2 t c = rw (c .reached .ensures) (el-empty _ _ _ _ _ (c .before .before .before .before .if1 .left) _ (c .before .before .before .first-tag .ensures) (c .before .before .before .before .before .before .pre .1) (c .before .if2 .taken))
+element-returns-2 t c = rw (c .empty-tag .ensures) (el-empty _ _ _ _ _ (c .before .before .before .if1 .left) (c .before .before .before .before .before .pre .1) (c .before .if2 .taken))
 
--- src/lib.rt:282:9
+-- src/lib.rt:290:9
+element-opening-tag-requires : (t : ℕ) → element-lts.Need-opening-tag-requires (
+  refusal-reads.Asked,
+  refusal-reads.Learnt,
+  empty-tag-reads.Asked,
+  empty-tag-reads.Learnt,
+  opening-tag-reads.Asked,
+  opening-tag-reads.Learnt,
+  contents-below t,
+  contents.Post,
+) (element-at t) element.Post
+element-opening-tag-requires t c κs = tt
+
+-- src/lib.rt:292:9
 element-refusal-requires-2 : (t : ℕ) → element-lts.Need-refusal-requires-2 (
   refusal-reads.Asked,
   refusal-reads.Learnt,
-  first-tag-reads.Asked,
-  first-tag-reads.Learnt,
-  reached-reads.Asked,
-  reached-reads.Learnt,
+  empty-tag-reads.Asked,
+  empty-tag-reads.Learnt,
+  opening-tag-reads.Asked,
+  opening-tag-reads.Learnt,
   contents-below t,
   contents.Post,
 ) (element-at t) element.Post
 element-refusal-requires-2 t c κs = tt
 
--- src/lib.rt:282:9
+-- src/lib.rt:292:9
 element-returns-3 : (t : ℕ) → element-lts.Need-returns-3 (
   refusal-reads.Asked,
   refusal-reads.Learnt,
-  first-tag-reads.Asked,
-  first-tag-reads.Learnt,
-  reached-reads.Asked,
-  reached-reads.Learnt,
+  empty-tag-reads.Asked,
+  empty-tag-reads.Learnt,
+  opening-tag-reads.Asked,
+  opening-tag-reads.Learnt,
   contents-below t,
   contents.Post,
 ) (element-at t) element.Post
-element-returns-3 t c = rw (c .refusal2 .ensures) (el-fault _ _ _ _ _ (c .before .before .before .before .before .before .if1 .left) _ (c .before .before .before .before .before .first-tag .ensures) (c .before .before .before .if2 .left) (c .before .if3 .taken))
+element-returns-3 t c = rw (c .refusal2 .ensures) (el-fault _ _ _ _ _ (c .before .before .before .before .before .before .if1 .left) (c .before .before .before .before .if2 .left) _ (c .before .before .before .opening-tag .ensures) (c .before .if3 .taken))
 
--- src/lib.rt:285:46
+-- src/lib.rt:295:46
 element-sub-contents : (t : ℕ) → element-lts.Need-sub-contents (
   refusal-reads.Asked,
   refusal-reads.Learnt,
-  first-tag-reads.Asked,
-  first-tag-reads.Learnt,
-  reached-reads.Asked,
-  reached-reads.Learnt,
+  empty-tag-reads.Asked,
+  empty-tag-reads.Learnt,
+  opening-tag-reads.Asked,
+  opening-tag-reads.Learnt,
   contents-below t,
   contents.Post,
 ) (element-at t) element.Post
 element-sub-contents t c = omega arith
 
--- src/lib.rt:285:5
+-- src/lib.rt:295:5
 element-contents-requires : (t : ℕ) → element-lts.Need-contents-requires (
   refusal-reads.Asked,
   refusal-reads.Learnt,
-  first-tag-reads.Asked,
-  first-tag-reads.Learnt,
-  reached-reads.Asked,
-  reached-reads.Learnt,
+  empty-tag-reads.Asked,
+  empty-tag-reads.Learnt,
+  opening-tag-reads.Asked,
+  opening-tag-reads.Learnt,
   contents-below t,
   contents.Post,
 ) (element-at t) element.Post
 element-contents-requires t c κs = (omega (arith, c .before .before .before .before .before .before .before .before .pre .0, c .before .before .before .before .before .before .if1 .left), tt)
 
--- src/lib.rt:270:1
+-- src/lib.rt:280:1
 element-returns-4 : (t : ℕ) → element-lts.Need-returns-4 (
   refusal-reads.Asked,
   refusal-reads.Learnt,
-  first-tag-reads.Asked,
-  first-tag-reads.Learnt,
-  reached-reads.Asked,
-  reached-reads.Learnt,
+  empty-tag-reads.Asked,
+  empty-tag-reads.Learnt,
+  opening-tag-reads.Asked,
+  opening-tag-reads.Learnt,
   contents-below t,
   contents.Post,
 ) (element-at t) element.Post
-element-returns-4 t c = el-open _ _ _ _ _ (c .before .before .before .before .before .before .before .if1 .left) _ (c .before .before .before .before .before .before .first-tag .ensures) (c .before .before .before .before .if2 .left) (c .before .before .if3 .left) _ (c .contents .ensures)
+element-returns-4 t c = el-open _ _ _ _ _ (c .before .before .before .before .before .before .before .if1 .left) (c .before .before .before .before .before .if2 .left) _ (c .before .before .before .before .opening-tag .ensures) (c .before .before .if3 .left) _ (c .contents .ensures)
 
 pub +contents+element-spec : {M : Type 1} → statement M
 +contents+element-spec = close μ-contents μ-element (λ t. contents-lts.spec (
@@ -427,8 +381,6 @@ pub +contents+element-spec : {M : Type 1} → statement M
   refusal-reads.Learnt,
   end-tag-reads.Asked,
   end-tag-reads.Learnt,
-  reached-reads.Asked,
-  reached-reads.Learnt,
   child-at-reads.Asked,
   child-at-reads.Learnt,
   element-below t,
@@ -443,7 +395,6 @@ pub +contents+element-spec : {M : Type 1} → statement M
     (contents-refusal-requires t)
     (contents-returns t)
     (contents-end-tag-requires t)
-    (contents-reached-requires t)
     (contents-returns-2 t)
     (contents-child-at-requires t)
     (contents-refusal-requires-2 t)
@@ -455,10 +406,10 @@ pub +contents+element-spec : {M : Type 1} → statement M
     λ t. element-lts.spec (
       refusal-reads.Asked,
       refusal-reads.Learnt,
-      first-tag-reads.Asked,
-      first-tag-reads.Learnt,
-      reached-reads.Asked,
-      reached-reads.Learnt,
+      empty-tag-reads.Asked,
+      empty-tag-reads.Learnt,
+      opening-tag-reads.Asked,
+      opening-tag-reads.Learnt,
       contents-below t,
       contents.Post,
     )
@@ -466,9 +417,9 @@ pub +contents+element-spec : {M : Type 1} → statement M
     element.Post
     (element-refusal-requires t)
     (element-returns t)
-    (element-first-tag-requires t)
-    (element-reached-requires t)
+    (element-empty-tag-requires t)
     (element-returns-2 t)
+    (element-opening-tag-requires t)
     (element-refusal-requires-2 t)
     (element-returns-3 t)
     (element-sub-contents t)
