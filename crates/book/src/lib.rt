@@ -9,6 +9,15 @@ ghost use Rattle.book.specs.Blank.{noAsset, noEntry, noPlayer, noBook, c
 // The latest time that an event can have.
 pub const LATEST_TIME: u32 = 4000000000;
 
+// The least value of a flagged count, timed count, interval or accumulated.
+pub const LEAST_LIMIT: u32 = 1;
+
+// The greatest count, timed count and timer.
+pub const MOST_TIMES: u32 = 1000000;
+
+// The greatest interval and accumulated.
+pub const MOST_SECONDS: u32 = 100000000;
+
 // Later than any time that an event or an until can have.
 pub const NEVER: u32 = 4294967295;
 

@@ -5,9 +5,8 @@ ghost use mathlib.Core.Bool.{cond};
 ghost use Prim.Native.Nat.{_≤_};
 ghost use lib.ListN.{length};
 ghost use Rattle.xml_model.specs.Tags.{unitAt};
-ghost use Rattle.xml_model.specs.Bytes.{runEnd, byteAt, bare, stuck, looked};
 ghost use Rattle.xml_model.specs.Elements.{nameOf, rowOf, childRole, nextState, holdsAnything};
-ghost use Rattle.xml_model.specs.State.{blank, ok, no, counted, opening, closing, sameRange};
+ghost use Rattle.xml_model.specs.State.{opening, closing};
 ghost use Rattle.xml_model.specs.Text.{frame, ended, refusal, finish, root, progressOf, readingOf};
 ghost use Rattle.xml_read.specs.Nesting.{childAt, entering, openingTag, emptyTag, reached, Element, Contents};
 use xml_model::Done;
@@ -15,15 +14,21 @@ use xml_model::Progress;
 use xml_model::Reading;
 use xml_model::State;
 use xml_model::Tag;
-use book::Asset;
-use book::Book;
-use book::Limits;
-use book::blank_asset;
-use book::blank_book;
-use book::blank_entry;
-use xml_model::Id;
-use xml_model::Ids;
-use xml_model::References;
+use xml_scan::SPACES;
+use xml_scan::byte_at;
+use xml_scan::is_bare;
+use xml_scan::looked;
+use xml_scan::run_end;
+use xml_scan::same_range;
+use xml_scan::stuck_code;
+use xml_scan::unit_at;
+use xml_steps::accepted;
+use xml_steps::blank_state;
+use xml_steps::counted;
+use xml_steps::refused;
+
+// "to depth 12, rights being 1"
+const MOST_DEEP: u8 = 12;
 
 // What an open element makes of a child: whether it is accepted, its role, and the state to which it leads its parent.
 pub struct Child {
@@ -33,58 +38,6 @@ pub struct Child {
 }
 
 // STANDIN
-fn blank_state() -> State
-    ensures { λ r. ⌜ r ≡ blank ⌝ }
-{
-    let entry = blank_entry();
-    let limits = entry.limits;
-    let none = Id {
-        from: 0,
-        to: 0,
-        asset: 0,
-    };
-    let ids = Ids {
-        count: 0,
-        table: [none; 256],
-    };
-    let references = References {
-        count: 0,
-        table: [0; 64],
-    };
-    State {
-        elements: 0,
-        ids: ids,
-        asset: blank_asset(),
-        assetid: 256,
-        references: references,
-        limits: limits,
-        book: blank_book(),
-    }
-}
-
-fn accepted(st: State) -> Done
-    ensures { λ r. ⌜ r ≡ ok st ⌝ }
-{
-    Done {
-        code: 0,
-        state: st,
-    }
-}
-
-fn refused(code: u8) -> Done
-    ensures { λ r. ⌜ r ≡ no code ⌝ }
-{
-    Done {
-        code: code,
-        state: blank_state(),
-    }
-}
-
-fn counted(st: State) -> Done
-    ensures { λ r. ⌜ r ≡ counted st ⌝ }
-{
-    refused(42)
-}
 
 fn opening(s: &[u8], t: Tag, role: u8, st: State) -> Done
     ensures { λ r. ⌜ r ≡ opening (now (s .entry)) t role st ⌝ }
@@ -96,56 +49,6 @@ fn closing(s: &[u8], a: usize, b: usize, role: u8, state: u8, st: State) -> Done
     ensures { λ r. ⌜ r ≡ closing (now (s .entry)) a b role state st ⌝ }
 {
     refused(42)
-}
-
-fn unit_at(s: &[u8], i: usize) -> Tag
-    ensures { λ r. ⌜ r ≡ unitAt (now (s .entry)) i ⌝ }
-{
-    Tag {
-        code: 0,
-        form: 0,
-        from: 0,
-        at: 0,
-        name: 0,
-        end: 0,
-        next: 0,
-    }
-}
-
-fn run_end(s: &[u8], class: u16, from: usize) -> usize
-    ensures { λ r. ⌜ r ≡ runEnd class (now (s .entry)) from ⌝ }
-{
-    from
-}
-
-fn byte_at(s: &[u8], i: usize) -> u16
-    ensures { λ r. ⌜ r ≡ byteAt (now (s .entry)) i ⌝ }
-{
-    0
-}
-
-fn is_bare(s: &[u8], a: usize, b: usize) -> bool
-    ensures { λ r. ⌜ r ≡ bare (now (s .entry)) a b ⌝ }
-{
-    a < b
-}
-
-fn stuck_code(s: &[u8], i: usize) -> u8
-    ensures { λ r. ⌜ r ≡ stuck (now (s .entry)) i ⌝ }
-{
-    0
-}
-
-fn looked(s: &[u8], i: usize) -> usize
-    ensures { λ r. ⌜ r ≡ looked (now (s .entry)) i ⌝ }
-{
-    0
-}
-
-fn same_range(s: &[u8], a: usize, b: usize, x: usize, y: usize) -> bool
-    ensures { λ r. ⌜ r ≡ sameRange (now (s .entry)) a b x y ⌝ }
-{
-    a < b
 }
 
 fn name_of(v: &[u8]) -> u8
@@ -333,7 +236,7 @@ fn finished(s: &[u8], r: Progress) -> Progress
     if r.code != 0 {
         return r;
     }
-    let z = run_end(s, 0, r.at);
+    let z = run_end(s, SPACES, r.at);
     if z < s.len() {
         return refusal(stuck_code(s, z), looked(s, z));
     }
@@ -355,7 +258,7 @@ fn root_at(s: &[u8], i: usize) -> Progress
     let a = t.name;
     let b = t.end;
     if name_of(&s[a..b]) == 1 {
-        let r = element(s, t, 1, 12, blank_state());
+        let r = element(s, t, 1, MOST_DEEP, blank_state());
         return finished(s, r);
     }
     refusal(41, t.next)
@@ -364,7 +267,7 @@ fn root_at(s: &[u8], i: usize) -> Progress
 fn progress_of(s: &[u8]) -> Progress
     ensures { λ r. ⌜ r ≡ progressOf (now (s .entry)) ⌝ }
 {
-    let i = run_end(s, 0, 0);
+    let i = run_end(s, SPACES, 0);
     if byte_at(s, i) != 60 {
         return refusal(stuck_code(s, i), looked(s, i));
     }

@@ -19,7 +19,7 @@ use Rattle.xml_read.proofs.empty_tag.Reads as empty-tag-reads
 use Rattle.xml_read.proofs.end_tag.Reads as end-tag-reads
 use Rattle.xml_read.proofs.opening_tag.Reads as opening-tag-reads
 use Rattle.xml_read.proofs.refusal.Reads as refusal-reads
-use Rattle.xml_read.proofs.unit_at.Reads as unit-at-reads
+use Rattle.xml_scan.proofs.unit_at.Reads as unit-at-reads
 use Rattle.xml_read.proofs.+contents+element.{statement}
 use Rattle.xml_read.proofs.+contents+element.Tie.{close}
 

@@ -6,7 +6,7 @@ use Rattle.xml_read.proofs.child_at.Reads as reads
 use Rattle.xml_read.proofs.child_at.Lts as lts
 use Rattle.xml_read.proofs.child_role.Reads as child-role-reads
 use Rattle.xml_read.proofs.holds_anything.Reads as holds-anything-reads
-use Rattle.xml_read.proofs.is_bare.Reads as is-bare-reads
+use Rattle.xml_scan.proofs.is_bare.Reads as is-bare-reads
 use Rattle.xml_read.proofs.name_of.Reads as name-of-reads
 use Rattle.xml_read.proofs.next_state.Reads as next-state-reads
 use Rattle.xml_read.proofs.pick8.Reads as pick8-reads

@@ -3,7 +3,7 @@ use Rattle.xml_read.proofs.closing.Statement.{statement}
 use Rattle.xml_read.proofs.closing.Tie as tie
 use Rattle.xml_read.proofs.closing.Reads as reads
 use Rattle.xml_read.proofs.closing.Lts as lts
-use Rattle.xml_read.proofs.refused.Reads as refused-reads
+use Rattle.xml_steps.proofs.refused.Reads as refused-reads
 
 -- src/lib.rt:98:5
 refused-requires : tie.Need-refused-requires

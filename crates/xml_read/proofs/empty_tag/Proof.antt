@@ -7,7 +7,7 @@ use Rattle.xml_read.proofs.empty_tag.Tie as tie
 use Rattle.xml_read.proofs.empty_tag.Reads as reads
 use Rattle.xml_read.proofs.empty_tag.Lts as lts
 use Rattle.xml_read.proofs.closing.Reads as closing-reads
-use Rattle.xml_read.proofs.counted.Reads as counted-reads
+use Rattle.xml_steps.proofs.counted.Reads as counted-reads
 use Rattle.xml_read.proofs.entering.Reads as entering-reads
 use Rattle.xml_read.proofs.reached.Reads as reached-reads
 use Rattle.xml_read.proofs.refusal.Reads as refusal-reads

@@ -9,7 +9,7 @@ use Rattle.xml_read.proofs.end_tag.Lts as lts
 use Rattle.xml_read.proofs.closing.Reads as closing-reads
 use Rattle.xml_read.proofs.reached.Reads as reached-reads
 use Rattle.xml_read.proofs.refusal.Reads as refusal-reads
-use Rattle.xml_read.proofs.same_range.Reads as same-range-reads
+use Rattle.xml_scan.proofs.same_range.Reads as same-range-reads
 
 -- src/lib.rt:273:8
 same-range-requires : tie.Need-same-range-requires

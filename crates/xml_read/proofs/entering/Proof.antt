@@ -5,7 +5,7 @@ use Rattle.xml_read.proofs.entering.Statement.{statement}
 use Rattle.xml_read.proofs.entering.Tie as tie
 use Rattle.xml_read.proofs.entering.Reads as reads
 use Rattle.xml_read.proofs.entering.Lts as lts
-use Rattle.xml_read.proofs.accepted.Reads as accepted-reads
+use Rattle.xml_steps.proofs.accepted.Reads as accepted-reads
 use Rattle.xml_read.proofs.opening.Reads as opening-reads
 
 -- src/lib.rt:234:9

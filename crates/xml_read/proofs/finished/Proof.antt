@@ -5,10 +5,10 @@ use Rattle.xml_read.proofs.finished.Statement.{statement}
 use Rattle.xml_read.proofs.finished.Tie as tie
 use Rattle.xml_read.proofs.finished.Reads as reads
 use Rattle.xml_read.proofs.finished.Lts as lts
-use Rattle.xml_read.proofs.looked.Reads as looked-reads
+use Rattle.xml_scan.proofs.looked.Reads as looked-reads
 use Rattle.xml_read.proofs.refusal.Reads as refusal-reads
-use Rattle.xml_read.proofs.run_end.Reads as run-end-reads
-use Rattle.xml_read.proofs.stuck_code.Reads as stuck-code-reads
+use Rattle.xml_scan.proofs.run_end.Reads as run-end-reads
+use Rattle.xml_scan.proofs.stuck_code.Reads as stuck-code-reads
 
 -- src/lib.rt:323:9
 returns : tie.Need-returns

@@ -6,7 +6,7 @@ use Rattle.xml_read.proofs.opening_tag.Statement.{statement}
 use Rattle.xml_read.proofs.opening_tag.Tie as tie
 use Rattle.xml_read.proofs.opening_tag.Reads as reads
 use Rattle.xml_read.proofs.opening_tag.Lts as lts
-use Rattle.xml_read.proofs.counted.Reads as counted-reads
+use Rattle.xml_steps.proofs.counted.Reads as counted-reads
 use Rattle.xml_read.proofs.entering.Reads as entering-reads
 
 -- src/lib.rt:244:9

@@ -8,12 +8,12 @@ use Rattle.xml_read.proofs.progress_of.Statement.{statement}
 use Rattle.xml_read.proofs.progress_of.Tie as tie
 use Rattle.xml_read.proofs.progress_of.Reads as reads
 use Rattle.xml_read.proofs.progress_of.Lts as lts
-use Rattle.xml_read.proofs.byte_at.Reads as byte-at-reads
-use Rattle.xml_read.proofs.looked.Reads as looked-reads
+use Rattle.xml_scan.proofs.byte_at.Reads as byte-at-reads
+use Rattle.xml_scan.proofs.looked.Reads as looked-reads
 use Rattle.xml_read.proofs.refusal.Reads as refusal-reads
 use Rattle.xml_read.proofs.root_at.Reads as root-at-reads
-use Rattle.xml_read.proofs.run_end.Reads as run-end-reads
-use Rattle.xml_read.proofs.stuck_code.Reads as stuck-code-reads
+use Rattle.xml_scan.proofs.run_end.Reads as run-end-reads
+use Rattle.xml_scan.proofs.stuck_code.Reads as stuck-code-reads
 
 -- src/lib.rt:356:9
 run-end-requires : tie.Need-run-end-requires

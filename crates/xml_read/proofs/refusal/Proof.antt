@@ -4,7 +4,7 @@ use Rattle.xml_read.proofs.refusal.Statement.{statement}
 use Rattle.xml_read.proofs.refusal.Tie as tie
 use Rattle.xml_read.proofs.refusal.Reads as reads
 use Rattle.xml_read.proofs.refusal.Lts as lts
-use Rattle.xml_read.proofs.blank_state.Reads as blank-state-reads
+use Rattle.xml_steps.proofs.blank_state.Reads as blank-state-reads
 
 -- src/lib.rt:195:16
 blank-state-requires : tie.Need-blank-state-requires

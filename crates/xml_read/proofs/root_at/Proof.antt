@@ -9,12 +9,12 @@ use Rattle.xml_read.proofs.root_at.Statement.{statement}
 use Rattle.xml_read.proofs.root_at.Tie as tie
 use Rattle.xml_read.proofs.root_at.Reads as reads
 use Rattle.xml_read.proofs.root_at.Lts as lts
-use Rattle.xml_read.proofs.blank_state.Reads as blank-state-reads
+use Rattle.xml_steps.proofs.blank_state.Reads as blank-state-reads
 use Rattle.xml_read.proofs.element.Reads as element-reads
 use Rattle.xml_read.proofs.finished.Reads as finished-reads
 use Rattle.xml_read.proofs.name_of.Reads as name-of-reads
 use Rattle.xml_read.proofs.refusal.Reads as refusal-reads
-use Rattle.xml_read.proofs.unit_at.Reads as unit-at-reads
+use Rattle.xml_scan.proofs.unit_at.Reads as unit-at-reads
 
 -- src/lib.rt:340:9
 unit-at-requires : tie.Need-unit-at-requires

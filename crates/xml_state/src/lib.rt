@@ -1,0 +1,252 @@
+// What the first tag and the last tag of an element do to what has been read so far. An id, and every other value of an attribute,
+// is a range of the text. No function here asks anything of the ranges or of the tables' counts.
+ghost use mathlib.Core.Path.{_≡_};
+ghost use mathlib.Core.Bool.{false, cond};
+ghost use Prim.Native.Nat.{_+_, _<_, _≤_, min};
+ghost use lib.ListN.{set};
+ghost use Rattle.xml_model.specs.State.{idsIn, idPosition, idOf, newId, assetNamed, objectAlone, withTimer, flagOf, withFlag};
+ghost use Rattle.xml_model.specs.State.{withLimit, referred, withIdref, stored, keyDone};
+use book::Limits;
+use book::blank_asset;
+use numbers::min_size;
+use numbers::pick16;
+use numbers::pick32;
+use rules::flags_of;
+use xml_model::Done;
+use xml_model::Id;
+use xml_model::Ids;
+use xml_model::Range;
+use xml_model::References;
+use xml_model::State;
+use xml_scan::same_range;
+use xml_steps::NO_POSITION;
+use xml_steps::accepted;
+use xml_steps::refused;
+use xml_steps::with_asset;
+use xml_steps::with_ids;
+use xml_steps::with_limits;
+use xml_steps::with_references;
+
+const ASSET: u8 = 10;
+const PERMISSION: u8 = 14;
+const REFERENCE: u8 = 15;
+const COUNT: u8 = 22;
+const TIMED_COUNT: u8 = 23;
+const START: u8 = 25;
+const END: u8 = 26;
+const INTERVAL: u8 = 27;
+const ACCUMULATED: u8 = 28;
+const VERSION: u8 = 5;
+const OBJECT_UID: u8 = 6;
+const ASSET_UID: u8 = 7;
+const INHERIT_UID: u8 = 8;
+
+fn ids_in(g: Ids) -> usize
+    ensures { λ r. ⌜ r ≡ idsIn g ⌝ }
+{
+    min_size(g.count as usize, 256)
+}
+
+// The position of the value among the ids; how many there are if it is none of them.
+fn id_position(s: &[u8], g: Ids, value: Range) -> usize
+    ensures { λ r. ⌜ r ≡ idPosition (now (s .entry)) g value ⌝ }
+{
+    let n = ids_in(g);
+    let mut i: usize = 0;
+    while i < n {
+        let d = g.table[i];
+        if same_range(s, value.from, value.to, d.from, d.to) {
+            return i;
+        }
+        i = i + 1;
+    }
+    n
+}
+
+// One id more. A full table stays as it is.
+fn with_one_id(value: Range, mut g: Ids) -> Ids
+    ensures { λ r. ⌜ r ≡ record { count = min (idsIn g + 1) 256; table = set (g .table) (idsIn g) (idOf value) } ⌝ }
+{
+    let n = ids_in(g);
+    if 256 <= n {
+        g.count = 256;
+        return g;
+    }
+    g.table[n] = Id {
+        from: value.from,
+        to: value.to,
+        asset: 0,
+    };
+    g.count = (n + 1) as u16;
+    g
+}
+
+fn new_id(s: &[u8], value: Range, st: State) -> Done
+    ensures { λ r. ⌜ r ≡ newId (now (s .entry)) value st ⌝ }
+{
+    if value.from == 0 {
+        return accepted(st);
+    }
+    let g = st.ids;
+    if id_position(s, g, value) < ids_in(g) {
+        return refused(41);
+    }
+    accepted(with_ids(with_one_id(value, g), st))
+}
+
+fn asset_named(s: &[u8], g: Ids, value: Range) -> u16
+    ensures { λ r. ⌜ r ≡ assetNamed (now (s .entry)) g value ⌝ }
+{
+    let i = id_position(s, g, value);
+    if i < ids_in(g) {
+        let d = g.table[i];
+        return d.asset;
+    }
+    0
+}
+
+fn object_alone(x: u16) -> Limits
+    ensures { λ r. ⌜ r ≡ objectAlone x ⌝ }
+{
+    Limits {
+        object: x,
+        asset: 0,
+        kind: 0,
+        flags: 0,
+        count: 0,
+        timed: 0,
+        timer: 0,
+        start: 0,
+        end: 0,
+        interval: 0,
+        accumulated: 0,
+    }
+}
+
+fn with_timer(x: u32, mut l: Limits) -> Limits
+    ensures { λ r. ⌜ r ≡ withTimer x l ⌝ }
+{
+    l.timer = x;
+    l
+}
+
+// The flags with flag w, unless it is set.
+fn added(set: bool, w: u8, flags: u8) -> u8
+    requires { ⌜ (set ≡ false → flags + w < 256) ⌝ }
+    ensures { λ r. ⌜ r ≡ cond set flags (flags + w) ⌝ }
+{
+    if set {
+        return flags;
+    }
+    flags + w
+}
+
+// The flags with that of the role.
+fn with_flag(role: u8, l: Limits) -> u8
+    ensures { λ r. ⌜ r ≡ withFlag (flagOf role) l ⌝ }
+{
+    let f = flags_of(l);
+    if role == COUNT {
+        return added(f.count, 1, l.flags);
+    }
+    if role == TIMED_COUNT {
+        return added(f.timed, 2, l.flags);
+    }
+    if role == START {
+        return added(f.start, 4, l.flags);
+    }
+    if role == END {
+        return added(f.end, 8, l.flags);
+    }
+    if role == INTERVAL {
+        return added(f.interval, 16, l.flags);
+    }
+    added(f.accumulated, 32, l.flags)
+}
+
+fn with_limit(role: u8, x: u32, l: Limits) -> Limits
+    ensures { λ r. ⌜ r ≡ withLimit role x l ⌝ }
+{
+    Limits {
+        object: l.object,
+        asset: l.asset,
+        kind: l.kind,
+        flags: with_flag(role, l),
+        count: pick32(role == COUNT, x, l.count),
+        timed: pick32(role == TIMED_COUNT, x, l.timed),
+        timer: l.timer,
+        start: pick32(role == START, x, l.start),
+        end: pick32(role == END, x, l.end),
+        interval: pick32(role == INTERVAL, x, l.interval),
+        accumulated: pick32(role == ACCUMULATED, x, l.accumulated),
+    }
+}
+
+// One reference more. Those behind the 64th are counted, up to 65.
+fn referred(x: u16, mut references: References) -> References
+    ensures { λ r. ⌜ r ≡ referred x references ⌝ }
+{
+    let n = references.count as usize;
+    if 64 <= n {
+        references.count = 65;
+        return references;
+    }
+    references.table[n] = x;
+    references.count = (n + 1) as u8;
+    references
+}
+
+// An idref, if there is one, is the id of an asset that is closed; an asset reference has one.
+fn with_idref(s: &[u8], value: Range, role: u8, st: State) -> Done
+    ensures { λ r. ⌜ r ≡ withIdref (now (s .entry)) value role st ⌝ }
+{
+    if value.from == 0 {
+        if role == REFERENCE {
+            return refused(41);
+        }
+        return accepted(st);
+    }
+    let g = st.ids;
+    let x = asset_named(s, g, value);
+    if x == 0 {
+        return refused(41);
+    }
+    if role == REFERENCE {
+        let references = st.references;
+        return accepted(with_references(referred(x, references), st));
+    }
+    accepted(st)
+}
+
+// A text value in its place.
+fn stored(role: u8, x: u32, st: State) -> State
+    requires { ⌜ (6 ≤ role → role ≤ 8 → x ≤ 65535) ⌝ }
+    ensures { λ r. ⌜ r ≡ stored role x st ⌝ }
+{
+    if role == VERSION {
+        return st;
+    }
+    if role == OBJECT_UID {
+        return with_limits(object_alone(x as u16), st);
+    }
+    let mut a = st.asset;
+    let i = st.assetid;
+    if role == ASSET_UID {
+        a.number = x as u16;
+        return with_asset(a, i, st);
+    }
+    if role == INHERIT_UID {
+        a.inherit = x as u16;
+        return with_asset(a, i, st);
+    }
+    let l = st.limits;
+    with_limits(with_limit(role, x, l), st)
+}
+
+fn key_done(st: State) -> State
+    ensures { λ r. ⌜ r ≡ keyDone st ⌝ }
+{
+    let mut a = st.asset;
+    a.key = 1;
+    with_asset(a, st.assetid, st)
+}
