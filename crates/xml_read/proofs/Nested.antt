@@ -1,7 +1,7 @@
 -- The two readers: one law for each way through them.
 use Prim.Native.Nat.{ℕ, _+_, _-_, _<_, _≤_}
 use mathlib.Core.Path.{_≡_, refl, sym, ap, _∙_}
-use mathlib.Core.Bool.{Bool, true, false, cond, not, _&&_, _||_, true≢false, false≢true}
+use mathlib.Core.Bool.{true, false, true≢false, false≢true}
 use mathlib.Core.List.{List, [], _∷_}
 use native.Mathlib.Omega.{arith}
 use lib.ListN.{length}
@@ -14,32 +14,23 @@ use Rattle.xml_model.specs.declared.Done.{Done}
 use Rattle.xml_model.specs.declared.Progress.{Progress}
 use Rattle.xml_model.specs.Bytes.{part, bare}
 use Rattle.xml_model.specs.Tags.{unitAt}
-use Rattle.xml_model.specs.Elements.{nameOf, skippedRole, rowOf, rowCount, childRole, nextState, holdsAnything}
-use Rattle.xml_model.specs.State.{no, ok, andThen, counted, opening, closing}
+use Rattle.xml_model.specs.Elements.{nameOf, rowOf, rowCount, holdsAnything}
+use Rattle.xml_model.specs.State.{no, andThen}
 use Rattle.xml_model.specs.Text.{Frame, frame, leadsTo, entered, opened, ended, child, judge, refusal, go, follow}
 use Rattle.xml_model.proofs.Units.{Lies, unit-lies}
 use Rattle.xml_read.specs.declared.Child.{Child}
 use Rattle.xml_read.specs.Nesting.{childAt, entering, openingTag, emptyTag, reached, after, Element, Contents, Turn}
-use Rattle.xml_read.proofs.Units.{go-unit, go-done, follow-leads, after-good, after-fault}
+use Rattle.xml_read.proofs.Units.{go-unit, go-done, follow-leads, follow-good, follow-fault, after-good, after-fault}
 
--- ## Steps at a tag
+-- where a unit lies
+pub lies-at : (s : List ℕ) (p : ℕ) {t : Tag} → t ≡ unitAt s p → t .code ≡ 0 → Lies (length s) p t
+lies-at s p u = rw u (unit-lies s p)
 
 reached-at : (p : ℕ) (d : Done) → reached p d .at ≡ p
 unfolding reached refusal
 reached-at p d = on-test (eqb (d .code) 0) (λ q. rw q) (λ q. rw q)
 
-reached-fault : (p : ℕ) (d : Done) → (d .code ≡ 0 → ⊥) → reached p d ≡ refusal (d .code) p
-unfolding reached
-reached-fault p d h = rw (ne-eqb _ _ h)
-
--- a fault is what follows it
-follow-fault : (s : List ℕ) (p : ℕ) (k : List Frame) (d : Done) → (d .code ≡ 0 → ⊥) → follow s p (leadsTo k d) ≡ refusal (d .code) p
-unfolding follow leadsTo
-follow-fault s p k d h = rw (ne-eqb _ _ h)
-
-follow-good : (s : List ℕ) (p : ℕ) (k : List Frame) (d : Done) → d .code ≡ 0 → follow s p (leadsTo k d) ≡ go s p k (d .state)
-unfolding follow leadsTo
-follow-good s p k d h = rw (eq-eqb _ _ h)
+-- ## Refusals
 
 after-refusal : (s : List ℕ) (k : List Frame) (c p : ℕ) → (c ≡ 0 → ⊥) → after s k (refusal c p) ≡ refusal c p
 unfolding refusal
@@ -49,13 +40,15 @@ not-refused : {P : Type 0} (c p : ℕ) → (c ≡ 0 → ⊥) → refusal c p .co
 unfolding refusal
 not-refused c p h e = absurd (h e)
 
--- where a unit lies
-pub lies-at : (s : List ℕ) (p : ℕ) (t : Tag) → t ≡ unitAt s p → t .code ≡ 0 → Lies (length s) p t
-lies-at s p t u = rw u (unit-lies s p)
-
 -- ## An element
 
-module _ (s : List ℕ) (t : Tag) (role left : ℕ) (st : State) where
+-- an opening tag that is not too deep
+opens : (s : List ℕ) (t : Tag) (role : ℕ) (st : State) (k : List Frame) (d : Done) → d ≡ openingTag s t role st
+    → length k < 12 → t .form ≡ 0 → opened s t role k st ≡ leadsTo (frame (t .name) (t .end) role 0 ∷ k) d
+unfolding opened entered openingTag entering
+opens s t role st k d u h f = rw (u, lt-leb 12 (length k) h, eq-eqb _ _ f)
+
+module _ {s : List ℕ} {t : Tag} {role left : ℕ} {st : State} where
   refused : (c : ℕ) → (c ≡ 0 → ⊥)
       → ((k : List Frame) → length k + left ≡ 12 → follow s (t .next) (opened s t role k st) ≡ refusal c (t .next))
       → Element s t role left st (refusal c (t .next))
@@ -76,7 +69,8 @@ module _ (s : List ℕ) (t : Tag) (role left : ℕ) (st : State) where
 
   module _ (z : left ≡ 0 → ⊥) where
     -- an empty-element tag
-    pub el-empty : t .next ≤ length s → (t .form ≡ 0 → ⊥) → Element s t role left st (reached (t .next) (emptyTag s t role st))
+    pub el-empty : t .next ≤ length s → (t .form ≡ 0 → ⊥)
+        → Element s t role left st (reached (t .next) (emptyTag s t role st))
     unfolding opened entered emptyTag entering
     el-empty w f = record {
       reads = λ k e. ap (follow s (t .next)) (empty k e) ∙ follow-leads s (t .next) k (emptyTag s t role st);
@@ -88,26 +82,25 @@ module _ (s : List ℕ) (t : Tag) (role left : ℕ) (st : State) where
         empty k e = rw (lt-leb 12 (length k) (omega (arith, z)), ne-eqb _ _ f)
 
     -- an opening tag, and d is what it gives
-    module _ (f : t .form ≡ 0) (d : Done) (u : d ≡ openingTag s t role st) where
-      opens : (k : List Frame) → length k + left ≡ 12 → opened s t role k st ≡ leadsTo (frame (t .name) (t .end) role 0 ∷ k) d
-      unfolding opened entered openingTag entering
-      opens k e = rw (u, lt-leb 12 (length k) (omega (arith, z)), eq-eqb _ _ f)
-
+    module _ (f : t .form ≡ 0) {d : Done} (u : d ≡ openingTag s t role st) where
       pub el-fault : (d .code ≡ 0 → ⊥) → Element s t role left st (refusal (d .code) (t .next))
-      el-fault n = refused (d .code) n (λ k e. ap (follow s (t .next)) (opens k e) ∙ follow-fault s (t .next) _ d n)
+      el-fault n = refused (d .code) n (λ k e.
+          ap (follow s (t .next)) (opens s t role st k d u (omega (arith, z)) f) ∙ follow-fault s (t .next) _ d n)
 
-      pub el-open : d .code ≡ 0 → (r : Progress) → Contents s (t .next) (t .name) (t .end) role (left - 1) (d .state) r
+      pub el-open : d .code ≡ 0 → {r : Progress} → Contents s (t .next) (t .name) (t .end) role (left - 1) (d .state) r
           → Element s t role left st r
-      el-open q r h = record {
-        reads = λ k e. ap (follow s (t .next)) (opens k e) ∙ follow-good s (t .next) _ d q ∙ h .reads k (omega (arith, z));
+      el-open q h = record {
+        reads = λ k e.
+            ap (follow s (t .next)) (opens s t role st k d u (omega (arith, z)) f) ∙ follow-good s (t .next) _ d q
+            ∙ h .reads k (omega (arith, z));
         moved = h .moved;
         within = h .within;
       }
 
 -- an element that is in no other
-pub el-root : (s : List ℕ) (t : Tag) (role : ℕ) (st : State) (r : Progress) → Element s t role 12 st r
+pub el-root : {s : List ℕ} {t : Tag} {role : ℕ} {st : State} {r : Progress} → Element s t role 12 st r
     → r ≡ follow s (t .next) (opened s t role [] st)
-el-root s t role st r h = whole ∙ sym (h .reads [] refl)
+el-root {s} {t} {role} {st} {r} h = whole ∙ sym (h .reads [] refl)
   where
     good : r .code ≡ 0 → r ≡ record { code = 0; at = r .at; state = r .state }
     good e = λ i. record { code = e i; at = r .at; state = r .state }
@@ -146,18 +139,15 @@ module _ (s : List ℕ) (t : Tag) (q : t .code ≡ 0) (f : t .form ≡ 2 → ⊥
       (λ z. absurd (true≢false (rw (x, y, z) at h)))
       (λ z. rw (eq-eqb _ _ q, ne-eqb _ _ f, x, y, z))))
 
-module _ (s : List ℕ) (at name end role left : ℕ) (st₀ : State) where
+module _ {s : List ℕ} {at name end role left : ℕ} {st₀ : State} where
   pub co-start : Turn s at name end role left st₀ at 0 st₀
   co-start = record { reads = λ k e. refl; moved = omega arith }
 
   -- the contents up to p are read, and t is the unit there
-  module _ (p state : ℕ) (st : State) (h : Turn s at name end role left st₀ p state st) (t : Tag) (u : t ≡ unitAt s p) where
+  module _ {p state : ℕ} {st : State} (h : Turn s at name end role left st₀ p state st) {t : Tag} (u : t ≡ unitAt s p) where
     unit : (k : List Frame) → length k + left ≡ 11
         → go s at (frame name end role 0 ∷ k) st₀ ≡ follow s (t .next) (judge s t (frame name end role state) k st)
     unit k e = rw u (h .reads k e ∙ go-unit s p (frame name end role state) k st)
-
-    lies : t .code ≡ 0 → Lies (length s) p t
-    lies = lies-at s p t u
 
     -- a unit at fault
     stopped : (c : ℕ) → (c ≡ 0 → ⊥) → ((k : List Frame) → judge s t (frame name end role state) k st ≡ leadsTo [] (no c))
@@ -178,21 +168,24 @@ module _ (s : List ℕ) (at name end role left : ℕ) (st₀ : State) where
     last = ended s t (frame name end role state) st
 
     module _ (q : t .code ≡ 0) where
+      lies : Lies (length s) p t
+      lies = lies-at s p u q
+
       -- the end tag
       pub co-ended : t .form ≡ 2 → Contents s at name end role left st₀ (reached (t .next) last)
       unfolding judge
       co-ended f = record {
         reads = λ k e. unit k e ∙ rw (eq-eqb _ _ q, eq-eqb _ _ f) (follow-leads s (t .next) k last);
-        moved = λ _. let w = lies q in omega (arith, h .moved, reached-at (t .next) last);
-        within = λ _. let w = lies q in omega (arith, reached-at (t .next) last);
+        moved = λ _. let w = lies in omega (arith, h .moved, reached-at (t .next) last);
+        within = λ _. let w = lies in omega (arith, reached-at (t .next) last);
       }
 
       -- a child, and c is what the element makes of it
-      module _ (f : t .form ≡ 2 → ⊥) (c : Child) (g : c ≡ childAt s t role state) where
+      module _ (f : t .form ≡ 2 → ⊥) {c : Child} (g : c ≡ childAt s t role state) where
         pub co-none : c .accepted ≡ false → Contents s at name end role left st₀ (refusal 41 (t .next))
         co-none m = stopped 41 (λ e. omega arith) (λ k. judge-none s t q f name end role state k st (rw g at m))
 
-        module _ (m : c .accepted ≡ true) (r : Progress) (el : Element s t (c .role) left st r) where
+        module _ (m : c .accepted ≡ true) {r : Progress} (el : Element s t (c .role) left st r) where
           holds : (k : List Frame) → length k + left ≡ 11
               → go s at (frame name end role 0 ∷ k) st₀ ≡ after s (frame name end role (c .state) ∷ k) r
           holds k e =
@@ -209,8 +202,8 @@ module _ (s : List ℕ) (at name end role left : ℕ) (st₀ : State) where
           pub co-child : r .code ≡ 0 → Turn s at name end role left st₀ (r .at) (c .state) (r .state)
           co-child o = record {
             reads = λ k e. holds k e ∙ after-good s _ r o;
-            moved = let w = lies q in omega (arith, h .moved, el .moved o);
+            moved = let w = lies in omega (arith, h .moved, el .moved o);
           }
 
           pub co-less : r .code ≡ 0 → length s - r .at < length s - p
-          co-less o = let w = lies q in omega (arith, el .moved o, el .within o)
+          co-less o = let w = lies in omega (arith, el .moved o, el .within o)

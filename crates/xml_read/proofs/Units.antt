@@ -1,18 +1,18 @@
 -- Reading unit by unit: one unit is judged, and then come those behind it.
-use Prim.Native.Nat.{ℕ, _+_, _-_, _<_, _≤_}
-use mathlib.Core.Path.{_≡_, refl, sym, ap, _∙_}
+use Prim.Native.Nat.{ℕ, _+_, _-_, _<_}
+use mathlib.Core.Path.{_≡_, refl, ap, _∙_}
 use mathlib.Core.Bool.{Bool, true, false, cond, not}
 use mathlib.Core.List.{List, [], _∷_}
 use native.Mathlib.Omega.{arith}
 use lib.ListN.{length}
 use lib.Dec.{eqb}
-use borrow.Author.Tests.{eqb-true, eqb-false, eq-eqb, ne-eqb}
+use borrow.Author.Tests.{eqb-true, eq-eqb, ne-eqb}
 use Rattle.numbers.proofs.Tests.{on-test}
 use Rattle.xml_model.specs.declared.Tag.{Tag}
 use Rattle.xml_model.specs.declared.State.{State}
 use Rattle.xml_model.specs.declared.Done.{Done}
 use Rattle.xml_model.specs.declared.Progress.{Progress}
-use Rattle.xml_model.specs.Repeat.{Next, stop, more, repeat}
+use Rattle.xml_model.specs.Repeat.{Next, stop, more}
 use Rattle.xml_model.specs.Tags.{unitAt}
 use Rattle.xml_model.specs.State.{no}
 use Rattle.xml_model.specs.Text.{Frame, Verdict, Config, leadsTo, judge, refusal, ruled, unitStep, go, follow}
@@ -37,7 +37,9 @@ ruled-more p v d = by (eqb (v .code) 0) refl
     by : (b : Bool) → eqb (v .code) 0 ≡ b
         → cond b (more (record { at = p; stack = v .stack; state = v .state })) (stop (refusal (v .code) p)) ≡ more d
         → (v .code ≡ 0) × (p ≡ d .at)
-    by true q e = let k : record { at = p; stack = v .stack; state = v .state } ≡ d = cc in (eqb-true _ _ q, ap (λ (c : Config). c .at) k)
+    by true q e =
+        let k : record { at = p; stack = v .stack; state = v .state } ≡ d = cc in
+        (eqb-true _ _ q, ap (λ (c : Config). c .at) k)
     by false q e = let z : _≡_ {A = ℕ} 0 1 = cc in absurd (omega arith)
 
 -- a unit that is no fault ends behind its start
@@ -85,6 +87,14 @@ module _ (s : List ℕ) where
   pub follow-leads : (p : ℕ) (k : List Frame) (d : Done) → follow s p (leadsTo k d) ≡ after s k (reached p d)
   unfolding follow leadsTo after reached refusal
   follow-leads p k d = on-test (eqb (d .code) 0) (λ q. rw q) (λ q. rw (q, q))
+
+  pub follow-good : (p : ℕ) (k : List Frame) (d : Done) → d .code ≡ 0 → follow s p (leadsTo k d) ≡ go s p k (d .state)
+  unfolding follow leadsTo
+  follow-good p k d h = rw (eq-eqb _ _ h)
+
+  pub follow-fault : (p : ℕ) (k : List Frame) (d : Done) → (d .code ≡ 0 → ⊥) → follow s p (leadsTo k d) ≡ refusal (d .code) p
+  unfolding follow leadsTo
+  follow-fault p k d h = rw (ne-eqb _ _ h)
 
   pub after-good : (k : List Frame) (r : Progress) → r .code ≡ 0 → after s k r ≡ go s (r .at) k (r .state)
   unfolding after

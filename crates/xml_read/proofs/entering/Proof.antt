@@ -1,27 +1,20 @@
+-- `xml_read::entering` meets its contract: each return is the definition's case.
 use borrow.Author.Tests.{eq-eqb, ne-eqb}
 use Rattle.xml_read.specs.Nesting.{entering}
 use borrow.Author.Needs.{needs}
 use Rattle.xml_read.proofs.entering.Statement.{statement}
 use Rattle.xml_read.proofs.entering.Tie as tie
-use Rattle.xml_read.proofs.entering.Reads as reads
-use Rattle.xml_read.proofs.entering.Lts as lts
-use Rattle.xml_steps.proofs.accepted.Reads as accepted-reads
-use Rattle.xml_read.proofs.opening.Reads as opening-reads
 
--- src/lib.rt:234:9
 accepted-requires : tie.Need-accepted-requires
 accepted-requires c κs = search needs
 
--- src/lib.rt:234:9
 returns : tie.Need-returns
 unfolding entering
 returns c = rw (c .accepted .ensures, eq-eqb _ _ (c .before .if1 .taken))
 
--- src/lib.rt:236:5
 opening-requires : tie.Need-opening-requires
 opening-requires c κs = search needs
 
--- src/lib.rt:230:1
 returns-2 : tie.Need-returns-2
 unfolding entering
 returns-2 c = rw (c .opening .ensures, ne-eqb _ _ (c .before .if1 .left))

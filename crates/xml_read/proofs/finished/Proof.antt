@@ -1,45 +1,44 @@
+-- `xml_read::finished` meets its contract: each return is the definition's case.
 use borrow.Author.Tests.{eq-eqb, ne-eqb, lt-ltb, le-ltb}
 use Rattle.xml_model.specs.Text.{finish}
 use borrow.Author.Needs.{needs}
 use Rattle.xml_read.proofs.finished.Statement.{statement}
 use Rattle.xml_read.proofs.finished.Tie as tie
-use Rattle.xml_read.proofs.finished.Reads as reads
-use Rattle.xml_read.proofs.finished.Lts as lts
-use Rattle.xml_scan.proofs.looked.Reads as looked-reads
-use Rattle.xml_read.proofs.refusal.Reads as refusal-reads
-use Rattle.xml_scan.proofs.run_end.Reads as run-end-reads
-use Rattle.xml_scan.proofs.stuck_code.Reads as stuck-code-reads
 
--- src/lib.rt:323:9
 returns : tie.Need-returns
 unfolding finish
 returns c = rw (ne-eqb _ _ (c .if1 .taken))
 
--- src/lib.rt:325:9
 run-end-requires : tie.Need-run-end-requires
 run-end-requires c κs = search needs
 
--- src/lib.rt:327:24
 stuck-code-requires : tie.Need-stuck-code-requires
 stuck-code-requires c κs = search needs
 
--- src/lib.rt:327:42
 looked-requires : tie.Need-looked-requires
 looked-requires c κs = search needs
 
--- src/lib.rt:327:9
 refusal-requires : tie.Need-refusal-requires
 refusal-requires c κs = search needs
 
--- src/lib.rt:327:9
 returns-2 : tie.Need-returns-2
 unfolding finish
-returns-2 c = rw (c .refusal .ensures, eq-eqb _ _ (c .before .before .before .before .before .if1 .left), ← (c .before .before .before .before .run-end .ensures), lt-ltb _ _ (c .before .before .before .if2 .taken), c .before .before .stuck-code .ensures, c .before .looked .ensures)
+returns-2 c = rw (
+  c .refusal .ensures,
+  eq-eqb _ _ (c .before .before .before .before .before .if1 .left),
+  ← (c .before .before .before .before .run-end .ensures),
+  lt-ltb _ _ (c .before .before .before .if2 .taken),
+  c .before .before .stuck-code .ensures,
+  c .before .looked .ensures,
+)
 
--- src/lib.rt:319:1
 returns-3 : tie.Need-returns-3
 unfolding finish
-returns-3 c = rw (eq-eqb _ _ (c .before .before .before .if1 .left), ← (c .before .before .run-end .ensures), le-ltb _ _ (c .before .if2 .left))
+returns-3 c = rw (
+  eq-eqb _ _ (c .before .before .before .if1 .left),
+  ← (c .before .before .run-end .ensures),
+  le-ltb _ _ (c .before .if2 .left),
+)
 
 pub finished-spec : {M : Type 1} → statement M
 finished-spec =

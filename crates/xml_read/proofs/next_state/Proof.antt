@@ -1,9 +1,6 @@
 use Rattle.xml_read.proofs.next_state.Statement.{statement}
 use Rattle.xml_read.proofs.next_state.Tie as tie
-use Rattle.xml_read.proofs.next_state.Reads as reads
-use Rattle.xml_read.proofs.next_state.Lts as lts
 
--- src/lib.rt:169:1
 returns : tie.Need-returns
 returns c = ?
 

@@ -1,3 +1,4 @@
+-- `xml_read::progress_of` meets its contract: each return is the definition's case. A byte that was found stands before the end.
 use native.Mathlib.Omega.{arith}
 use borrow.Author.Tests.{eq-eqb, ne-eqb}
 use mathlib.Core.Path.{sym, _∙_}
@@ -6,69 +7,79 @@ use Rattle.xml_model.specs.Text.{progressOf}
 use borrow.Author.Needs.{needs}
 use Rattle.xml_read.proofs.progress_of.Statement.{statement}
 use Rattle.xml_read.proofs.progress_of.Tie as tie
-use Rattle.xml_read.proofs.progress_of.Reads as reads
-use Rattle.xml_read.proofs.progress_of.Lts as lts
-use Rattle.xml_scan.proofs.byte_at.Reads as byte-at-reads
-use Rattle.xml_scan.proofs.looked.Reads as looked-reads
-use Rattle.xml_read.proofs.refusal.Reads as refusal-reads
-use Rattle.xml_read.proofs.root_at.Reads as root-at-reads
-use Rattle.xml_scan.proofs.run_end.Reads as run-end-reads
-use Rattle.xml_scan.proofs.stuck_code.Reads as stuck-code-reads
 
--- src/lib.rt:356:9
 run-end-requires : tie.Need-run-end-requires
 run-end-requires c κs = search needs
 
--- src/lib.rt:357:8
 byte-at-requires : tie.Need-byte-at-requires
 byte-at-requires c κs = search needs
 
--- src/lib.rt:358:24
 stuck-code-requires : tie.Need-stuck-code-requires
 stuck-code-requires c κs = search needs
 
--- src/lib.rt:358:42
 looked-requires : tie.Need-looked-requires
 looked-requires c κs = search needs
 
--- src/lib.rt:358:9
 refusal-requires : tie.Need-refusal-requires
 refusal-requires c κs = search needs
 
--- src/lib.rt:358:9
 returns : tie.Need-returns
 unfolding progressOf
-returns c = rw (c .refusal .ensures, ← (c .before .before .before .before .before .run-end .ensures), ← (c .before .before .before .before .byte-at .ensures), ne-eqb _ _ (c .before .before .before .if1 .taken), c .before .before .stuck-code .ensures, c .before .looked .ensures)
+returns c = rw (
+  c .refusal .ensures,
+  ← (c .before .before .before .before .before .run-end .ensures),
+  ← (c .before .before .before .before .byte-at .ensures),
+  ne-eqb _ _ (c .before .before .before .if1 .taken),
+  c .before .before .stuck-code .ensures,
+  c .before .looked .ensures,
+)
 
--- src/lib.rt:360:19
 add-byte-at : tie.Need-add-byte-at
-add-byte-at c = omega (arith, inside (c .before .before .before .before .args .s .now) (c .before .before .run-end .result) 60 (omega arith) (sym (c .before .byte-at .ensures) ∙ c .if1 .left))
+add-byte-at c =
+    omega (
+      arith,
+      inside (c .before .before .before .before .args .s .now) (c .before .before .run-end .result) 60 (omega arith)
+          (sym (c .before .byte-at .ensures) ∙ c .if1 .left),
+    )
 
--- src/lib.rt:360:8
 byte-at-requires-2 : tie.Need-byte-at-requires-2
 byte-at-requires-2 c κs = search needs
 
--- src/lib.rt:361:28
 add-refusal : tie.Need-add-refusal
-add-refusal c = omega (arith, inside (c .before .before .before .before .before .before .args .s .now) _ 47 (omega arith) (sym (c .before .byte-at2 .ensures) ∙ c .if2 .taken))
+add-refusal c =
+    omega (
+      arith,
+      inside (c .before .before .before .before .before .before .args .s .now) _ 47 (omega arith)
+          (sym (c .before .byte-at2 .ensures) ∙ c .if2 .taken),
+    )
 
--- src/lib.rt:361:9
 refusal-requires-2 : tie.Need-refusal-requires-2
 refusal-requires-2 c κs = search needs
 
--- src/lib.rt:361:9
 returns-2 : tie.Need-returns-2
 unfolding progressOf
-returns-2 c = rw (c .refusal2 .ensures, ← (c .before .before .before .before .before .run-end .ensures), ← (c .before .before .byte-at2 .ensures), ← (c .before .before .before .before .byte-at .ensures), eq-eqb _ _ (c .before .before .before .if1 .left), eq-eqb _ _ (c .before .if2 .taken))
+returns-2 c = rw (
+  c .refusal2 .ensures,
+  ← (c .before .before .before .before .before .run-end .ensures),
+  ← (c .before .before .byte-at2 .ensures),
+  ← (c .before .before .before .before .byte-at .ensures),
+  eq-eqb _ _ (c .before .before .before .if1 .left),
+  eq-eqb _ _ (c .before .if2 .taken),
+)
 
--- src/lib.rt:363:5
 root-at-requires : tie.Need-root-at-requires
 root-at-requires c κs = search needs
 
--- src/lib.rt:353:1
 returns-3 : tie.Need-returns-3
 unfolding progressOf
-returns-3 c = rw (c .root-at .ensures, ← (c .before .before .before .before .before .run-end .ensures), ← (c .before .before .byte-at2 .ensures), ← (c .before .before .before .before .byte-at .ensures), eq-eqb _ _ (c .before .before .before .if1 .left), ne-eqb _ _ (c .before .if2 .left))
+returns-3 c = rw (
+  c .root-at .ensures,
+  ← (c .before .before .before .before .before .run-end .ensures),
+  ← (c .before .before .byte-at2 .ensures),
+  ← (c .before .before .before .before .byte-at .ensures),
+  eq-eqb _ _ (c .before .before .before .if1 .left),
+  ne-eqb _ _ (c .before .if2 .left),
+)
 
 pub progress-of-spec : {M : Type 1} → statement M
 progress-of-spec =

@@ -1,16 +1,12 @@
+-- `xml_read::read` meets its contract: its parts are those of what was reached.
 use Rattle.xml_model.specs.Text.{readingOf}
 use borrow.Author.Needs.{needs}
 use Rattle.xml_read.proofs.read.Statement.{statement}
 use Rattle.xml_read.proofs.read.Tie as tie
-use Rattle.xml_read.proofs.read.Reads as reads
-use Rattle.xml_read.proofs.read.Lts as lts
-use Rattle.xml_read.proofs.progress_of.Reads as progress-of-reads
 
--- src/lib.rt:371:9
 progress-of-requires : tie.Need-progress-of-requires
 progress-of-requires c κs = search needs
 
--- src/lib.rt:368:1
 returns : tie.Need-returns
 unfolding readingOf
 returns c = rw (← (c .before .before .progress-of .ensures))
