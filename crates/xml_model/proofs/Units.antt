@@ -242,7 +242,8 @@ module _ (s : List ℕ) (first : ℕ) where
 
   -- only an attribute whose name is not given before leads on
   pub tail-more : (j b : ℕ) → tailStep s first j ≡ more b
-      → (runEnd spaces s j ≡ j → ⊥) × (nextAttribute s j .code ≡ 0) × (given s j (nextName s j) first ≡ false) × (nextAttribute s j .to + 1 ≡ b)
+      → (runEnd spaces s j ≡ j → ⊥) × (nextAttribute s j .code ≡ 0) × (given s j (nextName s j) first ≡ false)
+      × (nextAttribute s j .to + 1 ≡ b)
   unfolding turned
   tail-more j b m =
       by (eqb (byteAt s (runEnd spaces s j)) 62) (eqb (byteAt s (runEnd spaces s j)) 47) (eqb (runEnd spaces s j) j) refl
@@ -250,7 +251,8 @@ module _ (s : List ℕ) (first : ℕ) where
     where
       by : (a b′ c : Bool) → eqb (runEnd spaces s j) j ≡ c → (d : Bool) → eqb (nextAttribute s j .code) 0 ≡ d → (e : Bool)
           → given s j (nextName s j) first ≡ e → turned s j a b′ c d e ≡ more b
-          → (runEnd spaces s j ≡ j → ⊥) × (nextAttribute s j .code ≡ 0) × (given s j (nextName s j) first ≡ false) × (nextAttribute s j .to + 1 ≡ b)
+          → (runEnd spaces s j ≡ j → ⊥) × (nextAttribute s j .code ≡ 0) × (given s j (nextName s j) first ≡ false)
+          × (nextAttribute s j .to + 1 ≡ b)
       by false false false p true q false r h = (eqb-false _ _ p, eqb-true _ _ q, r, cc)
       by true b′ c p d q e r h = let o : _≡_ {A = ℕ} 0 1 = cc in absurd (omega arith)
       by false true c p d q e r h = let o : _≡_ {A = ℕ} 0 1 = cc in absurd (omega arith)

@@ -5,7 +5,6 @@ ghost use mathlib.Core.Bool.{cond};
 ghost use Prim.Native.Nat.{_≤_};
 ghost use lib.ListN.{length};
 ghost use Rattle.xml_model.specs.Tags.{unitAt};
-ghost use Rattle.xml_model.specs.Elements.{nameOf, rowOf, childRole, nextState, holdsAnything};
 ghost use Rattle.xml_model.specs.State.{opening, closing};
 ghost use Rattle.xml_model.specs.Text.{frame, ended, refusal, finish, root, progressOf, readingOf};
 ghost use Rattle.xml_read.specs.Nesting.{childAt, entering, openingTag, emptyTag, reached, Element, Contents};
@@ -26,6 +25,15 @@ use xml_steps::accepted;
 use xml_steps::blank_state;
 use xml_steps::counted;
 use xml_steps::refused;
+use xml_table::RIGHTS;
+use xml_table::RIGHTS_NAME;
+use xml_table::ROW_COUNT;
+use xml_table::SKIPPED;
+use xml_table::child_role;
+use xml_table::holds_anything;
+use xml_table::name_of;
+use xml_table::next_state;
+use xml_table::row_of;
 
 // "to depth 12, rights being 1"
 const MOST_DEEP: u8 = 12;
@@ -49,36 +57,6 @@ fn closing(s: &[u8], a: usize, b: usize, role: u8, state: u8, st: State) -> Done
     ensures { λ r. ⌜ r ≡ closing (now (s .entry)) a b role state st ⌝ }
 {
     refused(42)
-}
-
-fn name_of(v: &[u8]) -> u8
-    ensures { λ r. ⌜ r ≡ nameOf (now (v .entry)) ⌝ }
-{
-    0
-}
-
-fn row_of(role: u8, state: u8, name: u8) -> u8
-    ensures { λ r. ⌜ r ≡ rowOf role state name ⌝ }
-{
-    0
-}
-
-fn child_role(k: u8) -> u8
-    ensures { λ r. ⌜ r ≡ childRole k ⌝ }
-{
-    0
-}
-
-fn next_state(k: u8) -> u8
-    ensures { λ r. ⌜ r ≡ nextState k ⌝ }
-{
-    0
-}
-
-fn holds_anything(role: u8) -> bool
-    ensures { λ r. ⌜ r ≡ holdsAnything role ⌝ }
-{
-    role == 12
 }
 
 fn pick8(w: bool, a: u8, b: u8) -> u8
@@ -124,8 +102,8 @@ fn child_at(s: &[u8], t: Tag, role: u8, state: u8) -> Child
     let any = holds_anything(role);
     let clean = is_bare(s, t.from, t.at);
     Child {
-        accepted: any | (!(32 <= k) & clean),
-        role: pick8(any, 13, child_role(k)),
+        accepted: any | (!(ROW_COUNT <= k) & clean),
+        role: pick8(any, SKIPPED, child_role(k)),
         state: pick8(any, state, next_state(k)),
     }
 }
@@ -134,7 +112,7 @@ fn child_at(s: &[u8], t: Tag, role: u8, state: u8) -> Child
 fn entering(s: &[u8], t: Tag, role: u8, st: State) -> Done
     ensures { λ r. ⌜ r ≡ entering (now (s .entry)) t role st ⌝ }
 {
-    if role == 13 {
+    if role == SKIPPED {
         return accepted(st);
     }
     opening(s, t, role, st)
@@ -257,8 +235,8 @@ fn root_at(s: &[u8], i: usize) -> Progress
     }
     let a = t.name;
     let b = t.end;
-    if name_of(&s[a..b]) == 1 {
-        let r = element(s, t, 1, MOST_DEEP, blank_state());
+    if name_of(&s[a..b]) == RIGHTS_NAME {
+        let r = element(s, t, RIGHTS, MOST_DEEP, blank_state());
         return finished(s, r);
     }
     refusal(41, t.next)

@@ -18,7 +18,9 @@ add-t8 c = search needs
 
 add-t9 : tie.Need-add-t9
 add-t9 c =
-    omega (arith, inside (c .before .before .before .before .args .s .now) (c .before .before .run-end .result) 62 (omega arith) (sym (c .before .byte-at .ensures) ∙ c .if1 .taken))
+    let a = c .before .before .before .before .args in
+    let w = inside (a .s .now) (c .before .before .run-end .result) 62 (omega arith) (sym (c .before .byte-at .ensures) ∙ c .if1 .taken) in
+    omega arith
 
 returns : tie.Need-returns
 unfolding endTag
@@ -30,7 +32,12 @@ stuck-tag-requires c κs = search needs
 returns-2 : tie.Need-returns-2
 unfolding endTag
 returns-2 c =
-    rw (c .stuck-tag .ensures, ← (c .before .before .before .run-end .ensures), ← (c .before .before .byte-at .ensures), ne-eqb _ _ (c .before .if1 .left))
+    rw (
+      c .stuck-tag .ensures,
+      ← (c .before .before .before .run-end .ensures),
+      ← (c .before .before .byte-at .ensures),
+      ne-eqb _ _ (c .before .if1 .left),
+    )
 
 pub end-tag-spec : {M : Type 1} → statement M
 end-tag-spec =

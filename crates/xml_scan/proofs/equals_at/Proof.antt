@@ -12,7 +12,9 @@ byte-at-requires c κs = search needs
 
 add-run-end : tie.Need-add-run-end
 add-run-end c =
-    omega (arith, inside (c .before .before .before .args .s .now) (c .before .before .before .args .q) 61 (omega arith) (sym (c .before .byte-at .ensures) ∙ c .if1 .taken))
+    let a = c .before .before .before .args in
+    let w = inside (a .s .now) (a .q) 61 (omega arith) (sym (c .before .byte-at .ensures) ∙ c .if1 .taken) in
+    omega arith
 
 run-end-requires : tie.Need-run-end-requires
 run-end-requires c κs = search needs
@@ -23,7 +25,12 @@ value-at-requires c κs = search needs
 returns : tie.Need-returns
 unfolding equalsAt
 returns c =
-    rw (c .value-at .ensures, ← (c .before .before .before .byte-at .ensures), eq-eqb _ _ (c .before .before .if1 .taken), ← (c .before .run-end .ensures))
+    rw (
+      c .value-at .ensures,
+      ← (c .before .before .before .byte-at .ensures),
+      eq-eqb _ _ (c .before .before .if1 .taken),
+      ← (c .before .run-end .ensures),
+    )
 
 stuck-attribute-requires : tie.Need-stuck-attribute-requires
 stuck-attribute-requires c κs = search needs

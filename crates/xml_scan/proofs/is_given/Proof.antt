@@ -29,8 +29,10 @@ returns : tie.Need-returns Inv-loop μ-loop
 returns c =
     let a = c .before .before .before .before .before .before .before .args in
     let l = c .before .before .before .before .before .loop in
-    let e = c .before .before .attribute-at .ensures ∙ ap (attributeAt (a .s .now)) (c .before .before .before .run-end .ensures) in
-    sym (l .inv ∙ given-stuck (a .s .now) (a .p) _ (l .j) (c .before .before .before .before .loop-test .taken) (rw e at (c .if1 .taken)))
+    let x = c .before .before .attribute-at .ensures in
+    let e = x ∙ ap (attributeAt (a .s .now)) (c .before .before .before .run-end .ensures) in
+    let t = c .before .before .before .before .loop-test .taken in
+    sym (l .inv ∙ given-stuck (a .s .now) (a .p) _ (l .j) t (rw e at (c .if1 .taken)))
 
 sub-equal : tie.Need-sub-equal Inv-loop μ-loop
 sub-equal c = omega arith
@@ -43,17 +45,26 @@ part-equal-end c = omega arith
 
 sub-equal-2 : tie.Need-sub-equal-2 Inv-loop μ-loop
 sub-equal-2 c =
-    let w = held-as (c .before .before .before .before .before .before .before .before .args .s .now) _ _ _ (c .before .before .before .before .run-end .ensures) (c .before .before .before .attribute-at .ensures) (c .before .if1 .left) in
+    let a = c .before .before .before .before .before .before .before .before .args in
+    let g = c .before .before .before .before .run-end .ensures in
+    let x = c .before .before .before .attribute-at .ensures in
+    let w = held-as (a .s .now) _ _ _ g x (c .before .if1 .left) in
     omega (arith, w .named)
 
 part-equal-start-2 : tie.Need-part-equal-start-2 Inv-loop μ-loop
 part-equal-start-2 c =
-    let w = held-as (c .before .before .before .before .before .before .before .before .args .s .now) _ _ _ (c .before .before .before .before .run-end .ensures) (c .before .before .before .attribute-at .ensures) (c .before .if1 .left) in
+    let a = c .before .before .before .before .before .before .before .before .args in
+    let g = c .before .before .before .before .run-end .ensures in
+    let x = c .before .before .before .attribute-at .ensures in
+    let w = held-as (a .s .now) _ _ _ g x (c .before .if1 .left) in
     omega (arith, w .named, w .ended)
 
 part-equal-end-2 : tie.Need-part-equal-end-2 Inv-loop μ-loop
 part-equal-end-2 c =
-    let w = held-as (c .before .before .before .before .before .before .before .before .args .s .now) _ _ _ (c .before .before .before .before .run-end .ensures) (c .before .before .before .attribute-at .ensures) (c .before .if1 .left) in
+    let a = c .before .before .before .before .before .before .before .before .args in
+    let g = c .before .before .before .before .run-end .ensures in
+    let x = c .before .before .before .attribute-at .ensures in
+    let w = held-as (a .s .now) _ _ _ g x (c .before .if1 .left) in
     omega (arith, w .ended)
 
 equal-requires : tie.Need-equal-requires Inv-loop μ-loop
@@ -63,32 +74,45 @@ returns-2 : tie.Need-returns-2 Inv-loop μ-loop
 returns-2 c =
     let a = c .before .before .before .before .before .before .before .before .before .before .before .args in
     let l = c .before .before .before .before .before .before .before .before .before .loop in
-    let e = c .before .before .before .before .before .before .attribute-at .ensures ∙ ap (attributeAt (a .s .now)) (c .before .before .before .before .before .before .before .run-end .ensures) in
-    sym
-    (l .inv ∙ given-here (a .s .now) (a .p) _ (l .j) (c .before .before .before .before .before .before .before .before .loop-test .taken) (rw e at (c .before .before .before .before .if1 .left))
-    (rw e at (sym (c .before .equal .ensures) ∙ c .if2 .taken)))
+    let x = c .before .before .before .before .before .before .attribute-at .ensures in
+    let e = x ∙ ap (attributeAt (a .s .now)) (c .before .before .before .before .before .before .before .run-end .ensures) in
+    let t = c .before .before .before .before .before .before .before .before .loop-test .taken in
+    let o = rw e at (c .before .before .before .before .if1 .left) in
+    let n = rw e at (sym (c .before .equal .ensures) ∙ c .if2 .taken) in
+    sym (l .inv ∙ given-here (a .s .now) (a .p) _ (l .j) t o n)
 
 add-j : tie.Need-add-j Inv-loop μ-loop
 add-j c =
-    let w = held-as (c .before .before .before .before .before .before .before .before .before .before .before .before .args .s .now) _ _ _ (c .before .before .before .before .before .before .before .before .run-end .ensures) (c .before .before .before .before .before .before .before .attribute-at .ensures) (c .before .before .before .before .before .if1 .left) in
+    let a = c .before .before .before .before .before .before .before .before .before .before .before .before .args in
+    let g = c .before .before .before .before .before .before .before .before .run-end .ensures in
+    let x = c .before .before .before .before .before .before .before .attribute-at .ensures in
+    let w = held-as (a .s .now) _ _ _ g x (c .before .before .before .before .before .if1 .left) in
     omega (arith, w .to)
 
 loop-less : tie.Need-loop-less Inv-loop μ-loop
 loop-less c =
-    let w = held-as (c .before .before .before .before .before .before .before .before .before .before .before .before .args .s .now) _ _ _ (c .before .before .before .before .before .before .before .before .run-end .ensures) (c .before .before .before .before .before .before .before .attribute-at .ensures) (c .before .before .before .before .before .if1 .left) in
+    let a = c .before .before .before .before .before .before .before .before .before .before .before .before .args in
+    let g = c .before .before .before .before .before .before .before .before .run-end .ensures in
+    let x = c .before .before .before .before .before .before .before .attribute-at .ensures in
+    let w = held-as (a .s .now) _ _ _ g x (c .before .before .before .before .before .if1 .left) in
     omega (arith, w .to, w .moved)
 
 loop-again : tie.Need-loop-again Inv-loop μ-loop
 loop-again c =
     let a = c .before .before .before .before .before .before .before .before .before .before .before .before .args in
     let l = c .before .before .before .before .before .before .before .before .before .before .loop in
-    let e = c .before .before .before .before .before .before .before .attribute-at .ensures ∙ ap (attributeAt (a .s .now)) (c .before .before .before .before .before .before .before .before .run-end .ensures) in
-    l .inv
-    ∙ given-on (a .s .now) (a .p) _ (l .j) (c .before .before .before .before .before .before .before .before .before .loop-test .taken) (rw e at (c .before .before .before .before .before .if1 .left)) (rw e at (sym (c .before .before .equal .ensures) ∙ c .before .if2 .left))
-    ∙ rw e
+    let x = c .before .before .before .before .before .before .before .attribute-at .ensures in
+    let e = x ∙ ap (attributeAt (a .s .now)) (c .before .before .before .before .before .before .before .before .run-end .ensures) in
+    let t = c .before .before .before .before .before .before .before .before .before .loop-test .taken in
+    let o = rw e at (c .before .before .before .before .before .if1 .left) in
+    let n = rw e at (sym (c .before .before .equal .ensures) ∙ c .before .if2 .left) in
+    l .inv ∙ given-on (a .s .now) (a .p) _ (l .j) t o n ∙ rw e
 
 returns-3 : tie.Need-returns-3 Inv-loop μ-loop
-returns-3 c = let a = c .before .before .before .args in let l = c .before .loop in sym (l .inv ∙ given-out (a .s .now) (a .p) _ (l .j) (c .loop-test .left))
+returns-3 c =
+    let a = c .before .before .before .args in
+    let l = c .before .loop in
+    sym (l .inv ∙ given-out (a .s .now) (a .p) _ (l .j) (c .loop-test .left))
 
 pub is-given-spec : {M : Type 1} → statement M
 is-given-spec =

@@ -28,22 +28,32 @@ returns : tie.Need-returns Inv-loop μ-loop
 returns c =
     let a = c .before .before .before .before .before .before .before .args in
     let l = c .before .before .before .before .loop in
-    let e = c .before .before .attribute-at .ensures ∙ ap (attributeAt (a .s .now)) (c .before .before .before .run-end .ensures) in
+    let x = c .before .before .attribute-at .ensures in
+    let e = x ∙ ap (attributeAt (a .s .now)) (c .before .before .before .run-end .ensures) in
     sym (l .inv ∙ look-stuck (a .s .now) (a .name .now) (l .j) (rw e at (c .if1 .taken)))
 
 sub-equal : tie.Need-sub-equal Inv-loop μ-loop
 sub-equal c =
-    let w = held-as (c .before .before .before .before .before .before .before .args .s .now) _ _ _ (c .before .before .before .run-end .ensures) (c .before .before .attribute-at .ensures) (c .if1 .left) in
+    let a = c .before .before .before .before .before .before .before .args in
+    let g = c .before .before .before .run-end .ensures in
+    let x = c .before .before .attribute-at .ensures in
+    let w = held-as (a .s .now) _ _ _ g x (c .if1 .left) in
     omega (arith, w .named)
 
 part-equal-start : tie.Need-part-equal-start Inv-loop μ-loop
 part-equal-start c =
-    let w = held-as (c .before .before .before .before .before .before .before .args .s .now) _ _ _ (c .before .before .before .run-end .ensures) (c .before .before .attribute-at .ensures) (c .if1 .left) in
+    let a = c .before .before .before .before .before .before .before .args in
+    let g = c .before .before .before .run-end .ensures in
+    let x = c .before .before .attribute-at .ensures in
+    let w = held-as (a .s .now) _ _ _ g x (c .if1 .left) in
     omega (arith, w .named, w .ended)
 
 part-equal-end : tie.Need-part-equal-end Inv-loop μ-loop
 part-equal-end c =
-    let w = held-as (c .before .before .before .before .before .before .before .args .s .now) _ _ _ (c .before .before .before .run-end .ensures) (c .before .before .attribute-at .ensures) (c .if1 .left) in
+    let a = c .before .before .before .before .before .before .before .args in
+    let g = c .before .before .before .run-end .ensures in
+    let x = c .before .before .attribute-at .ensures in
+    let w = held-as (a .s .now) _ _ _ g x (c .if1 .left) in
     omega (arith, w .ended)
 
 equal-requires : tie.Need-equal-requires Inv-loop μ-loop
@@ -53,30 +63,37 @@ returns-2 : tie.Need-returns-2 Inv-loop μ-loop
 returns-2 c =
     let a = c .before .before .before .before .before .before .before .before .before .before .args in
     let l = c .before .before .before .before .before .before .before .loop in
-    let e = c .before .before .before .before .before .attribute-at .ensures ∙ ap (attributeAt (a .s .now)) (c .before .before .before .before .before .before .run-end .ensures) in
-    sym
-    (l .inv
-    ∙ look-here (a .s .now) (a .name .now) (l .j) (rw e at (c .before .before .before .if1 .left)) (rw e at (sym (c .before .equal .ensures) ∙ c .if2 .taken))
-    ∙ rw e)
+    let x = c .before .before .before .before .before .attribute-at .ensures in
+    let e = x ∙ ap (attributeAt (a .s .now)) (c .before .before .before .before .before .before .run-end .ensures) in
+    let o = rw e at (c .before .before .before .if1 .left) in
+    let n = rw e at (sym (c .before .equal .ensures) ∙ c .if2 .taken) in
+    sym (l .inv ∙ look-here (a .s .now) (a .name .now) (l .j) o n ∙ rw e)
 
 add-j : tie.Need-add-j Inv-loop μ-loop
 add-j c =
-    let w = held-as (c .before .before .before .before .before .before .before .before .before .before .before .args .s .now) _ _ _ (c .before .before .before .before .before .before .before .run-end .ensures) (c .before .before .before .before .before .before .attribute-at .ensures) (c .before .before .before .before .if1 .left) in
+    let a = c .before .before .before .before .before .before .before .before .before .before .before .args in
+    let g = c .before .before .before .before .before .before .before .run-end .ensures in
+    let x = c .before .before .before .before .before .before .attribute-at .ensures in
+    let w = held-as (a .s .now) _ _ _ g x (c .before .before .before .before .if1 .left) in
     omega (arith, w .to)
 
 loop-less : tie.Need-loop-less Inv-loop μ-loop
 loop-less c =
-    let w = held-as (c .before .before .before .before .before .before .before .before .before .before .before .args .s .now) _ _ _ (c .before .before .before .before .before .before .before .run-end .ensures) (c .before .before .before .before .before .before .attribute-at .ensures) (c .before .before .before .before .if1 .left) in
+    let a = c .before .before .before .before .before .before .before .before .before .before .before .args in
+    let g = c .before .before .before .before .before .before .before .run-end .ensures in
+    let x = c .before .before .before .before .before .before .attribute-at .ensures in
+    let w = held-as (a .s .now) _ _ _ g x (c .before .before .before .before .if1 .left) in
     omega (arith, w .to, w .moved)
 
 loop-again : tie.Need-loop-again Inv-loop μ-loop
 loop-again c =
     let a = c .before .before .before .before .before .before .before .before .before .before .before .args in
     let l = c .before .before .before .before .before .before .before .before .loop in
-    let e = c .before .before .before .before .before .before .attribute-at .ensures ∙ ap (attributeAt (a .s .now)) (c .before .before .before .before .before .before .before .run-end .ensures) in
-    l .inv
-    ∙ look-on (a .s .now) (a .name .now) (l .j) (rw e at (c .before .before .before .before .if1 .left)) (rw e at (sym (c .before .before .equal .ensures) ∙ c .before .if2 .left))
-    ∙ rw e
+    let x = c .before .before .before .before .before .before .attribute-at .ensures in
+    let e = x ∙ ap (attributeAt (a .s .now)) (c .before .before .before .before .before .before .before .run-end .ensures) in
+    let o = rw e at (c .before .before .before .before .if1 .left) in
+    let n = rw e at (sym (c .before .before .equal .ensures) ∙ c .before .if2 .left) in
+    l .inv ∙ look-on (a .s .now) (a .name .now) (l .j) o n ∙ rw e
 
 pub look-spec : {M : Type 1} → statement M
 look-spec =

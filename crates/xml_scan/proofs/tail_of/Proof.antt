@@ -29,8 +29,8 @@ byte-at-requires c κs = tt
 add-t9 : tie.Need-add-t9 Inv-loop μ-loop
 add-t9 c =
     let a = c .before .before .before .before .before .args in
-    let w = inside (a .s .now) (c .before .before .run-end .result) 62 (omega arith) (sym (c .before .byte-at .ensures) ∙ c .if1 .taken) in
-    omega arith
+    let b = sym (c .before .byte-at .ensures) ∙ c .if1 .taken in
+    omega (arith, inside (a .s .now) (c .before .before .run-end .result) 62 (omega arith) b)
 
 returns : tie.Need-returns Inv-loop μ-loop
 unfolding tailed
@@ -44,7 +44,8 @@ returns c =
 empty-tail-requires : tie.Need-empty-tail-requires Inv-loop μ-loop
 empty-tail-requires c κs =
     let a = c .before .before .before .before .before .before .args in
-    inside (a .s .now) (c .before .before .before .run-end .result) 47 (omega arith) (sym (c .before .before .byte-at .ensures) ∙ c .if2 .taken)
+    let b = sym (c .before .before .byte-at .ensures) ∙ c .if2 .taken in
+    inside (a .s .now) (c .before .before .before .run-end .result) 47 (omega arith) b
 
 returns-2 : tie.Need-returns-2 Inv-loop μ-loop
 returns-2 c =
@@ -87,13 +88,17 @@ returns-4 c =
 add-next : tie.Need-add-next Inv-loop μ-loop
 add-next c =
     let a = c .before .before .before .before .before .before .before .before .before .before .before .args in
-    let w = held-as (a .s .now) _ _ _ (c .before .before .before .before .before .before .before .before .run-end .ensures) (c .before .before .before .attribute-at .ensures) (c .before .if4 .left) in
+    let g = c .before .before .before .before .before .before .before .before .run-end .ensures in
+    let x = c .before .before .before .attribute-at .ensures in
+    let w = held-as (a .s .now) _ _ _ g x (c .before .if4 .left) in
     omega (arith, w .to)
 
 is-given-requires : tie.Need-is-given-requires Inv-loop μ-loop
 is-given-requires c κs =
     let a = c .before .before .before .before .before .before .before .before .before .before .before .args in
-    let w = held-as (a .s .now) _ _ _ (c .before .before .before .before .before .before .before .before .run-end .ensures) (c .before .before .before .attribute-at .ensures) (c .before .if4 .left) in
+    let g = c .before .before .before .before .before .before .before .before .run-end .ensures in
+    let x = c .before .before .before .attribute-at .ensures in
+    let w = held-as (a .s .now) _ _ _ g x (c .before .if4 .left) in
     (w .named, w .ended)
 
 returns-5 : tie.Need-returns-5 Inv-loop μ-loop
@@ -114,7 +119,9 @@ returns-5 c =
 loop-less : tie.Need-loop-less Inv-loop μ-loop
 loop-less c =
     let a = c .before .before .before .before .before .before .before .before .before .before .before .before .before .args in
-    let w = held-as (a .s .now) _ _ _ (c .before .before .before .before .before .before .before .before .before .before .run-end .ensures) (c .before .before .before .before .before .attribute-at .ensures) (c .before .before .before .if4 .left) in
+    let g = c .before .before .before .before .before .before .before .before .before .before .run-end .ensures in
+    let x = c .before .before .before .before .before .attribute-at .ensures in
+    let w = held-as (a .s .now) _ _ _ g x (c .before .before .before .if4 .left) in
     omega (arith, w .to, w .moved)
 
 loop-again : tie.Need-loop-again Inv-loop μ-loop

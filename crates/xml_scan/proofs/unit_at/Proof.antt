@@ -33,8 +33,9 @@ returns c =
 
 tag-at-requires : tie.Need-tag-at-requires
 tag-at-requires c κs =
-    inside (c .before .before .before .before .before .before .args .s .now) (c .before .before .before .before .run-end .result) 60 (omega arith)
-    (sym (c .before .before .before .byte-at .ensures) ∙ c .before .before .if1 .taken)
+    let a = c .before .before .before .before .before .before .args in
+    let b = sym (c .before .before .before .byte-at .ensures) ∙ c .before .before .if1 .taken in
+    inside (a .s .now) (c .before .before .before .before .run-end .result) 60 (omega arith) b
 
 returns-2 : tie.Need-returns-2
 unfolding unitAt
@@ -54,7 +55,12 @@ stuck-tag-requires-2 c κs = search needs
 returns-3 : tie.Need-returns-3
 unfolding unitAt
 returns-3 c =
-    rw (c .stuck-tag2 .ensures, ← (c .before .before .before .run-end .ensures), ← (c .before .before .byte-at .ensures), ne-eqb _ _ (c .before .if1 .left))
+    rw (
+      c .stuck-tag2 .ensures,
+      ← (c .before .before .before .run-end .ensures),
+      ← (c .before .before .byte-at .ensures),
+      ne-eqb _ _ (c .before .if1 .left),
+    )
 
 pub unit-at-spec : {M : Type 1} → statement M
 unit-at-spec =

@@ -16,8 +16,9 @@ cast-quote c = search needs
 
 add-run-end : tie.Need-add-run-end
 add-run-end c =
+    let a = c .before .before .before .args in
     let q = c .before .byte-at in
-    omega (arith, byte-inside (c .before .before .before .args .s .now) (c .before .before .before .args .v) (rw (q .ensures) at (quote-small (q .result) (c .if1 .taken))))
+    omega (arith, byte-inside (a .s .now) (a .v) (rw (q .ensures) at (quote-small (q .result) (c .if1 .taken))))
 
 run-end-requires : tie.Need-run-end-requires
 run-end-requires c κs = search needs
@@ -27,8 +28,9 @@ byte-at-requires-2 c κs = search needs
 
 add-t14 : tie.Need-add-t14
 add-t14 c =
+    let a = c .before .before .before .before .before .before .args in
     let q = c .before .before .before .before .byte-at in
-    omega (arith, byte-inside (c .before .before .before .before .before .before .args .s .now) (c .before .before .before .before .before .before .args .v) (rw (q .ensures) at (quote-small (q .result) (c .before .before .before .if1 .taken))))
+    omega (arith, byte-inside (a .s .now) (a .v) (rw (q .ensures) at (quote-small (q .result) (c .before .before .before .if1 .taken))))
 
 returns : tie.Need-returns
 unfolding valueAt
