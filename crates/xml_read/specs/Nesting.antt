@@ -3,7 +3,7 @@
 -- the units behind it give.
 use Prim.Native.Nat.{ℕ, _+_, _≤_}
 use mathlib.Core.Path.{_≡_}
-use mathlib.Core.Bool.{Bool, cond, not, _&&_, _||_}
+use mathlib.Core.Bool.{true, cond, not, _&&_}
 use mathlib.Core.List.{List, _∷_}
 use lib.ListN.{length}
 use lib.Dec.{eqb, leb}
@@ -19,15 +19,12 @@ use Rattle.xml_read.specs.declared.Child.{Child}
 
 -- ## One tag
 
--- the child of tag t, in an open element of that role and state
+-- the child of tag t, in an open element of that role and state: what holds anything takes it as skipped, and stays in its state
 unfoldable pub childAt : List ℕ → Tag → ℕ → ℕ → Child
 childAt s t role state =
     let r = rowOf role state (nameOf (part s (t .name) (t .end))) in
-    record {
-      accepted = holdsAnything role || (not (leb rowCount r) && bare s (t .from) (t .at));
-      role = cond (holdsAnything role) skippedRole (childRole r);
-      state = cond (holdsAnything role) state (nextState r);
-    }
+    cond (holdsAnything role) (record { accepted = true; role = skippedRole; state = state })
+    (record { accepted = not (leb rowCount r) && bare s (t .from) (t .at); role = childRole r; state = nextState r })
 
 -- an element that is not too deep, at its first tag
 unfoldable pub entering : List ℕ → Tag → ℕ → State → Done

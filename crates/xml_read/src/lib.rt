@@ -1,7 +1,6 @@
 // The reading of a text by two functions that call each other, the element reader and the contents reader: the remaining depth
 // falls with every level.
 ghost use mathlib.Core.Path.{_≡_};
-ghost use mathlib.Core.Bool.{cond};
 ghost use Prim.Native.Nat.{_≤_};
 ghost use lib.ListN.{length};
 ghost use Rattle.xml_model.specs.Tags.{unitAt};
@@ -59,12 +58,6 @@ fn closing(s: &[u8], a: usize, b: usize, role: u8, state: u8, st: State) -> Done
     refused(42)
 }
 
-fn pick8(w: bool, a: u8, b: u8) -> u8
-    ensures { λ r. ⌜ r ≡ cond w a b ⌝ }
-{
-    if w { a } else { b }
-}
-
 // END STANDIN
 
 fn refusal(code: u8, at: usize) -> Progress
@@ -95,16 +88,20 @@ fn child_at(s: &[u8], t: Tag, role: u8, state: u8) -> Child
     requires { ⌜ (t .name ≤ t .end) × (t .end ≤ length (now s)) ⌝ }
     ensures { λ r. ⌜ r ≡ childAt (now (s .entry)) t role state ⌝ }
 {
+    if holds_anything(role) {
+        return Child {
+            accepted: true,
+            role: SKIPPED,
+            state: state,
+        };
+    }
     let a = t.name;
     let b = t.end;
-    let name = name_of(&s[a..b]);
-    let k = row_of(role, state, name);
-    let any = holds_anything(role);
-    let clean = is_bare(s, t.from, t.at);
+    let k = row_of(role, state, name_of(&s[a..b]));
     Child {
-        accepted: any | (!(ROW_COUNT <= k) & clean),
-        role: pick8(any, SKIPPED, child_role(k)),
-        state: pick8(any, state, next_state(k)),
+        accepted: !(ROW_COUNT <= k) & is_bare(s, t.from, t.at),
+        role: child_role(k),
+        state: next_state(k),
     }
 }
 

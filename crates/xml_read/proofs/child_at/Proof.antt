@@ -4,6 +4,13 @@ use borrow.Author.Needs.{needs}
 use Rattle.xml_read.proofs.child_at.Statement.{statement}
 use Rattle.xml_read.proofs.child_at.Tie as tie
 
+holds-anything-requires : tie.Need-holds-anything-requires
+holds-anything-requires c κs = search needs
+
+returns : tie.Need-returns
+unfolding childAt
+returns c = rw (← (c .before .holds-anything .ensures), c .if1 .taken)
+
 sub-name-of : tie.Need-sub-name-of
 sub-name-of c = search needs
 
@@ -19,50 +26,39 @@ name-of-requires c κs = search needs
 row-of-requires : tie.Need-row-of-requires
 row-of-requires c κs = search needs
 
-holds-anything-requires : tie.Need-holds-anything-requires
-holds-anything-requires c κs = search needs
-
 is-bare-requires : tie.Need-is-bare-requires
 is-bare-requires c κs = search needs
 
 child-role-requires : tie.Need-child-role-requires
 child-role-requires c κs = search needs
 
-pick8-requires : tie.Need-pick8-requires
-pick8-requires c κs = search needs
-
 next-state-requires : tie.Need-next-state-requires
 next-state-requires c κs = search needs
 
-pick8-requires-2 : tie.Need-pick8-requires-2
-pick8-requires-2 c κs = search needs
-
-returns : tie.Need-returns
+returns-2 : tie.Need-returns-2
 unfolding childAt
-returns c = rw (
-  c .before .before .pick8 .ensures,
-  c .pick82 .ensures,
-  c .before .before .before .child-role .ensures,
-  c .before .next-state .ensures,
-  c .before .before .before .before .is-bare .ensures,
-  c .before .before .before .before .before .holds-anything .ensures,
-  c .before .before .before .before .before .before .row-of .ensures,
-  c .before .before .before .before .before .before .before .name-of .ensures,
+returns-2 c = rw (
+  ← (c .before .before .before .before .before .before .before .holds-anything .ensures),
+  c .before .before .before .before .before .before .if1 .left,
+  c .before .before .is-bare .ensures,
+  c .before .child-role .ensures,
+  c .next-state .ensures,
+  c .before .before .before .row-of .ensures,
+  c .before .before .before .before .name-of .ensures,
 )
 
 pub child-at-spec : {M : Type 1} → statement M
 child-at-spec =
     tie.close
     (tie.spec
+    holds-anything-requires
+    returns
     sub-name-of
     part-name-of-start
     part-name-of-end
     name-of-requires
     row-of-requires
-    holds-anything-requires
     is-bare-requires
     child-role-requires
-    pick8-requires
     next-state-requires
-    pick8-requires-2
-    returns)
+    returns-2)
