@@ -4,7 +4,6 @@ ghost use mathlib.Core.Path.{_≡_};
 ghost use Prim.Native.Nat.{_≤_};
 ghost use lib.ListN.{length};
 ghost use Rattle.xml_model.specs.Tags.{unitAt};
-ghost use Rattle.xml_model.specs.State.{opening, closing};
 ghost use Rattle.xml_model.specs.Text.{frame, ended, refusal, finish, root, progressOf, readingOf};
 ghost use Rattle.xml_read.specs.Nesting.{childAt, entering, openingTag, emptyTag, reached, Element, Contents};
 use xml_model::Done;
@@ -20,10 +19,11 @@ use xml_scan::run_end;
 use xml_scan::same_range;
 use xml_scan::stuck_code;
 use xml_scan::unit_at;
+use xml_state::closing;
+use xml_state::opening;
 use xml_steps::accepted;
 use xml_steps::blank_state;
 use xml_steps::counted;
-use xml_steps::refused;
 use xml_table::RIGHTS;
 use xml_table::RIGHTS_NAME;
 use xml_table::ROW_COUNT;
@@ -43,22 +43,6 @@ pub struct Child {
     pub role: u8,
     pub state: u8,
 }
-
-// STANDIN
-
-fn opening(s: &[u8], t: Tag, role: u8, st: State) -> Done
-    ensures { λ r. ⌜ r ≡ opening (now (s .entry)) t role st ⌝ }
-{
-    refused(42)
-}
-
-fn closing(s: &[u8], a: usize, b: usize, role: u8, state: u8, st: State) -> Done
-    ensures { λ r. ⌜ r ≡ closing (now (s .entry)) a b role state st ⌝ }
-{
-    refused(42)
-}
-
-// END STANDIN
 
 fn refusal(code: u8, at: usize) -> Progress
     ensures { λ r. ⌜ r ≡ refusal code at ⌝ }

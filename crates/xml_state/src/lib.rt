@@ -4,20 +4,28 @@ ghost use mathlib.Core.Path.{_≡_};
 ghost use mathlib.Core.Bool.{false, cond};
 ghost use Prim.Native.Nat.{_+_, _<_, _≤_, min};
 ghost use lib.ListN.{set};
+ghost use Rattle.xml_model.specs.Bytes.{part};
+ghost use Rattle.xml_model.specs.State.{containerDone, closing};
 ghost use Rattle.xml_model.specs.State.{idsIn, idPosition, idOf, newId, assetNamed, objectAlone, withTimer, flagOf, withFlag};
-ghost use Rattle.xml_model.specs.State.{withLimit, referred, withIdref, stored, keyDone};
+ghost use Rattle.xml_model.specs.State.{withLimit, begun, referred, withIdref, withTimerOf, opening, stored, textDone, keyDone};
 use book::Limits;
+use book::MOST_TIMES;
 use book::blank_asset;
 use numbers::min_size;
 use numbers::pick16;
 use numbers::pick32;
 use rules::flags_of;
+use xml_entries::asset_done;
+use xml_entries::kind_done;
 use xml_model::Done;
 use xml_model::Id;
 use xml_model::Ids;
 use xml_model::Range;
 use xml_model::References;
 use xml_model::State;
+use xml_model::Tag;
+use xml_scan::is_bare;
+use xml_scan::look;
 use xml_scan::same_range;
 use xml_steps::NO_POSITION;
 use xml_steps::accepted;
@@ -26,20 +34,27 @@ use xml_steps::with_asset;
 use xml_steps::with_ids;
 use xml_steps::with_limits;
 use xml_steps::with_references;
-
-const ASSET: u8 = 10;
-const PERMISSION: u8 = 14;
-const REFERENCE: u8 = 15;
-const COUNT: u8 = 22;
-const TIMED_COUNT: u8 = 23;
-const START: u8 = 25;
-const END: u8 = 26;
-const INTERVAL: u8 = 27;
-const ACCUMULATED: u8 = 28;
-const VERSION: u8 = 5;
-const OBJECT_UID: u8 = 6;
-const ASSET_UID: u8 = 7;
-const INHERIT_UID: u8 = 8;
+use xml_table::ACCUMULATED;
+use xml_table::ASSET;
+use xml_table::ASSET_UID;
+use xml_table::COUNT;
+use xml_table::END;
+use xml_table::INHERIT_UID;
+use xml_table::INTERVAL;
+use xml_table::KEY_INFO;
+use xml_table::KINDS_FROM;
+use xml_table::OBJECT_UID;
+use xml_table::PERMISSION;
+use xml_table::REFERENCE;
+use xml_table::SKIPPED;
+use xml_table::START;
+use xml_table::TIMED_COUNT;
+use xml_table::VERSION;
+use xml_table::closes_from;
+use xml_table::holds_text;
+use xml_table::is_kind;
+use xml_values::number_in;
+use xml_values::value_of;
 
 fn ids_in(g: Ids) -> usize
     ensures { λ r. ⌜ r ≡ idsIn g ⌝ }
@@ -182,6 +197,27 @@ fn with_limit(role: u8, x: u32, l: Limits) -> Limits
     }
 }
 
+// An asset, a permission and a kind start anew.
+fn begun(role: u8, id: Range, st: State) -> State
+    ensures { λ r. ⌜ r ≡ begun role id st ⌝ }
+{
+    if role == ASSET {
+        let g = st.ids;
+        let n = ids_in(g) as u16;
+        return with_asset(blank_asset(), pick16(0 < id.from, n, NO_POSITION), st);
+    }
+    if role == PERMISSION {
+        let mut references = st.references;
+        references.count = 0;
+        return with_references(references, st);
+    }
+    if is_kind(role) {
+        let l = st.limits;
+        return with_limits(object_alone(l.object), st);
+    }
+    st
+}
+
 // One reference more. Those behind the 64th are counted, up to 65.
 fn referred(x: u16, mut references: References) -> References
     ensures { λ r. ⌜ r ≡ referred x references ⌝ }
@@ -218,6 +254,53 @@ fn with_idref(s: &[u8], value: Range, role: u8, st: State) -> Done
     accepted(st)
 }
 
+// The bytes from a to b, of those that the text has.
+fn part(s: &[u8], a: usize, b: usize) -> &[u8]
+    ensures { λ r. ⌜ now r ≡ part (now (s .entry)) a b ⌝ }
+{
+    let to = min_size(b, s.len());
+    let from = min_size(a, to);
+    &s[from..to]
+}
+
+// The timer of a timed count.
+fn with_timer_of(s: &[u8], value: Range, role: u8, st: State) -> Done
+    ensures { λ r. ⌜ r ≡ withTimerOf (now (s .entry)) value role st ⌝ }
+{
+    if (role == TIMED_COUNT) & (0 < value.from) {
+        let m = number_in(0, MOST_TIMES, part(s, value.from, value.to));
+        if m.valid {
+            let l = st.limits;
+            return accepted(with_limits(with_timer(m.number, l), st));
+        }
+        return refused(41);
+    }
+    accepted(st)
+}
+
+// The first tag of an element.
+// Rules out: an id given twice, an idref of an asset that is not closed yet, a timer over 1,000,000; an asset that keeps the key of
+// the one before it.
+pub fn opening(s: &[u8], t: Tag, role: u8, st: State) -> Done
+    ensures { λ r. ⌜ r ≡ opening (now (s .entry)) t role st ⌝ }
+{
+    let end = t.end;
+    let id = look(s, b"o-ex:id", end);
+    let d = new_id(s, id, begun(role, id, st));
+    if d.code != 0 {
+        return d;
+    }
+    let idref = look(s, b"o-ex:idref", end);
+    let u = d.state;
+    let e = with_idref(s, idref, role, u);
+    if e.code != 0 {
+        return e;
+    }
+    let timer = look(s, b"oma-dd:timer", end);
+    let w = e.state;
+    with_timer_of(s, timer, role, w)
+}
+
 // A text value in its place.
 fn stored(role: u8, x: u32, st: State) -> State
     requires { ⌜ (6 ≤ role → role ≤ 8 → x ≤ 65535) ⌝ }
@@ -243,10 +326,52 @@ fn stored(role: u8, x: u32, st: State) -> State
     with_limits(with_limit(role, x, l), st)
 }
 
+fn text_done(role: u8, v: &[u8], st: State) -> Done
+    ensures { λ r. ⌜ r ≡ textDone role (now (v .entry)) st ⌝ }
+{
+    let x = value_of(role, v);
+    if x.valid {
+        return accepted(stored(role, x.number, st));
+    }
+    refused(41)
+}
+
 fn key_done(st: State) -> State
     ensures { λ r. ⌜ r ≡ keyDone st ⌝ }
 {
     let mut a = st.asset;
     a.key = 1;
     with_asset(a, st.assetid, st)
+}
+
+fn container_done(role: u8, st: State) -> Done
+    ensures { λ r. ⌜ r ≡ containerDone role st ⌝ }
+{
+    if role == ASSET {
+        return asset_done(st);
+    }
+    if is_kind(role) {
+        return kind_done(role - KINDS_FROM, st);
+    }
+    accepted(st)
+}
+
+// The last tag of an element, with the text from a to b in front of it; its children have led to that state.
+// Rules out: text between elements passed over, an element accepted though a required child is missing.
+pub fn closing(s: &[u8], a: usize, b: usize, role: u8, state: u8, st: State) -> Done
+    ensures { λ r. ⌜ r ≡ closing (now (s .entry)) a b role state st ⌝ }
+{
+    if role == SKIPPED {
+        return accepted(st);
+    }
+    if role == KEY_INFO {
+        return accepted(key_done(st));
+    }
+    if holds_text(role) {
+        return text_done(role, part(s, a, b), st);
+    }
+    if !is_bare(s, a, b) | (state < closes_from(role)) {
+        return refused(41);
+    }
+    container_done(role, st)
 }

@@ -1,0 +1,2 @@
+-- What the code's numbers are: natural numbers that stay at 10^12.
+pub mod Saturated
