@@ -47,7 +47,8 @@ reached p d = cond (eqb (d .code) 0) (record { code = 0; at = p; state = d .stat
 unfoldable pub after : List ℕ → List Frame → Progress → Progress
 after s k r = let x = go s (r .at) k (r .state) in cond (eqb (r .code) 0) x r
 
--- r is what comes of the element whose first tag is t, with `left` levels for it and what it holds
+-- r is what comes of the element whose first tag is t, with `left` levels for it and what it holds. If it is no fault, it lies
+-- behind that tag, in the text: by this the loop over the contents ends.
 pub record Element (s : List ℕ) (t : Tag) (role left : ℕ) (st : State) (r : Progress) : Type 0 where
   pub reads : (k : List Frame) → length k + left ≡ 12 → follow s (t .next) (opened s t role k st) ≡ after s k r
   pub moved : r .code ≡ 0 → t .next ≤ r .at

@@ -44,6 +44,7 @@ pub struct Child {
     pub state: u8,
 }
 
+// A fault: the state beside it is blank. The text was looked at up to `at`.
 fn refusal(code: u8, at: usize) -> Progress
     ensures { λ r. ⌜ r ≡ refusal code at ⌝ }
 {
@@ -54,6 +55,7 @@ fn refusal(code: u8, at: usize) -> Progress
     }
 }
 
+// What a step gives at a tag that ends at `at`.
 fn reached(at: usize, d: Done) -> Progress
     ensures { λ r. ⌜ r ≡ reached at d ⌝ }
 {
@@ -68,6 +70,7 @@ fn reached(at: usize, d: Done) -> Progress
     refusal(d.code, at)
 }
 
+// The child whose first tag is t, in an open element of that role and state.
 fn child_at(s: &[u8], t: Tag, role: u8, state: u8) -> Child
     requires { ⌜ (t .name ≤ t .end) × (t .end ≤ length (now s)) ⌝ }
     ensures { λ r. ⌜ r ≡ childAt (now (s .entry)) t role state ⌝ }
@@ -89,7 +92,7 @@ fn child_at(s: &[u8], t: Tag, role: u8, state: u8) -> Child
     }
 }
 
-// The first tag of an element, but for its count.
+// The first tag of an element, but for its count. What a KeyInfo holds is only counted.
 fn entering(s: &[u8], t: Tag, role: u8, st: State) -> Done
     ensures { λ r. ⌜ r ≡ entering (now (s .entry)) t role st ⌝ }
 {
@@ -111,7 +114,7 @@ fn opening_tag(s: &[u8], t: Tag, role: u8, st: State) -> Done
     counted(begun)
 }
 
-// An empty-element tag.
+// An empty-element tag: also the element's last tag, with no text in front of it.
 fn empty_tag(s: &[u8], t: Tag, role: u8, st: State) -> Progress
     ensures { λ r. ⌜ r ≡ reached (t .next) (emptyTag (now (s .entry)) t role st) ⌝ }
 {
@@ -158,7 +161,7 @@ fn element(s: &[u8], t: Tag, role: u8, left: u8, st: State) -> Progress
 }
 
 // The contents reader: what stands from `at` on in the element whose name stands from `name` to `end`, with its end tag. One value
-// holds the state in turn, since a copy of it in each frame is what the readers need of the stack.
+// holds the state from child to child: it is large, and the levels keep their copies of it on the stack.
 fn contents(s: &[u8], at: usize, name: usize, end: usize, role: u8, left: u8, st: State) -> Progress
     ensures { λ r. ⌜ Contents (now (s .entry)) at name end role left st r ⌝ }
 {
@@ -207,6 +210,7 @@ fn finished(s: &[u8], r: Progress) -> Progress
     }
 }
 
+// The outermost element, whose first tag is the unit at i.
 fn root_at(s: &[u8], i: usize) -> Progress
     ensures { λ r. ⌜ r ≡ root (now (s .entry)) (unitAt (now (s .entry)) i) ⌝ }
 {
@@ -223,6 +227,7 @@ fn root_at(s: &[u8], i: usize) -> Progress
     refusal(41, t.next)
 }
 
+// The whole text, with the state that it leads to.
 fn progress_of(s: &[u8]) -> Progress
     ensures { λ r. ⌜ r ≡ progressOf (now (s .entry)) ⌝ }
 {
