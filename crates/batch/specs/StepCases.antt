@@ -43,7 +43,7 @@ use Rattle.choice.specs.declared.Reach.{Reach}
 use Rattle.choice.specs.Reach.{reachIn, tableOf, reach-in-book}
 use Rattle.choice.specs.declared.Best.{Best}
 use Rattle.choice.specs.Best.{bestAfter}
-use Rattle.choice.specs.Codes.{beginCode}
+use Rattle.rules.specs.Codes.{beginCode}
 use Rattle.choice.specs.Choice.{best-suits}
 use Rattle.choice.specs.declared.Row.{Row}
 use Rattle.choice.specs.Row.{rowOf}
@@ -125,6 +125,13 @@ module _ (b : Book) (s : List ℕ) (e : Event) (v : decoded s ≡ Valid e) where
 -- the book n with those entries, the player's record and the time stored
 abbrev pub closing : Book → List Entry → ℕ → ℕ → Last → Open → Book
 closing n es j t last current = changed n t es (set (n .players) j (record { last = last; current = current }))
+
+-- what is stored of an event, with its answer put in
+abbrev pub answeredBy : Last → Answer → Last
+answeredBy l a = record { number = l .number; operation = l .operation; asset = l .asset; kind = l .kind; answer = a }
+
+pub noted-answer : (e : Event) (a b : Answer) (l : Last) → l ≡ noted e a → answeredBy l b ≡ noted e b
+noted-answer e a b l h = ap (λ (x : Last). answeredBy x b) h
 
 abbrev pub doneOn : Book → Event → Done
 doneOn n e = done (e .request) (catalogOf n) (n .entries) (openAt (n .players) (e .player)) (asks e)

@@ -6,8 +6,7 @@
 // the assets by number.
 ghost use mathlib.Core.Path.{_≡_};
 ghost use mathlib.Core.Bool.{cond};
-ghost use lib.ListN.{length};
-ghost use Rattle.batch.specs.Block.{blockBook, blockWritten, blockBuffer};
+ghost use Rattle.batch.specs.Block.{Answered};
 ghost use Rattle.batch.specs.StepCases.{looked};
 use book::Ask;
 use book::Book;
@@ -24,7 +23,6 @@ use book::at_most_64;
 use book::blank_entry;
 use book::refusal;
 use choice::Best;
-use choice::begin_code;
 use choice::consider_row;
 use choice::row_of;
 use index::end_of;
@@ -36,6 +34,7 @@ use lent::shut_player;
 use numbers::min_size;
 use numbers::min_time;
 use record::decode;
+use rules::begin_code;
 use rules::gate_of;
 use rules::kind_number;
 use rules::noted_last;
@@ -73,7 +72,7 @@ fn further_code(on: bool) -> u8
 // If out has no room for 19 bytes per record, nothing is done.
 // Rules out: a record left out or answered twice, a last record cut short that gets no line, a byte touched after the text.
 pub fn answer_block(b: Book, records: &[u8], out: &mut [u8]) -> Block
-    ensures { λ r. ⌜ (r .book ≡ blockBook b (now (records .entry)) (length (now (out .entry)))) × (r .written ≡ blockWritten b (now (records .entry)) (length (now (out .entry)))) × (now (out .exit) ≡ blockBuffer b (now (records .entry)) (now (out .entry))) ⌝ }
+    ensures { λ r. ⌜ Answered b (now (records .entry)) (now (out .entry)) (r .book) (r .written) (now (out .exit)) ⌝ }
 {
     let size = records.len();
     let count = (size + RECORD_LAST) / RECORD_SIZE;
@@ -105,6 +104,8 @@ pub fn answer_block(b: Book, records: &[u8], out: &mut [u8]) -> Block
             }
             Decoded::Valid(event) => {
                 let request = event.request;
+                // Read before the checks, which is quicker; the answer is put in once it is known.
+                let noted = noted_last(event, refusal(0));
                 let j = (event.player % 16) as usize;
                 let asking = book.players[j];
                 let last = asking.last;
@@ -113,8 +114,8 @@ pub fn answer_block(b: Book, records: &[u8], out: &mut [u8]) -> Block
                         at = put_line(out, at, refusal(code));
                     }
                     Gate::Resend => {
-                        let stored = last.answer;
-                        at = put_line(out, at, stored);
+                        let again = last.answer;
+                        at = put_line(out, at, again);
                     }
                     Gate::Take => {
                         let t = event.time;
@@ -232,15 +233,17 @@ pub fn answer_block(b: Book, records: &[u8], out: &mut [u8]) -> Block
                             }
                             answer = part.answer;
                             current = part.current;
+                            let end = end_of(current);
+                            ends[j] = end;
+                            next = min_time(next, end);
                         }
+                        let mut stored = noted;
+                        stored.answer = answer;
                         let q = Player {
-                            last: noted_last(event, answer),
+                            last: stored,
                             current: current,
                         };
                         book.players[j] = q;
-                        let end = end_of(current);
-                        ends[j] = end;
-                        next = min_time(next, end);
                         at = put_line(out, at, answer);
                     }
                 }

@@ -9,8 +9,17 @@ ghost use Rattle.book.specs.Blank.{noAsset, noEntry, noPlayer, noBook, c
 // The latest time that an event can have.
 pub const LATEST_TIME: u32 = 4000000000;
 
+// The least value of a flagged count, timed count, interval or accumulated.
+pub const LEAST_LIMIT: u32 = 1;
+
+// The greatest count, timed count and timer.
+pub const MOST_TIMES: u32 = 1000000;
+
+// The greatest interval and accumulated.
+pub const MOST_SECONDS: u32 = 100000000;
+
 // Later than any time that an event or an until can have.
-pub const NEVER: u32 = 4294967295;
+pub const NEVER: u32 = u32::MAX;
 
 // Later than any end.
 pub const NO_END: u64 = 4294967296;
@@ -19,9 +28,6 @@ pub const NO_END: u64 = 4294967296;
 pub const RECORD_SIZE: usize = 13;
 
 pub const RECORD_LAST: usize = RECORD_SIZE - 1;
-
-// "13 | suitable, none grantable"
-pub const NONE_GRANTABLE: u8 = 13;
 
 pub struct Asset {
     pub number: u16,

@@ -3,4 +3,3 @@ pub mod Reach
 pub mod Best
 pub mod Choice
 pub mod Row
-pub mod Codes

@@ -9,8 +9,6 @@ ghost use Rattle.choice.specs.Reach.{tableOf, foundIn, reachIn};
 ghost use Prim.Native.Nat.{min};
 ghost use Rattle.model.specs.Choice.{noEnd};
 ghost use Rattle.choice.specs.Best.{bestAfter};
-ghost use lib.Dec.{ltb};
-ghost use Rattle.choice.specs.Codes.{beginCode};
 ghost use Rattle.choice.specs.Row.{windowOf, rowOf, rowGrants, rowConsidered};
 use book::Ask;
 use book::Asset;
@@ -18,7 +16,6 @@ use book::Entry;
 use book::Limits;
 use book::Meters;
 use book::NO_END;
-use book::NONE_GRANTABLE;
 use book::Rank;
 use book::at_most_64;
 use numbers::min_wide;
@@ -232,25 +229,4 @@ pub fn chosen(es: [Entry; 64], count: u8, asset: u16, parent: u16, kind: u8, ask
         i = i + 1;
     }
     best
-}
-
-// The code that refuses a begin, or 0 if it is granted at that position, for both owners of the book.
-// (`uses::begin_on` is total, so it answers 13 too, for an entry that is not grantable; neither owner calls it with one.)
-// Rules out: 10 before 11, 13 where nothing is suitable.
-pub fn begin_code(on: bool, usable: bool, suits: bool, at: usize) -> u8
-    ensures { λ r. ⌜ r ≡ beginCode on usable suits (ltb at 64) ⌝ }
-{
-    if on {
-        return 11;
-    }
-    if !usable {
-        return 10;
-    }
-    if !suits {
-        return 12;
-    }
-    if at < 64 {
-        return 0;
-    }
-    NONE_GRANTABLE
 }

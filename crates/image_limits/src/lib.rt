@@ -1,43 +1,41 @@
 // Reading an image, stages 24 and 25: the rules for assets and for the limits of entries.
 // Each function is defined for every value of its types, whether or not an image can hold it.
 ghost use mathlib.Core.Path.{_≡_};
-ghost use Prim.Native.Nat.{_≤_};
 ghost use Rattle.model.specs.Book.{assetPosition, assetLegal, assetsLegal, limit, rangesLegal, limitsLegal, entriesLegal};
 use book::Asset;
 use book::Book;
 use book::LATEST_TIME;
+use book::LEAST_LIMIT;
 use book::Limits;
+use book::MOST_SECONDS;
+use book::MOST_TIMES;
 use book::at_most_64;
+use numbers::min_size;
 use rules::flags_of;
 use rules::momentary;
 
-// The least value of a flagged count, timed count, interval or accumulated.
-const LEAST_LIMIT: u32 = 1;
-
-// The greatest count, timed count and timer.
-const MOST_TIMES: u32 = 1000000;
-
-// The greatest interval and accumulated.
-const MOST_SECONDS: u32 = 100000000;
-
-// The position of the asset with that number among the first n; n if there is none.
-fn asset_position(assets: [Asset; 64], n: usize, number: u16) -> usize
-    requires { ⌜ n ≤ 64 ⌝ }
+// The position of the asset with that number among the first n; n if there is none. Slots past the table's end read as blank.
+// Rules out: the last of two with that number; a position past the table's end for a number that no asset has.
+pub fn asset_position(assets: [Asset; 64], n: usize, number: u16) -> usize
     ensures { λ r. ⌜ r ≡ assetPosition assets n number ⌝ }
 {
+    let m = min_size(n, 64);
     let mut i: usize = 0;
-    while i < n {
+    while i < m {
         let a = assets[i];
         if a.number == number {
             return i;
         }
         i = i + 1;
     }
+    if number == 0 {
+        return m;
+    }
     n
 }
 
-fn asset_legal(assets: [Asset; 64], n: usize, i: usize, a: Asset) -> bool
-    requires { ⌜ n ≤ 64 ⌝ }
+// Rules out: true for an asset whose number an earlier one has; true for number 0 or key 2.
+pub fn asset_legal(assets: [Asset; 64], n: usize, i: usize, a: Asset) -> bool
     ensures { λ r. ⌜ r ≡ assetLegal assets n i a ⌝ }
 {
     ((1 <= a.number) & (a.number <= 65535))
@@ -85,7 +83,8 @@ fn ranges_legal(l: Limits) -> bool
         & limit_legal(f.accumulated, LEAST_LIMIT, MOST_SECONDS, l.accumulated)
 }
 
-fn limits_legal(known: bool, l: Limits) -> bool
+// Rules out: true for a start after the end, for an accumulated of a momentary kind, for a flagged count of 0.
+pub fn limits_legal(known: bool, l: Limits) -> bool
     ensures { λ r. ⌜ r ≡ limitsLegal known l ⌝ }
 {
     let f = flags_of(l);

@@ -59,26 +59,27 @@ pub record Located (s : List ℕ) (v assets entries players : ℕ) : Type 0 wher
   pub entryRoom : entries + entrySize v * getD s 6 0 ≤ length s
   pub playerRoom : players + playerSize v * 16 ≤ length s
 
-pub located : (s : List ℕ) → headerBroken s ≡ 0 → (v h n m : ℕ) → v ≡ version s → h ≡ headerSize v → n ≡ assetSize v * getD s 5 0
-    → m ≡ entrySize v * getD s 6 0 → Located s v h (h + n) (h + n + m)
-located s z v h n m e eh en em =
+pub located : (s : List ℕ) → headerBroken s ≡ 0 → (v o₁ o₂ o₃ : ℕ) → v ≡ version s → o₁ ≡ headerSize v
+    → o₂ ≡ headerSize v + assetSize v * getD s 5 0 → o₃ ≡ headerSize v + assetSize v * getD s 5 0 + entrySize v * getD s 6 0
+    → Located s v o₁ o₂ o₃
+located s z v o₁ o₂ o₃ e h₁ h₂ h₃ =
     let p = header-stands s z in
-    let a : h ≡ headerSize (version s) = eh ∙ ap headerSize e in
-    let b : n ≡ assetSize (version s) * getD s 5 0 = en ∙ ap (λ (k : ℕ). assetSize k * getD s 5 0) e in
-    let d : m ≡ entrySize (version s) * getD s 6 0 = em ∙ ap (λ (k : ℕ). entrySize k * getD s 6 0) e in
+    let h = ap headerSize e in
+    let a = ap (λ (k : ℕ). assetSize k * getD s 5 0) e in
+    let b = ap (λ (k : ℕ). entrySize k * getD s 6 0) e in
     let w = ap (λ (k : ℕ). playerSize k * 16) e in
     record {
       oldest = omega (arith, e, p .oldest);
       known = omega (arith, e, p .known);
       same = e;
-      assetsAt = a;
-      entriesAt = omega (arith, a, b);
-      playersAt = omega (arith, a, b, d);
+      assetsAt = h₁ ∙ h;
+      entriesAt = omega (arith, h₂, h, a);
+      playersAt = omega (arith, h₃, h, a, b);
       assetCount = p .assets;
       entryCount = p .entries;
-      assetRoom = omega (arith, p .whole, a, b, en);
-      entryRoom = omega (arith, p .whole, a, b, d, em);
-      playerRoom = omega (arith, p .whole, a, b, d, w);
+      assetRoom = omega (arith, p .whole, h₁, h, a);
+      entryRoom = omega (arith, p .whole, h₂, h, a, b);
+      playerRoom = omega (arith, p .whole, h₃, h, a, b, w);
     }
 
 -- what is read there is the book

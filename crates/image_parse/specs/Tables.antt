@@ -2,7 +2,7 @@
 use Prim.Native.Nat.{ℕ, _+_, _*_, _-_, _≤_, _<_}
 use mathlib.Core.Path.{_≡_, sym, ap, ap₂, _∙_}
 use mathlib.Core.List.{List, _++_}
-use native.Mathlib.Nat.{mul-zero, mul-le-mul-left, sub-zero}
+use native.Mathlib.Nat.{mul-zero, sub-zero}
 use native.Mathlib.Omega.{arith}
 use lib.ListN.{length, set, take, drop, replicate, length-drop}
 use lib.Seq.{take-all}
@@ -47,6 +47,3 @@ pub part-room : (s : List ℕ) (o w : ℕ) → o + w ≤ length s → w ≤ leng
 part-room s o w h =
     let k : length (drop o s) ≤ length s - o = simp length-drop (omega arith) in
     rw (take-all (length s - o) (drop o s) k, length-drop) (omega arith)
-
-pub rows-most : (w n : ℕ) → w ≤ 200 → n ≤ 255 → w * n ≤ 51000
-rows-most w n h k = omega (arith, mul-le-mul-left w k, h)

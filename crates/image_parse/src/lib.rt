@@ -7,7 +7,7 @@ ghost use lib.ListN.{length};
 ghost use lib.Dec.{eqb};
 ghost use Rattle.numbers.specs.Fields.{bits8, bits16, bits32, numberAt};
 ghost use Rattle.book.specs.Blank.{noBook};
-ghost use Rattle.model.specs.Image.{newest, headerSize, assetSize, entrySize, playerSize, imageLength, assetIn, entryIn, playerIn};
+ghost use Rattle.model.specs.Image.{newest, assetSize, entrySize, playerSize, assetIn, entryIn, playerIn};
 ghost use Rattle.model.specs.Image.{assetTable, entryTable, playerTable, bookIn, headerBroken};
 use book::Answer;
 use book::Asset;
@@ -19,6 +19,15 @@ use book::Limits;
 use book::Meters;
 use book::Open;
 use book::Player;
+use image_pieces::HEADER_START;
+use image_pieces::NEWEST;
+use image_pieces::asset_size;
+use image_pieces::entries_from;
+use image_pieces::entry_size;
+use image_pieces::header_size;
+use image_pieces::image_length;
+use image_pieces::player_size;
+use image_pieces::players_from;
 
 // Code 0: the header is valid, and the book is what the bytes hold. Any other code: the book is blank.
 pub struct Parsed {
@@ -45,46 +54,6 @@ fn read32(s: &[u8], at: usize) -> u32
     ensures { λ r. ⌜ r ≡ numberAt bits32 at (now (s .entry)) ⌝ }
 {
     numbers::join32(s[at], s[at + 1], s[at + 2], s[at + 3])
-}
-
-// The bytes of a header, an asset, an entry and a player, by version.
-fn header_size(v: u16) -> usize
-    ensures { λ r. ⌜ (r ≡ headerSize v) × (r ≤ 200) ⌝ }
-{
-    11
-}
-
-fn asset_size(v: u16) -> usize
-    ensures { λ r. ⌜ (r ≡ assetSize v) × (r ≤ 200) ⌝ }
-{
-    5
-}
-
-fn entry_size(v: u16) -> usize
-    ensures { λ r. ⌜ (r ≡ entrySize v) × (r ≤ 200) ⌝ }
-{
-    51
-}
-
-fn player_size(v: u16) -> usize
-    ensures { λ r. ⌜ (r ≡ playerSize v) × (r ≤ 200) ⌝ }
-{
-    24
-}
-
-// The bytes of n records.
-fn rows(width: usize, n: u8) -> usize
-    requires { ⌜ width ≤ 200 ⌝ }
-    ensures { λ r. ⌜ (r ≡ width * n) × (r ≤ 51000) ⌝ }
-{
-    width * (n as usize)
-}
-
-fn image_length(v: u16, assets: u8, entries: u8) -> usize
-    ensures { λ r. ⌜ r ≡ imageLength v assets entries ⌝ }
-{
-    let tables = rows(asset_size(v), assets) + rows(entry_size(v), entries);
-    header_size(v) + tables + rows(player_size(v), 16)
 }
 
 // A record of version v at the start of the bytes. A field that the version lacks is 0.
@@ -236,14 +205,14 @@ fn players_in(s: &[u8], v: u16, at: usize) -> [Player; 16]
 fn header_broken(s: &[u8]) -> u8
     ensures { λ r. ⌜ r ≡ headerBroken (now (s .entry)) ⌝ }
 {
-    if s.len() < 11 {
+    if s.len() < HEADER_START {
         return 20;
     }
     if !((s[0] == 82) & (s[1] == 66) & (s[2] == 75)) {
         return 21;
     }
     let v = read16(s, 3);
-    if !((1 <= v) & (v <= 1)) {
+    if !((1 <= v) & (v <= NEWEST)) {
         return 22;
     }
     let assets = s[5];
@@ -265,8 +234,8 @@ fn book_in(s: &[u8]) -> Book
     let assets = s[5];
     let entries = s[6];
     let assetsfrom = header_size(v);
-    let entriesfrom = assetsfrom + rows(asset_size(v), assets);
-    let playersfrom = entriesfrom + rows(entry_size(v), entries);
+    let entriesfrom = entries_from(v, assets);
+    let playersfrom = players_from(v, assets, entries);
     Book {
         time: read32(s, 7),
         assetcount: assets,
@@ -280,7 +249,8 @@ fn book_in(s: &[u8]) -> Book
 // Rules out: 21 for ten bytes without the mark (the length is checked first: 20); entries read from an offset that
 // does not depend on the number of assets.
 pub fn parse(s: &[u8]) -> Parsed
-    ensures { λ r. ⌜ (r .code ≡ headerBroken (now (s .entry))) × (r .book ≡ cond (eqb (headerBroken (now (s .entry))) 0) (bookIn (now (s .entry))) noBook) ⌝ }
+    ensures { λ r. ⌜ r .code ≡ headerBroken (now (s .entry)) ⌝ }
+    ensures { λ r. ⌜ r .book ≡ cond (eqb (headerBroken (now (s .entry))) 0) (bookIn (now (s .entry))) noBook ⌝ }
 {
     let code = header_broken(s);
     if code == 0 {

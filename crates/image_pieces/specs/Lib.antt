@@ -1,2 +1,3 @@
--- The bytes of the pieces of an image.
+-- The bytes of the pieces of an image, and how many there are.
 pub mod Pieces
+pub mod Sizes

@@ -1,8 +1,12 @@
-// The pieces of an image as bytes: the header, an asset, two pieces of an entry, two of a player. Big-endian, each field in its place.
+// The layout of an image: the newest version, how many bytes each record has by version, and the pieces of a record as bytes: the
+// header, an asset, two pieces of an entry, two of a player. Big-endian, each field in its place.
 // Each contract gives the whole array: the piece's values in its widths. A piece has few bytes, since the checker takes only some
 // fifty such casts in one literal; what a version adds to a record is a piece of its own.
 ghost use mathlib.Core.Path.{_≡_};
+ghost use Prim.Native.Nat.{_*_, _≤_};
 ghost use Rattle.numbers.specs.Fields.{laidOut};
+ghost use Rattle.model.specs.Image.{headerSize, assetSize, entrySize, playerSize, imageLength};
+ghost use Rattle.image_pieces.specs.Sizes.{entriesAt, playersAt};
 ghost use Rattle.model.specs.Image.{newest, headerStart, startValues, assetWidths, assetValues, limitsWidths, limitsValues, metersWidths};
 ghost use Rattle.model.specs.Image.{metersValues, lastWidths, lastValues, openWidths, openValues};
 use book::Asset;
@@ -11,17 +15,91 @@ use book::Limits;
 use book::Meters;
 use book::Open;
 
+// The version that is written. The reader knows it and all before it.
+pub const NEWEST: u16 = 1;
+
+// The bytes of each piece. The header begins in the same way in every version.
+pub const HEADER_START: usize = 11;
+
+const ASSET: usize = 5;
+
+const LIMITS: usize = 34;
+
+const METERS: usize = 17;
+
+const LAST: usize = 14;
+
+const CURRENT: usize = 10;
+
+// The bytes of a header, an asset, an entry and a player: the sum of the pieces that the version has.
+// Rules out: a piece left out, or one that the version lacks.
+pub fn header_size(v: u16) -> usize
+    ensures { λ r. ⌜ (r ≡ headerSize v) × (r ≤ 200) ⌝ }
+{
+    HEADER_START
+}
+
+pub fn asset_size(v: u16) -> usize
+    ensures { λ r. ⌜ (r ≡ assetSize v) × (r ≤ 200) ⌝ }
+{
+    ASSET
+}
+
+pub fn entry_size(v: u16) -> usize
+    ensures { λ r. ⌜ (r ≡ entrySize v) × (r ≤ 200) ⌝ }
+{
+    LIMITS + METERS
+}
+
+pub fn player_size(v: u16) -> usize
+    ensures { λ r. ⌜ (r ≡ playerSize v) × (r ≤ 200) ⌝ }
+{
+    LAST + CURRENT
+}
+
+// The bytes of n records.
+fn rows(width: usize, n: u8) -> usize
+    requires { ⌜ width ≤ 200 ⌝ }
+    ensures { λ r. ⌜ (r ≡ width * n) × (r ≤ 51000) ⌝ }
+{
+    width * (n as usize)
+}
+
+// Where the entries begin, and where the players.
+// Rules out: an offset that does not depend on the number of assets, the width of another version.
+pub fn entries_from(v: u16, assets: u8) -> usize
+    ensures { λ r. ⌜ (r ≡ entriesAt v assets) × (r ≤ 51200) ⌝ }
+{
+    let table = rows(asset_size(v), assets);
+    header_size(v) + table
+}
+
+pub fn players_from(v: u16, assets: u8, entries: u8) -> usize
+    ensures { λ r. ⌜ (r ≡ playersAt v assets entries) × (r ≤ 102200) ⌝ }
+{
+    let table = rows(entry_size(v), entries);
+    entries_from(v, assets) + table
+}
+
+// Rules out: the players left out.
+pub fn image_length(v: u16, assets: u8, entries: u8) -> usize
+    ensures { λ r. ⌜ r ≡ imageLength v assets entries ⌝ }
+{
+    let table = rows(player_size(v), 16);
+    players_from(v, assets, entries) + table
+}
+
 // The mark RBK, the newest version, the two counts and the book's time; what a version adds comes after them.
 // Rules out: another mark or version, the counts swapped.
-pub fn header_bytes(assets: u8, entries: u8, time: u32) -> [u8; 11]
+pub fn header_bytes(assets: u8, entries: u8, time: u32) -> [u8; HEADER_START]
     ensures { λ r. ⌜ r ≡ laidOut headerStart (startValues newest assets entries time) ⌝ }
 {
     [
         82,
         66,
         75,
-        0,
-        1,
+        (NEWEST / 256 % 256) as u8,
+        (NEWEST % 256) as u8,
         assets,
         entries,
         (time / 16777216 % 256) as u8,
@@ -32,7 +110,7 @@ pub fn header_bytes(assets: u8, entries: u8, time: u32) -> [u8; 11]
 }
 
 // Rules out: number and inherit swapped, the bytes of a number in another order.
-pub fn asset_bytes(a: Asset) -> [u8; 5]
+pub fn asset_bytes(a: Asset) -> [u8; ASSET]
     ensures { λ r. ⌜ r ≡ laidOut (assetWidths newest) (assetValues a) ⌝ }
 {
     [
@@ -45,7 +123,7 @@ pub fn asset_bytes(a: Asset) -> [u8; 5]
 }
 
 // Rules out: two fields swapped, a field of another width.
-pub fn limits_bytes(l: Limits) -> [u8; 34]
+pub fn limits_bytes(l: Limits) -> [u8; LIMITS]
     ensures { λ r. ⌜ r ≡ laidOut limitsWidths (limitsValues l) ⌝ }
 {
     [
@@ -87,7 +165,7 @@ pub fn limits_bytes(l: Limits) -> [u8; 34]
 }
 
 // Rules out: used seconds for first, a field of another width.
-pub fn meters_bytes(m: Meters) -> [u8; 17]
+pub fn meters_bytes(m: Meters) -> [u8; METERS]
     ensures { λ r. ⌜ r ≡ laidOut metersWidths (metersValues m) ⌝ }
 {
     [
@@ -112,7 +190,7 @@ pub fn meters_bytes(m: Meters) -> [u8; 17]
 }
 
 // Rules out: the entry answered for the code, the bytes of a number in another order.
-pub fn last_bytes(p: Last) -> [u8; 14]
+pub fn last_bytes(p: Last) -> [u8; LAST]
     ensures { λ r. ⌜ r ≡ laidOut lastWidths (lastValues p) ⌝ }
 {
     let a = p.answer;
@@ -135,7 +213,7 @@ pub fn last_bytes(p: Last) -> [u8; 14]
 }
 
 // Rules out: the open mark and its entry swapped, begin for until.
-pub fn open_bytes(c: Open) -> [u8; 10]
+pub fn open_bytes(c: Open) -> [u8; CURRENT]
     ensures { λ r. ⌜ r ≡ laidOut openWidths (openValues c) ⌝ }
 {
     [

@@ -74,7 +74,8 @@ fn put_player(buf: &mut [u8], at: usize, p: Player) -> usize
 // The three tables: writes the first n records at offset `at`, and returns the end offset.
 fn put_assets(buf: &mut [u8], at: usize, table: [Asset; 64], n: usize) -> usize
     requires { ⌜ (n ≤ 64) × (at + assetSize newest * n ≤ length (now buf)) ⌝ }
-    ensures { λ r. ⌜ (r ≡ at + assetSize newest * n) × (now (buf .exit) ≡ lay (now (buf .entry)) at (joined (λ i. assetBytes (assetAt table i)) n)) ⌝ }
+    ensures { λ r. ⌜ r ≡ at + assetSize newest * n ⌝ }
+    ensures { λ _. ⌜ now (buf .exit) ≡ lay (now (buf .entry)) at (joined (λ i. assetBytes (assetAt table i)) n) ⌝ }
 {
     let mut i: usize = 0;
     let mut o: usize = at;
@@ -88,7 +89,8 @@ fn put_assets(buf: &mut [u8], at: usize, table: [Asset; 64], n: usize) -> usize
 
 fn put_entries(buf: &mut [u8], at: usize, table: [Entry; 64], n: usize) -> usize
     requires { ⌜ (n ≤ 64) × (at + entrySize newest * n ≤ length (now buf)) ⌝ }
-    ensures { λ r. ⌜ (r ≡ at + entrySize newest * n) × (now (buf .exit) ≡ lay (now (buf .entry)) at (joined (λ i. entryBytes (getD table i noEntry)) n)) ⌝ }
+    ensures { λ r. ⌜ r ≡ at + entrySize newest * n ⌝ }
+    ensures { λ _. ⌜ now (buf .exit) ≡ lay (now (buf .entry)) at (joined (λ i. entryBytes (getD table i noEntry)) n) ⌝ }
 {
     let mut i: usize = 0;
     let mut o: usize = at;
@@ -102,7 +104,8 @@ fn put_entries(buf: &mut [u8], at: usize, table: [Entry; 64], n: usize) -> usize
 
 fn put_players(buf: &mut [u8], at: usize, table: [Player; 16]) -> usize
     requires { ⌜ at + playerSize newest * 16 ≤ length (now buf) ⌝ }
-    ensures { λ r. ⌜ (r ≡ at + playerSize newest * 16) × (now (buf .exit) ≡ lay (now (buf .entry)) at (joined (λ p. playerBytes (playerAt table p)) 16)) ⌝ }
+    ensures { λ r. ⌜ r ≡ at + playerSize newest * 16 ⌝ }
+    ensures { λ _. ⌜ now (buf .exit) ≡ lay (now (buf .entry)) at (joined (λ p. playerBytes (playerAt table p)) 16) ⌝ }
 {
     let mut i: usize = 0;
     let mut o: usize = at;
@@ -121,7 +124,7 @@ pub fn image_length(assetcount: u8, entrycount: u8) -> usize
 {
     let a = at_most_64(assetcount);
     let n = at_most_64(entrycount);
-    11 + 5 * a + 51 * n + 384
+    image_pieces::image_length(image_pieces::NEWEST, a as u8, n as u8)
 }
 
 // The length of the image, or 30 if the buffer has no room for it. The contract rules out a writer that returns 30 but

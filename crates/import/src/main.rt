@@ -15,10 +15,7 @@ fn explain() {
 }
 
 fn too_long() {
-    io::write_all(
-        2,
-        b"import: the text is longer than 4194304 bytes\n",
-    );
+    io::write_all(2, b"import: the text is longer than 4194304 bytes\n");
 }
 
 // The line `code elements`.

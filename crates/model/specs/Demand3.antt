@@ -215,7 +215,8 @@ abbrev pub EarlierEnd : Limits → Limits → Type 0
 EarlierEnd x y = (flagged endFlag x ≡ true) × ((flagged endFlag y ≡ false) ⊎ (x .end < y .end))
 
 abbrev pub SameEnd : Limits → Limits → Type 0
-SameEnd x y = ((flagged endFlag x ≡ false) × (flagged endFlag y ≡ false)) ⊎ ((flagged endFlag x ≡ true) × (flagged endFlag y ≡ true) × (x .end ≡ y .end))
+SameEnd x y = ((flagged endFlag x ≡ false) × (flagged endFlag y ≡ false))
+    ⊎ ((flagged endFlag x ≡ true) × (flagged endFlag y ≡ true) × (x .end ≡ y .end))
 
 -- Entry i goes before entry j "by: (i) no flags; (ii) earlier end, none last; (iii) interval already started; (iv) own before inherited;
 -- (v) lower position"

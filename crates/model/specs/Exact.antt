@@ -46,7 +46,8 @@ pub record ExactBegin (t : ℕ) (es : List Entry) (i : ℕ) : Type 0 where
 
 -- the open use o is continued at t: "Equal to the old: 15. Else used seconds rise by the difference."
 pub record ExactContinue (t : ℕ) (es : List Entry) (o : Open) : Type 0 where
-  pub unused : flagged accumulatedFlag (limitsAt es (o .entry)) ≡ true → metersAt es (o .entry) .seconds ≤ limitsAt es (o .entry) .accumulated
+  pub unused : flagged accumulatedFlag (limitsAt es (o .entry)) ≡ true
+      → metersAt es (o .entry) .seconds ≤ limitsAt es (o .entry) .accumulated
   pub notBelow : o .until ≤ more es o t
 
 -- ## When they are computed

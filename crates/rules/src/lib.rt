@@ -4,12 +4,14 @@
 // Every function is total, and its contract gives its whole result.
 ghost use mathlib.Core.Path.{_≡_};
 ghost use Prim.Native.Nat.{_-_};
+ghost use lib.Dec.{ltb};
 ghost use Rattle.model.specs.Book.{grantLength, momentary};
 ghost use Rattle.model.specs.Record.{kindNumber};
 ghost use Rattle.model.specs.Gate.{sameRequest, gate};
 ghost use Rattle.model.specs.Step.{noted};
 ghost use Rattle.model.specs.Choice.{groundsOf, grantable, rankOf, ranksBefore, cap, leastUntil};
 ghost use Rattle.model.specs.Meters.{where-flagged};
+ghost use Rattle.rules.specs.Codes.{beginCode};
 ghost use Rattle.rules.specs.Line.{outOfLine};
 ghost use Rattle.rules.specs.Rules.{wireOf, flagsOf};
 use book::Answer;
@@ -265,4 +267,24 @@ pub fn least_until(t: u32, from: u32, l: Limits, m: Meters) -> u64
         end + 1,
         capped(f.interval, due, capped(f.accumulated, paid, granted)),
     )
+}
+
+// The code that refuses a begin, or 0 if it is granted at that position: "**Begin**, in order: 11, 10, 12, 13."
+// Rules out: 10 before 11, 13 where nothing is suitable.
+pub fn begin_code(on: bool, usable: bool, suits: bool, at: usize) -> u8
+    ensures { λ r. ⌜ r ≡ beginCode on usable suits (ltb at 64) ⌝ }
+{
+    if on {
+        return 11;
+    }
+    if !usable {
+        return 10;
+    }
+    if !suits {
+        return 12;
+    }
+    if at < 64 {
+        return 0;
+    }
+    13
 }

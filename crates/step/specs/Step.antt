@@ -25,7 +25,7 @@ use Rattle.model.specs.Step.{Done, unchanged, noted, granted, doBegin, done, op
 use Rattle.model.specs.Meters.{settled, isOn}
 use Rattle.choice.specs.declared.Best.{Best}
 use Rattle.choice.specs.Best.{bestAfter}
-use Rattle.choice.specs.Codes.{beginCode}
+use Rattle.rules.specs.Codes.{beginCode}
 use Rattle.choice.specs.Choice.{best-some, best-nobody}
 use Rattle.uses.specs.declared.Effect.{Effect}
 use Rattle.uses.specs.Uses.{kept, placed, stored, beginOn, begin-placed}
@@ -43,7 +43,8 @@ refused-placed code o es h = ap (λ (x : List Entry). unchanged code x o) (set-o
 
 -- the book after the event is stored
 unfoldable pub storedBook : Book → Event → Done → Book
-storedBook b e d = changed b (e .time) (d .entries) (set (b .players) (e .player) (record { last = noted e (d .answer); current = d .current }))
+storedBook b e d = changed b (e .time) (d .entries)
+    (set (b .players) (e .player) (record { last = noted e (d .answer); current = d .current }))
 
 -- settling when nothing is due
 pub settled-none : (t : ℕ) (b : Book) → length (b .players) ≡ 16 → anyDue t (b .players) ≡ false → b ≡ settledBook t b

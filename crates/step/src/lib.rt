@@ -91,7 +91,7 @@ fn begin(b: Book, o: Open, asset: u16, kind: u8, ask: Ask) -> Act
     let entries = b.entries;
     let best = choice::chosen(entries, b.entrycount, asset, reach.parent, kind, ask);
     let k = best.at;
-    let code = choice::begin_code(o.on == 1, reach.usable, best.suits, k);
+    let code = rules::begin_code(o.on == 1, reach.usable, best.suits, k);
     if code != 0 {
         return refused_act(code, o);
     }

@@ -6,7 +6,7 @@ ghost use lib.ListN.{length};
 ghost use Rattle.numbers.specs.Buffer.{lay};
 ghost use Rattle.model.specs.Run.{decimal};
 ghost use Rattle.text.specs.Digits.{two};
-ghost use Rattle.text.specs.Lines.{lineEnd, lineBuffer, refusedEnd};
+ghost use Rattle.text.specs.Lines.{Put, refusedEnd};
 use book::Answer;
 
 // How many digits a number has.
@@ -124,7 +124,7 @@ fn put_refused(out: &mut [u8], at: usize)
 // Rules out: a digit, a space or the line's end left out, leading zeros, a byte touched past the line, and a line begun where it may
 // not fit.
 pub fn put_line(out: &mut [u8], at: usize, a: Answer) -> usize
-    ensures { λ r. ⌜ (r ≡ lineEnd a at (length (now (out .entry)))) × (now (out .exit) ≡ lineBuffer a at (now (out .entry))) × (r ≤ at + 19) ⌝ }
+    ensures { λ r. ⌜ Put a at (now (out .entry)) r (now (out .exit)) ⌝ }
 {
     if out.len() < 19 {
         return at;

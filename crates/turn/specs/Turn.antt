@@ -2,6 +2,7 @@
 -- input is the input buffer, n how many bytes it holds, ended whether no more will come.
 use Prim.Native.Nat.{ℕ, _-_, _%_}
 use mathlib.Core.Bool.{Bool, cond}
+use mathlib.Core.Path.{_≡_}
 use mathlib.Core.List.{List, _++_}
 use lib.ListN.{length, take, drop}
 use lib.Dec.{leb}
@@ -44,3 +45,7 @@ keptAfter input n ended = cond (inside input n) (keptCount ended n) 0
 -- the kept bytes, and after them what was there before
 unfoldable pub inputAfter : List ℕ → ℕ → Bool → List ℕ
 inputAfter input n ended = cond (inside input n) (keptOf ended (take n input) ++ drop (keptCount ended n) input) input
+
+-- the file f begins with the first n bytes of image: they are all of it, or as many as image holds
+abbrev pub Begins : List ℕ → ℕ → List ℕ → Type 0
+Begins image n f = take (length image) f ≡ take n image

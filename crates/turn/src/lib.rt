@@ -8,7 +8,7 @@ ghost use lib.ListN.{length, take, drop};
 ghost use Rattle.book.specs.Blank.{noBook};
 ghost use Rattle.model.specs.Image.{readCode, readBook};
 ghost use Rattle.batch.specs.Block.{blockBook, blockWritten, blockBuffer};
-ghost use Rattle.turn.specs.Turn.{inside, bookAfter, writtenAfter, outAfter, keptAfter, inputAfter};
+ghost use Rattle.turn.specs.Turn.{inside, bookAfter, writtenAfter, outAfter, keptAfter, inputAfter, Begins};
 use batch::Block;
 use book::Book;
 use book::RECORD_SIZE;
@@ -113,7 +113,7 @@ pub fn turn(b: Book, input: &mut [u8; INPUT], n: usize, ended: bool, out: &mut [
 // The answer is the one for every file f that begins with these bytes.
 // Rules out: a file longer than any image, accepted for its first bytes.
 pub fn load(image: &[u8; IMAGE], n: usize) -> Loaded
-    ensures { λ r. ⌜ ((f : List ℕ) → take (length (now (image .entry))) f ≡ take n (now (image .entry)) → (r .code ≡ readCode f) × (r .book ≡ readBook noBook f)) ⌝ }
+    ensures { λ r. ⌜ ((f : List ℕ) → Begins (now (image .entry)) n f → (r .code ≡ readCode f) × (r .book ≡ readBook noBook f)) ⌝ }
 {
     read_first(image, min_size(n, IMAGE))
 }

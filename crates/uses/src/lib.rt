@@ -15,7 +15,6 @@ use book::Ask;
 use book::LATEST_TIME;
 use book::Limits;
 use book::Meters;
-use book::NONE_GRANTABLE;
 use book::Open;
 use book::Player;
 use book::closed_use;
@@ -23,6 +22,7 @@ use book::refusal;
 use numbers::one;
 use numbers::pick32;
 use numbers::saturating_sub;
+use rules::begin_code;
 use rules::flags_of;
 use rules::grantable;
 use rules::least_until;
@@ -118,16 +118,18 @@ pub fn ended_meters(l: Limits, m: Meters, begin: u32, until: u32, end: u32) -> M
     }
 }
 
+// Neither owner calls it on an entry that is not grantable; it then answers as for a begin that finds none grantable.
 // Rules out: an until past end + 1, a momentary use that opens, a grant that is not metered.
 pub fn begin_on(l: Limits, m: Meters, o: Open, i: u8, ask: Ask) -> Effect
     ensures { λ r. ⌜ r ≡ beginOn i ask l m o ⌝ }
 {
     let t = ask.time;
+    let none = begin_code(false, true, true, 64);
     if !grantable(l, m, ask) {
-        return kept(NONE_GRANTABLE, m, o);
+        return kept(none, m, o);
     }
     if LATEST_TIME < t {
-        return kept(NONE_GRANTABLE, m, o);
+        return kept(none, m, o);
     }
     let until = grant_until(l, m, t);
     let begun = begun_meters(l, m, t, until);

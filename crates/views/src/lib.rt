@@ -18,7 +18,7 @@ use rules::grantable;
 use rules::grounds_of;
 
 // What is left where there is no limit.
-const UNLIMITED: u32 = 4294967295;
+const UNLIMITED: u32 = u32::MAX;
 
 // How many assets and entries, and the time.
 // Rules out: the two counts swapped.

@@ -7,3 +7,4 @@ pub mod Calendar
 pub mod Values
 pub mod State
 pub mod Text
+pub mod Import

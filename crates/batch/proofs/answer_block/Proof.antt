@@ -36,10 +36,10 @@ use Rattle.model.specs.Run.{recordCount, recordAt}
 use Rattle.rules.specs.Rules.{wireOf}
 use Rattle.choice.specs.declared.Best.{Best}
 use Rattle.choice.specs.declared.Row.{Row}
-use Rattle.choice.specs.Codes.{beginCode}
+use Rattle.rules.specs.Codes.{beginCode}
 use Rattle.choice.specs.Best.{bestAfter, choiceAfter, considered, best-turn}
 use Rattle.choice.specs.Row.{rowOf, rowConsidered, row-considered}
-use Rattle.index.specs.Ends.{endOfPlayer, never}
+use Rattle.index.specs.Ends.{endOf, endOfPlayer, never}
 use Rattle.index.specs.Rows.{rowOfEntry, noRow, row-at}
 use Rattle.index.specs.Places.{reachAt}
 use Rattle.text.specs.Lines.{lineEnd, lineBuffer}
@@ -52,7 +52,8 @@ use Rattle.batch.specs.NextExpiry.{NextExpiry, leastEnd, expiry-start, S
 use Rattle.batch.specs.NextExpiry.{end-due, end-on, reached, kept-end, ends-next, ends-same, shut-end}
 use Rattle.batch.specs.StepCases.{looked, looked-most, actOn, closing, doneOn, Admitted, admitted, Planned, planned-continue}
 use Rattle.batch.specs.StepCases.{planned-stop, planned-begin, usable-is, parent-is, case-invalid, case-refused, case-resent}
-use Rattle.batch.specs.StepCases.{case-taken, released-due, released-far, released-still, shut-not, rows-next}
+use Rattle.batch.specs.StepCases.{answeredBy, noted-answer, case-taken, released-due, released-far, released-still, shut-not}
+use Rattle.batch.specs.StepCases.{rows-next}
 use Rattle.batch.proofs.answer_block.Statement.{statement}
 use Rattle.batch.proofs.answer_block.Tie as tie
 
@@ -65,19 +66,19 @@ abbrev endsFor : Book → List ℕ
 endsFor b = map endOfPlayer (b .players)
 
 abbrev Inv-loop2 : tie.InvT-loop2
-Inv-loop2 records out size count book₀ places parents rows₀ ends₀ next₀ at i from to event request j t p₀ book rows ends next p =
+Inv-loop2 records out size count book₀ places parents rows₀ ends₀ next₀ at i from to event request noted j t p₀ book rows ends next p =
     (p ≤ 16) × (book ≡ settledTo t p book₀) × (next ≡ leastEnd t (book₀ .players) p) × (rows ≡ rowsFor book) × (ends ≡ endsFor book) ×
     (length (book .players) ≡ 16)
 
 abbrev μ-loop2 : tie.MeasureT-loop2
-μ-loop2 records out size count book₀ places parents rows₀ ends₀ next₀ at i from to event request j t p₀ book rows ends next p = 16 - p
+μ-loop2 records out size count book₀ places parents rows₀ ends₀ next₀ at i from to event request noted j t p₀ book rows ends next p = 16 - p
 
 abbrev Inv-loop3 : tie.InvT-loop3
-Inv-loop3 records out size count book places parents rows ends next at i from to event request j t o ask k code asset kind reach n best₀
+Inv-loop3 records out size count book places parents rows ends next at i from to request noted j t o ask k code asset kind reach n best₀
     e₀ best e = (e ≤ n) × (n ≤ 64) × (best ≡ bestAfter (book .entries) asset (reach .parent) kind ask e)
 
 abbrev μ-loop3 : tie.MeasureT-loop3
-μ-loop3 records out size count book places parents rows ends next at i from to event request j t o ask k code asset kind reach n best₀
+μ-loop3 records out size count book places parents rows ends next at i from to request noted j t o ask k code asset kind reach n best₀
     e₀ best e = n - e
 
 abbrev Inv-loop : tie.InvT-loop
@@ -124,7 +125,7 @@ abbrev turn : Read → Turn
 turn c = c .before .before .before
 
 abbrev read : Judged → Read
-read c = c .before .before .before .before .before .before .before
+read c = c .before .before .before .before .before .before .before .before .before
 
 abbrev judged : Taken → Judged
 judged c = c .before .before
@@ -162,10 +163,10 @@ is-decoded c =
     (omega arith))
 
 abbrev event-at : Judged → Event
-event-at c = c .before .before .before .before .before .event .given .0 .0
+event-at c = c .before .before .before .before .before .before .before .event .given .0 .0
 
 is-valid : (c : Judged) → decoded (record-at (turn (read c))) ≡ Valid (event-at c)
-is-valid c = sym (is-decoded (read c)) ∙ c .before .before .before .before .before .event .given .1
+is-valid c = sym (is-decoded (read c)) ∙ c .before .before .before .before .before .before .before .event .given .1
 
 is-admitted : (c : Taken) → Admitted (book-at (turn (read (judged c)))) (record-at (turn (read (judged c)))) (event-at (judged c))
 is-admitted c =
@@ -232,7 +233,7 @@ planned c =
     let kind = w .3 .result in
     let r = w .6 .result in
     let tables = c .before .before .before .before .before .before .before .before .before .before .before .before .before .before
-    .before .before .before .before .before .before .before .before .before .before .before .fill-places .ensures in
+    .before .before .before .before .before .before .before .before .before .before .before .before .before .fill-places .ensures in
     let hr = w .6 .ensures ∙ ap₂ (λ (x y : List ℕ). reachAt x y asset) (tables .0) (tables .1) in
     let end : w .10 .e ≡ w .9 .result = omega (arith, w .10 .inv .0, w .11 .left) in
     planned-begin n e o sort asset kind (c .match3 .k) (c .match3 .code) (w .9 .result) r (w .10 .best)
@@ -330,10 +331,39 @@ left-by c =
       v .2 ∙ z .1 ∙ ap (map rowOfEntry) same,
     ))
     (w .7 .came) in
-    leaves c es′ (part .answer) (part .current) (w .10 ∙ done .0) (w .11 ∙ done .1) (w .12) (w .13) hd (length-set es k _ ∙ z .0 .entries))
-    (λ w. leaves c es (c .before .refusal3 .result) o (w .1) (w .2 ∙ z .1) (w .3) (w .4)
-    (ap (λ (x : Answer). record { answer = x; entries = es; current = o }) (c .before .refusal3 .ensures) ∙ planned d .refuses (w .0 .left))
+    leaves c es′ (part .answer) (part .current) (w .12 ∙ done .0) (w .13 ∙ done .1) (w .16) (w .17) hd (length-set es k _ ∙ z .0 .entries))
+    (λ w. leaves c es (c .before .refusal4 .result) o (w .1) (w .2 ∙ z .1) (w .5) (w .6)
+    (ap (λ (x : Answer). record { answer = x; entries = es; current = o }) (c .before .refusal4 .ensures) ∙ planned d .refuses (w .0 .left))
     (z .0 .entries))
+    (c .if5 .came)
+
+-- the ends and the next expiry fit the player that is stored: a granted one's end is stored, a refused one keeps its use
+ends-by :
+    (c : Acted) (q : Player) →
+    q .current ≡ c .if5 .current →
+    (c .if5 .ends
+    ≡ map endOfPlayer (set (all-settled (chosen c) .if2 .book .players)
+    (event-at (judged (taken (all-settled (chosen c)))) .player % 16) q))
+    × (NextExpiry (c .if5 .next) (set (all-settled (chosen c) .if2 .book .players)
+    (event-at (judged (taken (all-settled (chosen c)))) .player % 16) q))
+ends-by c q hq =
+    let s = all-settled (chosen c) in
+    let z = after-settle s in
+    let ps = s .if2 .book .players in
+    let j = event-at (judged (taken s)) .player % 16 in
+    let small : j < length ps = omega (arith, z .0 .players) in
+    ⊎-elim
+    (λ w.
+    let end : w .10 .result ≡ endOf (q .current) = w .10 .ensures ∙ ap endOf (sym (w .17)) ∙ ap endOf (sym hq) in (
+      w .14 ∙ ends-next ps (s .if2 .ends) (z .2) j q (w .10 .result) end,
+      subst (λ (v : ℕ). NextExpiry v (set ps j q)) (sym (w .15 ∙ w .11 .ensures ∙ ap (min (s .if2 .next)) end))
+          (expiry-store (s .if2 .next) ps j q (z .0 .expiry) small),
+    ))
+    (λ w.
+    let same : q .current ≡ openAt ps j = hq ∙ w .6 in (
+      w .3 ∙ ends-same ps (s .if2 .ends) (z .2) j q same,
+      subst (λ (v : ℕ). NextExpiry v (set ps j q)) (sym (w .4)) (expiry-keep (s .if2 .next) ps j q (z .0 .expiry) small same),
+    ))
     (c .if5 .came)
 
 -- a turn that leaves the book: one line more, and all that stands beside the book stays
@@ -445,6 +475,13 @@ loop-again c =
 enum-known-event : tie.Need-enum-known-event Inv-loop2 μ-loop2 Inv-loop3 μ-loop3 Inv-loop μ-loop
 enum-known-event c = search needs
 
+refusal-requires-2 : tie.Need-refusal-requires-2 Inv-loop2 μ-loop2 Inv-loop3 μ-loop3 Inv-loop μ-loop
+refusal-requires-2 c κs = tt
+
+noted-last-requires :
+    tie.Need-noted-last-requires Inv-loop2 μ-loop2 Inv-loop3 μ-loop3 Inv-loop μ-loop
+noted-last-requires c κs = tt
+
 cast-j : tie.Need-cast-j Inv-loop2 μ-loop2 Inv-loop3 μ-loop3 Inv-loop μ-loop
 cast-j c = search needs
 
@@ -461,20 +498,20 @@ gate-of-requires c κs = tt
 enum-known-code-2 : tie.Need-enum-known-code-2 Inv-loop2 μ-loop2 Inv-loop3 μ-loop3 Inv-loop μ-loop
 enum-known-code-2 c = search needs
 
-refusal-requires-2 : tie.Need-refusal-requires-2 Inv-loop2 μ-loop2 Inv-loop3 μ-loop3 Inv-loop μ-loop
-refusal-requires-2 c κs = tt
+refusal-requires-3 : tie.Need-refusal-requires-3 Inv-loop2 μ-loop2 Inv-loop3 μ-loop3 Inv-loop μ-loop
+refusal-requires-3 c κs = tt
 
 put-line-requires-2 :
     tie.Need-put-line-requires-2 Inv-loop2 μ-loop2 Inv-loop3 μ-loop3 Inv-loop μ-loop
 put-line-requires-2 c κs = tt
 
 loop-less-2 : tie.Need-loop-less-2 Inv-loop2 μ-loop2 Inv-loop3 μ-loop3 Inv-loop μ-loop
-loop-less-2 c = omega arith
+loop-less-2 c = let r = read (c .before .before .before .before .before .before .before .before) in omega (arith, turn r .loop-test .taken)
 
 loop-again-2 : tie.Need-loop-again-2 Inv-loop2 μ-loop2 Inv-loop3 μ-loop3 Inv-loop μ-loop
 loop-again-2 c =
     let j = c .before .before .before .before .before .before .before .before in
-    let x = c .before .before .before .refusal2 in
+    let x = c .before .before .before .refusal3 in
     let p = c .before .before .put-line2 in
     let b = book-at (turn (read j)) in
     kept-turn (turn (read j)) (x .result) (p .last .0) (p .result)
@@ -744,9 +781,9 @@ enum-told-3 c = search needs
 enum-told-4 : tie.Need-enum-told-4 Inv-loop2 μ-loop2 Inv-loop3 μ-loop3 Inv-loop μ-loop
 enum-told-4 c = search needs
 
-refusal-requires-3 :
-    tie.Need-refusal-requires-3 Inv-loop2 μ-loop2 Inv-loop3 μ-loop3 Inv-loop μ-loop
-refusal-requires-3 c κs = tt
+refusal-requires-4 :
+    tie.Need-refusal-requires-4 Inv-loop2 μ-loop2 Inv-loop3 μ-loop3 Inv-loop μ-loop
+refusal-requires-4 c κs = tt
 
 blank-entry-requires :
     tie.Need-blank-entry-requires Inv-loop2 μ-loop2 Inv-loop3 μ-loop3 Inv-loop μ-loop
@@ -802,10 +839,6 @@ array-set-from-rows-2 :
     tie.Need-array-set-from-rows-2 Inv-loop2 μ-loop2 Inv-loop3 μ-loop3 Inv-loop μ-loop
 array-set-from-rows-2 c = search needs
 
-noted-last-requires :
-    tie.Need-noted-last-requires Inv-loop2 μ-loop2 Inv-loop3 μ-loop3 Inv-loop μ-loop
-noted-last-requires c κs = tt
-
 mul-q-2 : tie.Need-mul-q-2 Inv-loop2 μ-loop2 Inv-loop3 μ-loop3 Inv-loop μ-loop
 mul-q-2 c = search needs
 
@@ -830,16 +863,13 @@ put-line-requires-4 :
 put-line-requires-4 c κs = tt
 
 loop-less-4 : tie.Need-loop-less-4 Inv-loop2 μ-loop2 Inv-loop3 μ-loop3 Inv-loop μ-loop
-loop-less-4 c = omega (
-  arith,
-  c .before .before .before .before .before .before .before .before .before .before .before .before .before
-      .before .before .before .before .before .before .before .before .before .before .before .before .before .before .before .loop-test
-      .taken,
-)
+loop-less-4 c =
+    let r = read (judged (taken (all-settled (chosen (c .before .before .before .before))))) in
+    omega (arith, turn r .loop-test .taken)
 
 loop-again-4 : tie.Need-loop-again-4 Inv-loop2 μ-loop2 Inv-loop3 μ-loop3 Inv-loop μ-loop
 loop-again-4 c =
-    let x = c .before .before .before .before .before .before .before in
+    let x = c .before .before .before .before in
     let s = all-settled (chosen x) in
     let r = turn (read (judged (taken s))) in
     let a = entered r .args in
@@ -856,29 +886,26 @@ loop-again-4 c =
     let z = after-settle s in
     let kept = assets-kept s in
     let u = left-by x in
-    let last : Last = c .before .before .before .before .before .before .noted-last .result in
+    let first = judged (taken s) .before .before .before .before .noted-last in
+    let last : Last = answeredBy (first .result) answer in
     let q : Player = record { last = last; current = current } in
     let store : Book → Book = λ m. with m (m .entries) (set (m .players) j q) in
     let is-book : store (x .if5 .book) ≡ closing n es j (e .time) last current = ap store (u .0) in
-    let small : j < length ps = omega (arith, z .0 .players) in
     let f : stepRecord (l .book) (record-at r) ≡ record { answer = answer; book = store (x .if5 .book) } =
     case-taken (l .book) (record-at r) e n (record { answer = answer; entries = es; current = current }) j last (is-admitted (taken s))
-    (z .0 .is-settled) (u .2) (is-player (taken s)) (c .before .before .before .before .before .before .noted-last .ensures)
+    (z .0 .is-settled) (u .2) (is-player (taken s)) (noted-answer e _ answer (first .result) (first .ensures))
     ∙ ap (λ (m : Book). record { answer = answer; book = m }) (sym is-book) in
-    let end = c .before .before .before .before .before .end-of in
-    let soon = c .before .before .before .before .min-time2 in (
+    let beside = ends-by x q refl in (
       i .0,
       progress-next (a .b) (a .records .now) (a .out .now) (l .i) (l .book) (l .out) (l .at) (l .inv .1) (i .1) answer
           (store (x .if5 .book)) (p .last .0) (p .result) f (p .ensures),
-      subst (λ (m : Book). NextExpiry (soon .result) (m .players)) (sym is-book)
-          (subst (λ (v : ℕ). NextExpiry v (set ps j q)) (sym (soon .ensures ∙ ap (min (s .if2 .next)) (end .ensures)))
-          (expiry-store (s .if2 .next) ps j q (z .0 .expiry) small)),
+      subst (λ (m : Book). NextExpiry (x .if5 .next) (m .players)) (sym is-book) (beside .1),
       u .3,
       ap (λ (m : Book). length (m .players)) is-book ∙ length-set ps j q ∙ z .0 .players,
       u .1 ∙ ap rowsFor (u .0) ∙ ap rowsFor (sym is-book),
       ap (λ (m : Book). m .assets) is-book ∙ kept .0,
       ap (λ (m : Book). m .assetcount) is-book ∙ kept .1,
-      ends-next ps (s .if2 .ends) (z .2) j q (end .result) (end .ensures) ∙ ap endsFor (sym is-book),
+      beside .0 ∙ ap endsFor (sym is-book),
     )
 
 same-length : tie.Need-same-length Inv-loop2 μ-loop2 Inv-loop3 μ-loop3 Inv-loop μ-loop
@@ -926,12 +953,14 @@ answer-block-spec =
     loop-less
     loop-again
     enum-known-event
+    refusal-requires-2
+    noted-last-requires
     cast-j
     mul-asking
     element-copy-out-asking
     gate-of-requires
     enum-known-code-2
-    refusal-requires-2
+    refusal-requires-3
     put-line-requires-2
     loop-less-2
     loop-again-2
@@ -984,7 +1013,7 @@ answer-block-spec =
     begin-code-requires
     enum-told-3
     enum-told-4
-    refusal-requires-3
+    refusal-requires-4
     blank-entry-requires
     mul-held
     element-copy-out-held
@@ -1001,13 +1030,12 @@ answer-block-spec =
     row-of-requires-2
     mul-rows-2
     array-set-from-rows-2
-    noted-last-requires
-    mul-q-2
-    element-set-from-q-2
     end-of-requires
     mul-ends-2
     array-write-ends-2
     min-time-requires-2
+    mul-q-2
+    element-set-from-q-2
     put-line-requires-4
     loop-less-4
     loop-again-4

@@ -1,8 +1,5 @@
 -- `image_parse::book_in` meets its contract: each table is read where the sizes of the version and the counts of the header put it.
-use mathlib.Core.Path.{ap, _∙_}
-use Prim.Native.Nat.{ℕ, _+_, _*_}
 use native.Mathlib.Omega.{arith}
-use lib.ListN.{getD}
 use denote.Ref.{now}
 use Rattle.image_parse.specs.Header.{HeaderStands, header-stands, Located, located, read-there}
 use borrow.Author.Needs.{needs}
@@ -24,40 +21,24 @@ shared-slice-read-entries c = let h = stands (c .before .before .before .before)
 header-size-requires : tie.Need-header-size-requires
 header-size-requires c κs = search needs
 
-asset-size-requires : tie.Need-asset-size-requires
-asset-size-requires c κs = search needs
+entries-from-requires : tie.Need-entries-from-requires
+entries-from-requires c κs = search needs
 
-rows-requires : tie.Need-rows-requires
-rows-requires c κs = search needs
-
-add-entriesfrom : tie.Need-add-entriesfrom
-add-entriesfrom c = omega (arith, c .before .before .header-size .ensures .1, c .rows .ensures .1)
-
-entry-size-requires : tie.Need-entry-size-requires
-entry-size-requires c κs = search needs
-
-rows-requires-2 : tie.Need-rows-requires-2
-rows-requires-2 c κs = search needs
-
-add-playersfrom : tie.Need-add-playersfrom
-add-playersfrom c =
-    omega (arith, c .before .before .before .before .header-size .ensures .1, c .before .before .rows .ensures .1, c .rows2 .ensures .1)
+players-from-requires : tie.Need-players-from-requires
+players-from-requires c κs = search needs
 
 -- the offsets, once all are reckoned
-places : (c : tie.After-rows2) → Located (now (c .before .before .before .before .before .before .before .before .before .args .s))
-    (c .before .before .before .before .before .before .before .read16 .result) (c .before .before .before .before .header-size .result)
-    (c .before .before .before .before .header-size .result + c .before .before .rows .result)
-    (c .before .before .before .before .header-size .result + c .before .before .rows .result + c .rows2 .result)
+places : (c : tie.After-players-from) → Located (now (c .before .before .before .before .before .before .before .args .s))
+    (c .before .before .before .before .before .read16 .result) (c .before .before .header-size .result)
+    (c .before .entries-from .result) (c .players-from .result)
 places c =
-    let s = now (c .before .before .before .before .before .before .before .before .before .args .s) in
-    located s (c .before .before .before .before .before .before .before .before .before .pre) _ _ _ _
-    (c .before .before .before .before .before .before .before .read16 .ensures)
-    (c .before .before .before .before .header-size .ensures .0)
-    (c .before .before .rows .ensures .0 ∙ ap (λ (k : ℕ). k * getD s 5 0) (c .before .before .before .asset-size .ensures .0))
-    (c .rows2 .ensures .0 ∙ ap (λ (k : ℕ). k * getD s 6 0) (c .before .entry-size .ensures .0))
+    located (now (c .before .before .before .before .before .before .before .args .s))
+    (c .before .before .before .before .before .before .before .pre) _ _ _ _
+    (c .before .before .before .before .before .read16 .ensures) (c .before .before .header-size .ensures .0)
+    (c .before .entries-from .ensures .0) (c .players-from .ensures .0)
 
 read32-requires : tie.Need-read32-requires
-read32-requires c κs = let h = stands (c .before .before .before .before .before .before .before .before .before) in omega (arith, h .start)
+read32-requires c κs = let h = stands (c .before .before .before .before .before .before .before) in omega (arith, h .start)
 
 cast-assets-in : tie.Need-cast-assets-in
 cast-assets-in c = let l = places (c .before) in omega (arith, l .assetCount)
@@ -83,6 +64,6 @@ returns c =
 pub book-in-spec : {M : Type 1} → statement M
 book-in-spec =
     tie.close
-    (tie.spec read16-requires shared-slice-read-assets shared-slice-read-entries header-size-requires asset-size-requires rows-requires
-    add-entriesfrom entry-size-requires rows-requires-2 add-playersfrom read32-requires cast-assets-in assets-in-requires
+    (tie.spec read16-requires shared-slice-read-assets shared-slice-read-entries header-size-requires entries-from-requires
+    players-from-requires read32-requires cast-assets-in assets-in-requires
     cast-entries-in entries-in-requires players-in-requires returns)

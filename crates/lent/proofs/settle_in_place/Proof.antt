@@ -121,8 +121,8 @@ module _ {M : Type 1} (𝓤 : URA M) (H : Heap 𝓤) (A : Atoms 𝓤) (W : Given
         owned ! T.the-row (Is T.the-row) ((LL.makes T.the-type T′.the-plain) 𝓤 H A) h _ was $ owned ! u32 (Is u32)
         (uint-makes 𝓤 H A W w32) n _ (refl, gn .1) $ move ! (1 ∷ 0 ∷ []) $
         use2 W (raw (Callee 𝓤 H A at-mem run .pre to-call)) goes-call $
-        -- [what the callee takes; the struct's cell; what a Player owns; the open borrow; obs; auth; _4; ..; _3; ..; _2; ..; _1; ..; room for
-        -- _0; ..]
+        -- [what the callee takes; the struct's cell; what a Player owns; the open borrow; obs; auth; _4; ..; _3; ..; _2; ..; _1; ..;
+        -- room for _0; ..]
         calls-at ! fm (Callee 𝓤 H A at-mem run) known to-call
         (and-then ! (load ! (from ! (stop !)) (look ! 8 refl)) (and-then ! (load ! (from ! (stop !)) (look ! 10 refl)) (no-more !)))
         (λ v.

@@ -159,8 +159,8 @@ module _ {M : Type 1} (𝓤 : URA M) (H : Heap 𝓤) (A : Atoms 𝓤) (W : Given
         pick ! (λ ε. split ! $
         move ! (5 ∷ 2 ∷ 3 ∷ 0 ∷ []) $ join ! $ move ! (1 ∷ 2 ∷ []) $ join ! $ use2 W
         (raw (Callee 𝓤 H A at-mem run .pre (to-call l₃ l₄ ν μ δ ε))) (goes-call l₃ l₄ ν μ δ ε) $
-        -- [what the callee takes; the lender's parts of _4 and _3; _7; ..; _6; ..; _5; ..; what _4's and _3's blocks have left; _2; ..; _1; ..;
-        -- room for _0; ..]
+        -- [what the callee takes; the lender's parts of _4 and _3; _7; ..; _6; ..; _5; ..; what _4's and _3's blocks have left; _2; ..;
+        -- _1; ..; room for _0; ..]
         calls-at ! fm (Callee 𝓤 H A at-mem run) known (to-call l₃ l₄ ν μ δ ε)
         (and-then ! (load ! (from ! (stop !)) (look ! 5 refl)) (and-then ! (load ! (from ! (stop !)) (look ! 3 refl)) (no-more !)))
         (λ v.
@@ -183,8 +183,8 @@ module _ {M : Type 1} (𝓤 : URA M) (H : Heap 𝓤) (A : Atoms 𝓤) (W : Given
         (ref-back 𝓤 H A W T.the-row (μ ∷ []) ε (zs .1 .0) l₄ 0) $ await ! tt $
         use1 W (some (λ (w : Val). ‵ (fat fullShare T′.mir l₄ 0 w) ⊛ ‵ (T.the-row .own (zs .1 .0) (w ∷ []))))
         (part-out-at 𝓤 H A W T.the-row refl fullShare (zs .1 .0) l₄ 0 T′.mir refl) $ pick ! (λ w. split ! $ move ! (1 ∷ []) $ drop ! $
-        -- [_4; true; _3; true; what the reader was lent; _7; ..; _6; ..; _5; ..; what _4's and _3's blocks have left; _2; ..; _1; ..; room for
-        -- _0; ..]
+        -- [_4; true; _3; true; what the reader was lent; _7; ..; _6; ..; _5; ..; what _4's and _3's blocks have left; _2; ..; _1; ..;
+        -- room for _0; ..]
         assigns ! (of-opd ! (unit-lit !)) (from ! (stop !)) (init ! 17 refl (tt, tt)) $
         returns ! (look ! 17 refl) $ forget ! 0 refl $ forget ! 2 refl $ forget ! 5 refl $ forget ! 7 refl $ forget ! 9 refl $ forget !
         13 refl $ forget ! 15 refl $ forget ! 17 refl $

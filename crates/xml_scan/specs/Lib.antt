@@ -1,0 +1,3 @@
+-- What the proofs of the scan cite beyond xml_model.
+pub mod Ranges
+pub mod Attributes
