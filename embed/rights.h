@@ -11,7 +11,7 @@
  *  - each pointer points to as many elements as the room or length passed after it says (one if there is none),
  *    and is not NULL even if that is 0;
  *  - the buffers of one call do not overlap, and nothing else reads or writes them until it returns;
- *  - the stack has RIGHTS_STACK bytes left.
+ *  - the stack has RIGHTS_STACK bytes left, for rights_from_xml RIGHTS_XML_STACK.
  * Calls on different buffers may run at the same time. The functions allocate nothing and call nothing but memcpy,
  * memmove and memset. */
 #ifndef RIGHTS_H
@@ -24,7 +24,8 @@
 extern "C" {
 #endif
 
-/* What a call returns. Document 01 has the rules for 20 to 27, in the order in which they are checked.
+/* What a call returns. Document 01 has the rules for 20 to 27, in the order in which they are checked, and docs/FORMAT.md those
+ * for XML texts.
  * If a call does not return 0, everything lent to it is unchanged. */
 enum {
     RIGHTS_OK = 0,
@@ -37,7 +38,10 @@ enum {
     RIGHTS_IMAGE_PLAYERS = 26, /* a rule on players is broken */
     RIGHTS_IMAGE_METERS = 27,  /* a rule on what has been used is broken */
     RIGHTS_SHORT_OUT = 30,     /* the buffer for a result is too short: the text, the numbers or the next image */
-    RIGHTS_NOT_THERE = 31      /* the book has no asset, entry or player at that position */
+    RIGHTS_NOT_THERE = 31,     /* the book has no asset, entry or player at that position */
+    RIGHTS_XML_FORM = 40,      /* the XML text is not well formed */
+    RIGHTS_XML_CONTENT = 41,   /* an element, an attribute or a value in it is not accepted */
+    RIGHTS_XML_TOO_MANY = 42   /* it has more than 256 elements, 64 assets or 64 entries */
 };
 
 /* The code in an answer. docs/ANSWERS.md says what to do about each. */
@@ -79,7 +83,8 @@ enum {
     RIGHTS_NO_ENTRY = 255,       /* the entry in an answer that is no grant */
     RIGHTS_LONGEST_IMAGE = 3979, /* bytes of an image with 64 assets and 64 entries: room for any next image */
     RIGHTS_PLAYERS = 16,
-    RIGHTS_STACK = 262144        /* bytes of stack that are enough for any call (docs/EMBEDDING.md) */
+    RIGHTS_STACK = 262144,       /* bytes of stack that are enough for any call but rights_from_xml (docs/EMBEDDING.md) */
+    RIGHTS_XML_STACK = 2097152   /* bytes of stack that are enough for rights_from_xml, whatever the text */
 };
 
 /* An event record, big-endian, at these offsets. */
@@ -135,6 +140,20 @@ uint8_t rights_answer_one(uint8_t *image, size_t image_room, uint64_t *image_len
 uint8_t rights_record(uint8_t player, uint32_t number, uint8_t operation,
                       uint16_t asset, uint8_t kind, uint32_t time,
                       uint8_t *out, size_t out_length);
+
+/* Turns an XML rights object, as issuers send it, into the image of a fresh book: nothing used, no player, time 0.
+ *
+ * text          the bytes of the text, of any length; no byte ends it earlier. Only read.
+ * image         a buffer of image_room bytes. Out: it starts with the image. Bytes after the image are unchanged. What it held
+ *               before does not matter.
+ * image_length  out: the image's length.
+ * elements      out: how many elements the text has.
+ *
+ * Returns 0, or 40 to 42 if the text is refused: the first tag at fault decides. Or 30 if the text is accepted and image_room is
+ * less than its image needs; RIGHTS_LONGEST_IMAGE bytes are always enough. */
+uint8_t rights_from_xml(const uint8_t *text, size_t text_length,
+                        uint8_t *image, size_t image_room, uint64_t *image_length,
+                        uint64_t *elements);
 
 /* ---- Reading an image
  *

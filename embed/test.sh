@@ -1,12 +1,13 @@
 #!/bin/sh
-# Builds the static library, links C and Rust programs against it, and compares what they print with the stored days and images,
-# the second program (oracle/rights.py) and the pages. Needs rt, a C compiler (CC, default cc), rustc and python3.
+# Builds the static library, links C and Rust programs against it, and compares what they print with the stored days, images and
+# texts, the second program (oracle/rights.py) and the pages. Needs rt, a C compiler (CC, default cc), rustc and python3.
 # The last line is 'embed: N passed, 0 failed'.
 set -u
 cd "$(dirname "$0")/.." || exit 2
 work=target/embed
 days=crates/test_days/data/days.bin
 images=crates/test_images/data/cases.bin
+texts=crates/test_texts/data/cases.bin
 afternoon=examples/afternoon
 passed=0 failed=0
 
@@ -49,11 +50,20 @@ flags='-std=c11 -O2 -Wall -Wextra -Werror'
 }
 rustc --edition 2021 -O -D warnings -L target/staticlib -o $work/calls_rs embed/tests/calls.rs || exit 1
 
-# The stored days and images, with a stack of RIGHTS_STACK bytes.
-stack_kb=$(sed -n 's/.*RIGHTS_STACK = \([0-9]*\).*/\1/p' embed/rights.h)
-stack_kb=$((stack_kb / 1024))
+# The stored days and images, with a stack of RIGHTS_STACK bytes, and the texts, with one of RIGHTS_XML_STACK.
+stack_of() {
+    bytes=$(sed -n "s/.* $1 = \([0-9]*\).*/\1/p" embed/rights.h)
+    echo $((bytes / 1024))
+}
+stack_kb=$(stack_of RIGHTS_STACK)
+xml_stack_kb=$(stack_of RIGHTS_XML_STACK)
+with_stack() {
+    kb=$1
+    shift
+    sh -c "ulimit -s $kb"' && exec "$@"' sh "$@"
+}
 small() {
-    sh -c "ulimit -s $stack_kb"' && exec "$@"' sh "$@"
+    with_stack "$stack_kb" "$@"
 }
 for language in c rs; do
     calls=$work/calls_$language
@@ -62,6 +72,7 @@ for language in c rs; do
     done
     holds "$language, days, an event a call, in numbers" crates/test_days/stdout small $calls ones $days
     holds "$language, images" crates/test_images/stdout small $calls images $images
+    holds "$language, texts" crates/test_texts/stdout with_stack $xml_stack_kb $calls texts $texts
 done
 
 # What is in an image, according to the second program.
@@ -72,26 +83,32 @@ holds "rs, what is in the books of the days" $work/seen_days small $work/calls_r
 holds "c, what is in the stored images" $work/seen_images small $work/calls_c seen-images $images
 
 # A call uses at most half of the stack that the header asks for.
-$work/cost $afternoon/rights.rbk 0 1 1 1 1 1000 >$work/costs &&
-    awk -v most=$((stack_kb * 512)) '/bytes of stack/ { n++; if ($(NF - 3) > most) bad = 1 } END { exit bad || n != 11 }' $work/costs
+$work/cost $afternoon/rights.rbk 0 1 1 1 1 1000 $texts >$work/costs &&
+    awk -v most=$((stack_kb * 512)) -v xml=$((xml_stack_kb * 512)) \
+        '/bytes of stack/ { n++; if ($(NF - 3) > (/from_xml/ ? xml : most)) bad = 1 } END { exit bad || n != 12 }' $work/costs
 judged "the stack" $?
 
 # The pages: the tables of docs/FORMAT.md and the header's numbers, and the programs and command lines of docs/EMBEDDING.md
 # as they are printed, in a folder with the two or three files that the page names.
 holds "docs/FORMAT.md and rights.h" /dev/null python3 embed/tests/pages.py
 page=$work/page
-rm -rf $page && mkdir -p $page && cp embed/rights.h embed/rust/rights.rs $lib $afternoon/rights.rbk $page || exit 2
-printf '0 0 1060\n1 more\n' >$work/page_expected
-for language in c rust; do
-    file=server.c
-    [ $language = rust ] && file=server.rs
-    awk -v from="\`\`\`$language" '$0 == from { on = 1; next } /^```/ { on = 0 } on' docs/EMBEDDING.md >$page/$file
-    command=$(sed -n "s/^    \(\(cc\|rustc\) .*$file.*\)/\1/p" docs/EMBEDDING.md)
-    (cd $page && rm -f server && eval "$command") >$page/said 2>&1 && [ ! -s $page/said ]
-    judged "the page's command line for $language, without a word" $?
-    holds "the page's program for $language" $work/page_expected sh -c "cd $page && ./server"
-    fails "the page's program for $language, no book" 1 "refused" sh -c "mkdir -p $page/empty && cd $page/empty && ../server"
-done
+rm -rf $page && mkdir -p $page/empty && cp embed/rights.h embed/rust/rights.rs $lib $afternoon/rights.rbk $page || exit 2
+cp examples/rights/season.xml $page/rights.xml || exit 2
+printf '0 0 1060\n1 more\n' >$work/page_server
+printf '60 elements, a book of 568 bytes\n' >$work/page_from_xml
+# built PROGRAM FENCE FILE WHICH: the page's program of that name, the WHICH-th of its language
+built() {
+    awk -v from="\`\`\`$2" -v which="$4" '$0 == from { on = ++n == which; next } /^```/ { on = 0 } on' docs/EMBEDDING.md >$page/$3
+    command=$(sed -n "s/^    \(\(cc\|rustc\) .*$3.*\)/\1/p" docs/EMBEDDING.md)
+    (cd $page && rm -f "$1" && eval "$command") >$page/said 2>&1 && [ ! -s $page/said ]
+    judged "the page's command line for $3, without a word" $?
+    holds "the page's program $3" $work/page_$1 sh -c "cd $page && ./$1"
+    fails "the page's program $3, no file" 1 "refused" sh -c "cd $page/empty && ../$1"
+}
+built server c server.c 1
+built from_xml c from_xml.c 2
+built server rust server.rs 1
+built from_xml rust from_xml.rs 2
 sed -n 's/^    \(cc .*example.c.*\)/\1/p' docs/EMBEDDING.md | sed "s,-o example,-o $work/example_as_printed," >$work/command
 holds "the page's command line for the example" /dev/null sh $work/command
 

@@ -79,19 +79,19 @@ def over_64_before_a_number_twice(real):
 
 @fault("stuck")
 def a_mark_later_in_the_tag_wins(real):
-    def stuck(text, at):
-        return Refused(41) if b"&" in text[at:at + 20] else real(text, at)
+    def stuck(text, at, wanted):
+        return Refused(41) if b"&" in text[at:at + 20] else real(text, at, wanted)
     return stuck
 
 
 @fault("stuck")
 def marks_are_not_well_formed(real):
-    return lambda text, at: Refused(41 if text[at:at + 1] == b"&" else 40)
+    return lambda text, at, wanted: Refused(41 if text[at:at + 1] == b"&" else 40)
 
 
 @fault("stuck")
 def a_zero_byte_gets_41(real):
-    return lambda text, at: Refused(41) if text[at:at + 1] == b"\0" else real(text, at)
+    return lambda text, at, wanted: Refused(41) if text[at:at + 1] == b"\0" else real(text, at, wanted)
 
 
 @fault("attribute")

@@ -2,7 +2,7 @@
 of 004 alone.
 
 read(text) gives (code, elements, book): 0, the number of elements and the fresh book of an accepted text, or 40, 41 or
-42 with 0 and None.
+42 with 0 and None. judge(text) tells people more: the number of the rights object too, or where the text is at fault and why.
 
 `units` takes the text apart: a unit is one tag with the text in front of it. It stops at the first byte that cannot stand
 where it stands. `Reader` judges one unit after the other, so the first tag at fault decides, and what is not well formed
@@ -12,6 +12,7 @@ in a tag goes before everything else about it.
 import copy
 import math
 import re
+from dataclasses import dataclass
 from datetime import date
 
 import rights
@@ -57,22 +58,49 @@ NAMES = {each: prefix + (b"asset" if each == "reference" else each.encode())
 
 
 class Refused(Exception):
-    def __init__(self, code):
-        self.code = code
+    """A code; for people why, and where: at an offset in the text, or so many bytes in front of the `<` of the tag judged."""
+
+    def __init__(self, code, why="", at=None, back=0):
+        self.code, self.why, self.at, self.back = code, why, at, back
 
 
-def not_accepted():
-    return Refused(41)
+def not_accepted(why="", back=0):
+    return Refused(41, why, back=back)
+
+
+@dataclass
+class Judgement:
+    code: int = 0
+    elements: int = 0
+    book: Book | None = None
+    object: int = 0             # the number of the rights object
+    at: int | None = None       # of a refusal: the offset of the byte at fault
+    why: str = ""
 
 
 def read(text):
-    reader = Reader()
+    found = judge(text)
+    return found.code, found.elements, found.book
+
+
+def judge(text):
+    reader, tag = Reader(), 0
     try:
-        for unit in units(text):
+        for tag, *unit in units(text):
             reader.take(*unit)
     except Refused as refused:
-        return refused.code, 0, None
-    return 0, reader.elements, reader.book
+        at, why = tag - refused.back if refused.at is None else refused.at, refused.why
+        if at == len(text) and reader.open:
+            why += f"; {shown(reader.open[-1].name)} is still open"
+        return Judgement(refused.code, at=at, why=why)
+    return Judgement(0, reader.elements, reader.book, reader.object)
+
+
+def shown(text, most=60):
+    """Bytes of the text for a message: in one line, and not too long."""
+    words = text[:4 * most].decode(errors="backslashreplace")
+    words = "".join(each if each.isprintable() else each.encode("unicode_escape").decode() for each in words)
+    return words if len(words) <= most and len(text) <= 4 * most else f"{words[:most - 3]}.. ({len(text)} bytes)"
 
 
 # ---- The text taken apart
@@ -85,34 +113,47 @@ BETWEEN = re.compile(rb"[^" + BARRED + rb"]*")
 QUOTED = {b'"': re.compile(rb'[^"' + BARRED + rb"]*"), b"'": re.compile(rb"[^'" + BARRED + rb"]*")}
 
 
-def stuck(text, at):
+def stuck(text, at, wanted):
     """The refusal where no byte like the one at this place can stand, or where the text ends too early."""
-    if text[at:at + 1] == b"&" or text[at:at + 2] in (b"<!", b"<?"):
-        return Refused(41)
-    return Refused(40)
+    if text[at:at + 1] == b"&":
+        return Refused(41, "& is not accepted: no entity and no character reference", at)
+    if text[at:at + 2] in (b"<!", b"<?"):
+        what = "comment, CDATA or DOCTYPE" if text[at + 1:at + 2] == b"!" else "XML declaration and no other instruction"
+        return Refused(41, f"{text[at:at + 2].decode()} is not accepted: no {what}", at)
+    if at >= len(text):
+        return Refused(40, f"the text ends where {wanted} must stand", at)
+    return Refused(40, f"{byte_words(text[at:at + 3])} stands where {wanted} must", at)
 
 
-def past(text, at, pattern):
+def byte_words(text):
+    """The first byte of this in words."""
+    if text == b"\xef\xbb\xbf" or text[:2] in (b"\xff\xfe", b"\xfe\xff"):
+        return f"a byte order mark of {'UTF-8' if text[0] == 0xef else 'UTF-16'}"
+    return f"`{chr(text[0])}`" if 32 < text[0] < 127 else "a space" if text[0] == 32 else f"byte {text[0]:02X}"
+
+
+def past(text, at, pattern, wanted):
     """Where the pattern, which must match something, ends."""
     found = pattern.match(text, at)
     if found is None:
-        raise stuck(text, at)
+        raise stuck(text, at, wanted)
     return found.end()
 
 
 def units(text):
-    """Yields (the text in front of a tag, the tag's form, its name, its attributes) up to the end of the text."""
+    """Yields (where a tag begins, the text in front of it, the tag's form, its name, its attributes) up to the end of the text."""
     at, depth, before = WHITE.match(text).end(), 0, b""
     while True:
         if text[at:at + 1] != b"<" or text[at + 1:at + 2] in (b"!", b"?"):
-            raise stuck(text, at)
+            raise stuck(text, at, "text or a tag" if depth > 0 and at < len(text) else "a tag")
+        tag = at
         if text[at + 1:at + 2] != b"/":
             form, name, attributes, at = start_tag(text, at + 1)
         elif depth > 0:
             form, name, attributes, at = end_tag(text, at + 2)
         else:
-            raise Refused(40)       # nothing is open that this tag could close
-        yield before, form, name, attributes
+            raise Refused(40, "an end tag stands where nothing is open", tag + 1)
+        yield tag, before, form, name, attributes
         depth += {OPENING: 1, CLOSING: -1, EMPTY: 0}[form]
         if depth == 0:
             break
@@ -120,19 +161,19 @@ def units(text):
         before, at = text[at:end], end
     at = WHITE.match(text, at).end()
     if at < len(text):
-        raise stuck(text, at)
+        raise stuck(text, at, "the end of the text")
 
 
 def end_tag(text, at):
-    end = past(text, at, NAME)
+    end = past(text, at, NAME, "a name")
     name, at = text[at:end], WHITE.match(text, end).end()
     if text[at:at + 1] != b">":
-        raise stuck(text, at)
+        raise stuck(text, at, "the > of this end tag")
     return CLOSING, name, {}, at + 1
 
 
 def start_tag(text, at):
-    end = past(text, at, NAME)
+    end = past(text, at, NAME, "the name of an element")
     name, attributes = text[at:end], {}
     while True:
         at = WHITE.match(text, end).end()
@@ -141,28 +182,28 @@ def start_tag(text, at):
             return OPENING, name, attributes, at + 1
         if here == b"/":
             if text[at + 1:at + 2] != b">":
-                raise stuck(text, at + 1)
+                raise stuck(text, at + 1, "the > of />")
             return EMPTY, name, attributes, at + 2
         if at == end:
-            raise stuck(text, at)       # an attribute needs white space in front of it
+            raise stuck(text, at, "white space, / or >")       # an attribute needs white space in front of it
         end = attribute(text, at, attributes)
 
 
 def attribute(text, at, attributes):
     """Adds the attribute that begins here; returns where it ends."""
-    end = past(text, at, NAME)
+    end = past(text, at, NAME, "the name of an attribute, / or >")
     name, at = text[at:end], WHITE.match(text, end).end()
     if text[at:at + 1] != b"=":
-        raise stuck(text, at)
+        raise stuck(text, at, f"the = of the attribute {shown(name)}")
     at = WHITE.match(text, at + 1).end()
     quote = text[at:at + 1]
     if quote not in QUOTED:
-        raise stuck(text, at)
+        raise stuck(text, at, f"the quote that begins the attribute {shown(name)}")
     end = QUOTED[quote].match(text, at + 1).end()
     if text[end:end + 1] != quote:
-        raise stuck(text, end)
+        raise stuck(text, end, f"the quote that ends the attribute {shown(name)}")
     if name in attributes:
-        raise Refused(40)
+        raise Refused(40, f"the attribute {shown(name)} stands twice in this tag", end)
     attributes[name] = text[at + 1:end]
     return end + 1
 
@@ -269,6 +310,17 @@ class Open:
         rest = self.slots[self.slot:]
         return all(least <= (self.taken if place == 0 else 0) for place, (_, _, least, _) in enumerate(rest))
 
+    def wanted(self):
+        """The names of the children that can stand next, up to one that must."""
+        names = []
+        for place, (name, _, least, most) in enumerate(self.slots[self.slot:]):
+            taken = self.taken if place == 0 else 0
+            if taken < most:
+                names.append(name.decode())
+            if taken < least:
+                break
+        return names
+
 
 class Reader:
     """Judges the units in turn and makes the book from them."""
@@ -286,26 +338,30 @@ class Reader:
     def take(self, before, form, name, attributes):
         if form == CLOSING:
             if name != self.open[-1].name:
-                raise Refused(40)
+                raise Refused(40, f"</{shown(name)}> stands where {shown(self.open[-1].name)} is open")
             over = self.close(before)
         else:
             over = self.begin(before, name, attributes)
             if form == EMPTY:
                 over = self.close(b"") or over
         if over:                    # only now: in a tag that opens and closes, 41 for either goes before
-            raise Refused(42)
+            raise Refused(42, over)
 
     def begin(self, before, name, attributes):
-        """An opening tag; returns whether it opens one element too many."""
+        """An opening tag; returns whether it opens one element too many, in words."""
         if self.open:
             parent = self.open[-1]
+            if parent.shape not in SKIPPED | TEXTS and not is_white(before):
+                raise text_not_accepted(parent, before)
             shape = parent.child(name)
-            if parent.shape not in SKIPPED and not is_white(before):
-                raise not_accepted()
+            if shape is None:
+                raise not_accepted(child_words(parent, name))
         else:
-            shape = "rights" if name == NAMES["rights"] else None
-        if shape is None or len(self.open) >= DEPTH:
-            raise not_accepted()
+            shape = "rights"
+            if name != NAMES[shape]:
+                raise not_accepted(f"{shown(name)} is not o-ex:rights, the first element of a rights object")
+        if len(self.open) >= DEPTH:
+            raise not_accepted(f"{shown(name)} stands {DEPTH + 1} deep; {DEPTH} is the most, and o-ex:rights stands 1 deep")
         if shape == "asset":
             self.asset, self.asset_id = Asset(), None
         elif shape == "KeyInfo":
@@ -318,38 +374,48 @@ class Reader:
             self.take_attributes(shape, attributes)
         self.open.append(Open(name, shape))
         self.elements += 1
-        return self.elements > ELEMENTS
+        return f"this is element {self.elements}; {ELEMENTS} is the most" if self.elements > ELEMENTS else ""
 
     def take_attributes(self, shape, attributes):
         own, other = attributes.get(b"o-ex:id"), attributes.get(b"o-ex:idref")
         if own is not None:
             if own in self.ids:
-                raise not_accepted()
+                raise not_accepted(f'the id "{shown(own)}" is given a second time')
             self.ids[own] = None
         if other is not None and self.ids.get(other) is None:
-            raise not_accepted()
+            raise not_accepted(f'the idref "{shown(other)}" is not the id of an asset above it')
         if shape == "asset":
             self.asset_id = own
         elif shape == "reference":
             if other is None:
-                raise not_accepted()
+                raise not_accepted("o-ex:asset in o-ex:permission has no o-ex:idref")
             self.references.append(self.ids[other])
         elif shape == "timed-count":
-            self.entry.timer = number_in(attributes.get(b"oma-dd:timer", b"0"), 0, GREATEST_TIMER)
+            timer = attributes.get(b"oma-dd:timer", b"0")
+            try:
+                self.entry.timer = number_in(timer, 0, GREATEST_TIMER)
+            except Refused:
+                raise not_accepted(value_words("timer", timer)) from None
 
     def close(self, before):
-        """A closing tag; returns whether there are more than 64 assets or entries now."""
+        """A closing tag; returns whether there are more than 64 assets or entries now, in words."""
         element = self.open.pop()
         if element.shape in SKIPPED:
-            return False
+            return ""
         if element.shape in TEXTS:
-            self.take_text(element.shape, before)
-            return False
-        if not is_white(before) or not element.is_complete():
-            raise not_accepted()
+            try:
+                self.take_text(element.shape, before)
+            except Refused:
+                owner = self.open[-2].shape if element.shape == "uid" else ""
+                raise not_accepted(value_words(element.shape, before, owner), len(before)) from None
+            return ""
+        if not is_white(before):
+            raise text_not_accepted(element, before)
+        if not element.is_complete():
+            raise not_accepted(f"{shown(element.name)} ends without {element.wanted()[-1]}")
         if element.shape == "asset":
             return self.add_asset()
-        return self.add_entries() if element.shape in KINDS else False
+        return self.add_entries() if element.shape in KINDS else ""
 
     def take_text(self, shape, text):
         entry = self.entry
@@ -386,11 +452,11 @@ class Reader:
 
     def add_asset(self):
         if self.book.asset(self.asset.number) is not None:
-            raise not_accepted()
+            raise not_accepted(f"asset {self.asset.number} stands a second time")
         self.book.assets.append(self.asset)
         if self.asset_id is not None:
             self.ids[self.asset_id] = self.asset.number
-        return len(self.book.assets) > MOST
+        return f"this is asset {len(self.book.assets)}; {MOST} is the most" if len(self.book.assets) > MOST else ""
 
     def add_entries(self):
         """An entry for each reference, or for every asset where the permission has none."""
@@ -398,10 +464,61 @@ class Reader:
             entry = copy.copy(self.entry)
             entry.asset = number
             if not rights.entry_is_good(self.book, entry):
-                raise not_accepted()
+                raise not_accepted(entry_words(entry))
             self.book.entries.append(entry)
-        return len(self.book.entries) > MOST
+        return f"this makes {len(self.book.entries)} entries; {MOST} is the most" if len(self.book.entries) > MOST else ""
 
 
 def is_white(text):
     return not text.strip(SPACE)
+
+
+# ---- Why a text is refused, in words
+
+NUMBER, TIMES = "a number from {} to {:,}", "a time from 1970-01-01T00:00:00Z to 2096-10-02T07:06:40Z, written like these"
+DURATIONS = f"a duration from 1 to {GREATEST_DURATION:,} seconds, written like P1DT2H30M or PT90S"
+VALUES = {
+    "version": "2.2",
+    "uid": NUMBER.format(1, GREATEST_NUMBER),
+    "count": NUMBER.format(1, GREATEST_COUNT),
+    "timed-count": NUMBER.format(1, GREATEST_COUNT),
+    "timer": NUMBER.format(0, GREATEST_TIMER),
+    "start": TIMES,
+    "end": TIMES,
+    "interval": DURATIONS,
+    "accumulated": DURATIONS,
+}
+
+
+def value_words(name, value, owner=""):
+    of = {"rights": " of the rights object", "asset": " of the asset", "inherit": " of the inherit"}.get(owner, "")
+    numbered = "cid: or pid: and " if owner in ("asset", "inherit") else ""
+    return f'the {name} "{shown(value)}"{of} is not {numbered}{VALUES[name]}'
+
+
+def text_not_accepted(element, text):
+    """The refusal of a text in an element that holds only others, at the first byte that is no white space."""
+    rest = text.lstrip(SPACE)
+    return not_accepted(f'the text "{shown(rest.rstrip(SPACE))}" stands in {shown(element.name)}, which holds none', len(rest))
+
+
+def child_words(parent, name):
+    if parent.shape in TEXTS:
+        return f"{shown(name)} stands in {shown(parent.name)}, which holds a text only"
+    if parent.shape == "reference":
+        return f"{shown(name)} stands in an o-ex:asset of o-ex:permission, which is empty"
+    wanted = parent.wanted() + ["its closing tag"] * parent.is_complete()
+    return f"{shown(name)} cannot stand here in {shown(parent.name)}, only {either(wanted)} can"
+
+
+def either(names):
+    return " or ".join([", ".join(names[:-1])] * (len(names) > 1) + names[-1:])
+
+
+def entry_words(entry):
+    """Which of the rules that a text can break this entry breaks."""
+    kind = next(name for name, number in KINDS.items() if number == entry.kind)
+    if entry.has(rights.START) and entry.has(rights.END) and entry.start > entry.end:
+        return f"the start of this {kind} is after its end"
+    limit = "o-dd:accumulated" if entry.has(rights.ACCUMULATED) else "a timer above 0"
+    return f"this {kind} has {limit}, but {kind} takes no time"

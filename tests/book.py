@@ -1,5 +1,6 @@
 #!/usr/bin/env python3
-"""Tests of tools/book.py: messages, files kept, round trips, what is left, why a begin is refused, the book after a day.
+"""Tests of tools/book.py: messages, files kept, round trips, what is left, why a begin is refused, the book after a day, the book
+of an XML rights object.
 
     python3 tests/book.py [BOOKS [PART ..]]
 
@@ -25,10 +26,13 @@ sys.path.insert(0, str(ROOT / "tools"))
 sys.path.insert(0, str(ROOT / "oracle"))
 import days
 import rights
-from books import library, records, state, texts, why, words
+import texts as stored
+import xml_rights
+from books import imported, library, records, state, texts, why, words
 from rights import LATEST, Asset, Book, Entry, Event
 
 AFTERNOON = ROOT / "examples" / "afternoon"
+OBJECTS = ROOT / "examples" / "rights"
 RUN = ROOT / "target" / "bin" / "run"
 passed = failed = 0
 
@@ -214,9 +218,9 @@ def test_inputs(folder):
     shutil.copy(AFTERNOON / "book.txt", text)
     shutil.copy(AFTERNOON / "events.bin", events)
     out = folder / "out"
-    for command in ("show", "text", "left", "why", "diff", "explain", "make", "events", "after"):
+    for command in ("show", "text", "left", "why", "diff", "explain", "make", "events", "after", "import"):
         rest = {"diff": [image], "explain": [AFTERNOON / "expected.txt"], "make": [out], "events": [out],
-                "after": [events, out], "why": [0, 1, "play"]}.get(command, [])
+                "after": [events, out], "why": [0, 1, "play"], "import": [out]}.get(command, [])
         refused(f"{command}: missing file", "there is no such file", command, folder / "none", *rest)
         refused(f"{command}: folder", "this is a folder", command, folder, *rest)
         refused(f"{command}: empty name", "there is no such file", command, "", *rest)
@@ -234,6 +238,11 @@ def test_inputs(folder):
     refused("after: both from standard input", "only one", "after", "-", "-", out)
     refused("after: the book is text", "this is a text; `book.py make`", "after", text, events, out)
     refused("explain: both from standard input", "only one", "explain", "-", "-")
+    refused("import: the book to standard output", "standard output is for", "import", OBJECTS / "film.xml", "-")
+    refused("import: a book image", "40: `R` stands where a tag must (this is a book image already)", "import", image, out)
+    refused("import: a book's text", "line 1, column 1: 40: `#` stands where a tag must", "import", text, out)
+    refused("import: event records", "line 1, column 1: 40: byte 00 stands where a tag must", "import", events, out)
+    refused("import: an empty file", "line 1, column 1: 40: the text ends where a tag must stand", "import", "/dev/null", out)
     refused("explain: text for records", "this is a text", "explain", AFTERNOON / "events.txt", AFTERNOON / "expected.txt")
     refused("explain: answers are bytes", "this is not a text file", "explain", events, events)
     for command, *rest in (["show"], ["text"], ["left"], ["why", 0, 1, "play"]):
@@ -348,6 +357,11 @@ def test_files(folder):
     refused("events: over a book", "a book image is there already", "events", events, image)
     refused("events: over a text", "text is there already", "events", events, text)
     refused("after: over a text", "text is there already", "after", image, records_file, text)
+    shutil.copy(OBJECTS / "film.xml", folder / "k.xml")
+    refused("import: the book is the rights object", "would be lost", "import", folder / "k.xml", folder / "k.xml")
+    refused("import: over a text", "text is there already", "import", OBJECTS / "film.xml", folder / "k.xml")
+    refused("import: over records", "a file of another kind is there already", "import", OBJECTS / "film.xml", records_file)
+    refused("import: output in no folder", "there is no such folder", "import", folder / "k.xml", folder / "none" / "k.rbk")
     refused("make: output is a folder", "this is a folder", "make", text, folder)
     refused("make: output in no folder", "there is no such folder", "make", text, folder / "none" / "k.rbk")
     refused("make: output is a folder's name", "this names a folder", "make", text, f"{folder}/new/")
@@ -357,11 +371,13 @@ def test_files(folder):
     other.write_text("asset 5 key\n")
     image.chmod(0o640)
     limit = {"preexec_fn": lambda: resource.setrlimit(resource.RLIMIT_FSIZE, (100, 100))}
-    for name, args in (("make", ["make", other, image]), ("events", ["events", events, records_file])):
+    for name, args in (("make", ["make", other, image]), ("events", ["events", events, records_file]),
+                       ("import", ["import", folder / "k.xml", image])):
         refused(f"{name}: the disk is full", "the file that was there is as it was", *args, **limit)
     new = folder / "n.rbk"
     refused("after: the disk is full", "the file would be larger than allowed", "after", image, records_file, new, **limit)
     refused("make: a new file on a full disk", "not written: the file would be larger", "make", other, new, **limit)
+    refused("import: a new file on a full disk", "not written: the file would be larger", "import", folder / "k.xml", new, **limit)
     check("a failed write leaves the old file", image.read_bytes() == before[image]
           and records_file.read_bytes() == before[records_file] and not new.exists())
     check("a failed write leaves nothing beside it", not [path for path in folder.iterdir() if path.name.startswith(".")])
@@ -899,6 +915,10 @@ def test_building(folder):
           and done.err.count("building") == 1 and "words" not in done.err, done)
     done = call(*args, tool=tool)
     check("after: built once", done.status == 0 and done.err == "", done)
+    one = call("import", OBJECTS / "film.xml", folder / "film.rbk", tool=tool)
+    again = call("import", OBJECTS / "film.xml", folder / "film.rbk", tool=tool)
+    check("import: its program is built once, on demand", one.status == again.status == 0 and again.err == ""
+          and one.err.count("building the program") == one.err.count("building") == 1 and one.out == again.out, one)
     later = out.stat().st_mtime + 10
     os.utime(root / "crates" / "x" / "src" / "lib.rt", (later, later))
     done = call(*args, tool=tool, env=able)
@@ -914,6 +934,241 @@ def test_building(folder):
     done = Done(subprocess.run([root / "examples" / "try"], env=able, capture_output=True))
     check("try: rt fails", done.status == 1 and done.out == b"" and "said is in target/try.log" in done.err
           and "words" not in done.err, done)
+
+
+# ---- import
+
+# Where a part of an example is replaced, and the code and words that this gets; the mark @ stands in front of the byte at fault.
+FAULTS = [
+    (40, "film", "<o-ex:rights", "@x<o-ex:rights", "`x` stands where a tag must"),
+    (40, "film", "<o-ex:rights", "@\ufeff<o-ex:rights", "a byte order mark of UTF-8 stands where a tag must"),
+    (40, "film", "<o-ex:rights", "<@/o-ex:rights", "an end tag stands where nothing is open"),
+    (40, "film", "<o-dd:uid>1", "<@1>1", "`1` stands where the name of an element must"),
+    (40, "film", "<o-dd:uid>1", "<o-dd:uid@,>1", "`,` stands where white space, / or > must"),
+    (40, "film", "<o-dd:uid>1", "<o-dd:uid @= '5'>1", "`=` stands where the name of an attribute, / or > must"),
+    (40, "film", "<o-dd:uid>1", "<o-dd:uid id@>1", "`>` stands where the = of the attribute id must"),
+    (40, "pack", 'oma-dd:timer="30"', "oma-dd:timer=@30", "`3` stands where the quote that begins the attribute oma-dd:timer must"),
+    (40, "pack", 'oma-dd:timer="30"', 'oma-dd:timer="30@<"', "`<` stands where the quote that ends the attribute oma-dd:timer must"),
+    (40, "film", 'o-ex:id="Film"', """id="1"\n id='2@'""", "the attribute id stands twice in this tag"),
+    (40, "film", 'URI="REKReference"/>', 'URI="REKReference"/@ >', "a space stands where the > of /> must"),
+    (40, "film", "c2l4", "c2l@\x004", "byte 00 stands where text or a tag must"),
+    (40, "film", "</o-dd:uid>", "@</o-dd:udi>", "</o-dd:udi> stands where o-dd:uid is open"),
+    (40, "film", "</o-dd:uid>", "</@ o-dd:uid>", "a space stands where a name must"),
+    (40, "film", "</o-dd:uid>", "</o-dd:uid @a>", "`a` stands where the > of this end tag must"),
+    (40, "film", "</o-ex:rights>\n", "@", "the text ends where a tag must stand; o-ex:rights is still open"),
+    (40, "film", "</o-ex:rights>\n", "</o-ex:rights>\n\n  @<a/>", "`<` stands where the end of the text must"),
+    (41, "film", "<o-ex:rights", '@<?xml version="1.0"?>\n<o-ex:rights', "<? is not accepted: no XML declaration"),
+    (41, "film", "<o-ex:agreement>", "<o-ex:agreement>\n@<!-- one -->", "<! is not accepted: no comment, CDATA or DOCTYPE"),
+    (41, "film", "<o-dd:count>200", "<o-dd:count>2@&#48;0", "& is not accepted: no entity and no character reference"),
+    (41, "film", "<o-ex:rights", "@<rights", "rights is not o-ex:rights, the first element of a rights object"),
+    (41, "film", "</o-ex:context>", "@text here\n </o-ex:context>", 'the text "text here" stands in o-ex:context, which holds none'),
+    (41, "film", "<o-ex:permission>", "@\u00fc <o-ex:permission>", 'the text "\u00fc" stands in o-ex:agreement, which holds none'),
+    (41, "film", "<o-dd:play>", "@<o-dd:watch>", "o-dd:watch cannot stand here in o-ex:permission, only o-ex:asset, o-dd:play,"),
+    (41, "film", "<o-dd:end>", "@<o-dd:start>", "o-dd:start cannot stand here in o-dd:datetime, only o-dd:end or its closing tag can"),
+    (41, "film", "<o-ex:agreement>", "@</o-ex:rights>", "o-ex:rights ends without o-ex:agreement"),
+    (41, "film", "<o-dd:uid>1</o-dd:uid>\n  ", "@", "o-ex:context ends without o-dd:uid"),
+    (41, "film", "c2l4", "<a>" * 5 + "@<a>" + "</a>" * 6, "a stands 13 deep; 12 is the most"),
+    (41, "film", "2.2</o-dd", "@<a/></o-dd", "a stands in o-dd:version, which holds a text only"),
+    (41, "pack", '<o-ex:asset o-ex:idref="Asset-3"/>', '<o-ex:asset o-ex:idref="Asset-3">@<a/></o-ex:asset>', "which is empty"),
+    (41, "pack", '<o-ex:asset o-ex:id="Asset-2">', '@<o-ex:asset o-ex:id="Asset-1">', 'the id "Asset-1" is given a second time'),
+    (41, "pack", '<o-ex:asset o-ex:idref="Asset-3"', '@<o-ex:asset o-ex:idref="Asset-4"', 'the idref "Asset-4" is not the id of an'),
+    (41, "pack", '<o-ex:asset o-ex:idref="Asset-3"', '@<o-ex:asset idref="Asset-3"', "o-ex:asset in o-ex:permission has no o-ex:idref"),
+    (41, "pack", '<oma-dd:timed-count oma-dd:timer="30"', '@<oma-dd:timed-count oma-dd:timer="1000001"', 'the timer "1000001" is not'),
+    (41, "film", "2.2</o-dd", "@2.0</o-dd", 'the version "2.0" is not 2.2'),
+    (41, "film", "<o-dd:uid>1<", "<o-dd:uid>@cid:1<", 'the uid "cid:1" of the rights object is not a number from 1 to 65,535'),
+    (41, "film", "<o-dd:uid>cid:1<", "<o-dd:uid>@1<", 'the uid "1" of the asset is not cid: or pid: and a number from 1 to 65,535'),
+    (41, "season", "<o-ex:inherit>(.*?)pid:100", r"<o-ex:inherit>\1@pid:0", 'the uid "pid:0" of the inherit is not cid: or pid: and'),
+    (41, "film", "<o-dd:count>200", "<o-dd:count>@0", 'the count "0" is not a number from 1 to 1,000,000'),
+    (41, "film", "<o-dd:count>200</o-dd:count>", "@<o-dd:count/>", 'the count "" is not a number from 1 to 1,000,000'),
+    (41, "film", "<o-dd:count>200", "<o-dd:count>@\n 200", 'the count "\\n 200" is not a number from 1 to 1,000,000'),
+    (41, "film", "<o-dd:count>200", "<o-dd:count>@" + "9" * 5000, f'the count "{"9" * 57}.. (5000 bytes)" is not a number'),
+    (41, "pack", ">50<", ">@fifty<", 'the timed-count "fifty" is not a number from 1 to 1,000,000'),
+    (41, "film", "2026-12-01T00:00:00Z", "@2026-12-01", 'the start "2026-12-01" is not a time from 1970-01-01T00:00:00Z'),
+    (41, "film", "2027-04-30T23:59:59Z", "@2027-04-31T23:59:59Z", 'the end "2027-04-31T23:59:59Z" is not a time from 1970-01-01'),
+    (41, "pack", "P7D", "@P1W", 'the interval "P1W" is not a duration from 1 to 100,000,000 seconds, written like P1DT2H30M or PT90S'),
+    (41, "pack", "P0DT2H0M00S", "@P0DT0H0M00S", 'the accumulated "P0DT0H0M00S" is not a duration from 1 to 100,000,000 seconds'),
+    (41, "pack", "cid:12</o-dd:uid>(.*?)</o-ex:asset>", r"cid:11</o-dd:uid>\1@</o-ex:asset>", "asset 11 stands a second time"),
+    (41, "film", "2026-12-01(.*?)</o-dd:play>", r"2036-12-01\1@</o-dd:play>", "the start of this play is after its end"),
+    (41, "pack", "<o-dd:count>3</o-dd:count>(.*?)</o-dd:print>", r"<o-dd:accumulated>PT5S</o-dd:accumulated>\1@</o-dd:print>",
+     "this print has o-dd:accumulated, but print takes no time"),
+    (41, "pack", "<o-dd:count>1</o-dd:count>(.*?)</oma-dd:export>",
+     r"<oma-dd:timed-count oma-dd:timer='1'>1</oma-dd:timed-count>\1@</oma-dd:export>",
+     "this export has a timer above 0, but export takes no time"),
+    (42, "film", "c2l4", "<a/>\n" * 241 + "@<a/>", "this is element 257; 256 is the most"),
+    (42, "film", "</o-ex:permission>", "</o-ex:permission>" + "<o-ex:permission><o-dd:play/></o-ex:permission>" * 63
+     + "<o-ex:permission>@<o-dd:play/></o-ex:permission>", "this makes 65 entries; 64 is the most"),
+    (42, "film", "</o-ex:asset>", "</o-ex:asset>\n" + "\n".join(
+        f"<o-ex:asset><o-ex:context><o-dd:uid>cid:{n}</o-dd:uid></o-ex:context>{'@' * (n == 65)}</o-ex:asset>" for n in range(2, 66)),
+     "this is asset 65; 64 is the most"),
+]
+
+
+def damaged(name, old, new):
+    """The bytes of an example with a part replaced, and the line and column of the mark in the new part."""
+    text, times = re.subn(old if "(.*?)" in old else re.escape(old), lambda found: found.expand(new) if "(.*?)" in old else new,
+                          (OBJECTS / f"{name}.xml").read_text(), count=1, flags=re.DOTALL)
+    assert times == 1 and text.count("@") == 1, (name, old)
+    before = text.partition("@")[0].split("\n")
+    return text.replace("@", "").encode(), len(before), len(before[-1].encode()) + 1
+
+
+def test_import(folder):
+    kept, source = folder / "kept.rbk", folder / "rights.xml"
+    shutil.copy(AFTERNOON / "rights.rbk", kept)
+    for code, name, old, new, fragment in FAULTS:
+        text, line, column = damaged(name, old, new)
+        source.write_bytes(text)
+        done = refused(f"import: {fragment}", fragment, "import", source, kept)
+        check(f"import: {fragment}: code and place", f"rights.xml: line {line}, column {column}: {code}: " in done.err, done)
+        check(f"import: {fragment}: by the second reader", xml_rights.read(text)[0] == code)
+    check("import: a refused text leaves the book that was there", kept.read_bytes() == (AFTERNOON / "rights.rbk").read_bytes())
+    check("import: no file is left beside", sorted(path.name for path in folder.iterdir()) == ["kept.rbk", "rights.xml"])
+    refused("import: a refused text and a new file", "40", "import", "/dev/null", folder / "new.rbk")
+    check("import: a refused text makes no file", not (folder / "new.rbk").exists())
+
+
+def test_import_made(folder):
+    """What accepted texts make, and what is said about it."""
+    wanted = {"film": """\
+Rights object 1, 22 elements
+
+Assets: 1
+      1  has a key
+
+Entries: 1
+      0  rights object 1, play of asset 1
+         count 0 of 200 used, 200 left
+         from 2026-12-01 00:00:00 (1796083200)
+         to 2027-04-30 23:59:59 (1809129599)
+""", "pack": """\
+Rights object 2, 59 elements
+
+Assets: 3
+     11  has a key
+     12  has a key
+     13  has a key
+
+Entries: 8
+      0  rights object 2, play of asset 11
+         timed count 0 of 50 used, 50 left (a use counts from 30 s on)
+         interval 7 d, not started
+      1  rights object 2, play of asset 12
+         timed count 0 of 50 used, 50 left (a use counts from 30 s on)
+         interval 7 d, not started
+      2  rights object 2, play of asset 12
+         seconds 0 of 7200 used, 7200 left (2 h)
+      3  rights object 2, display of asset 13
+         no limits
+      4  rights object 2, print of asset 13
+         count 0 of 3 used, 3 left
+      5  rights object 2, export of asset 11
+         count 0 of 1 used, 1 left
+         to 2027-12-31 23:59:59 (1830297599)
+      6  rights object 2, export of asset 12
+         count 0 of 1 used, 1 left
+         to 2027-12-31 23:59:59 (1830297599)
+      7  rights object 2, export of asset 13
+         count 0 of 1 used, 1 left
+         to 2027-12-31 23:59:59 (1830297599)
+""", "season": """\
+Rights object 3, 60 elements
+
+Assets: 4
+    100  parent, for 21, 22, 23
+     21  has a key, inherits from 100
+     22  has a key, inherits from 100
+     23  has a key, inherits from 100
+
+Entries: 3
+      0  rights object 3, play of asset 100
+         from 2026-12-01 00:00:00 (1796083200)
+         to 2027-04-30 23:59:59 (1809129599)
+      1  rights object 3, display of asset 100
+         seconds 0 of 129600 used, 129600 left (1 d 12 h)
+      2  rights object 3, display of asset 23
+         no limits
+"""}
+    made = folder / "made.rbk"
+    for name, words_made in wanted.items():
+        path = OBJECTS / f"{name}.xml"
+        image = rights.write(xml_rights.read(path.read_bytes())[2])
+        made.unlink(missing_ok=True)
+        done = call("import", path, made)
+        check(f"import: {name}", done.status == 0 and done.err == "" and done.out.decode() == words_made, done.out.decode() or done)
+        check(f"import: {name}, its book", made.read_bytes() == image)
+        made.write_bytes(b"")
+        done = call("import", "-", made, stdin=path.read_bytes())
+        check(f"import: {name} from standard input", done.out.decode() == words_made and made.read_bytes() == image, done)
+        piped = subprocess.run(["bash", "-c", f"{TOOL} import <(cat {path}) {made}"], capture_output=True, text=True)
+        check(f"import: {name} from a pipe, over a book", piped.stdout == words_made and made.read_bytes() == image, piped)
+        check(f"import: {name}, shown", call("show", made).status == 0)
+    made.unlink()
+    bare = folder / "bare.xml"
+    bare.write_text(stored.agreed(stored.asset(), stored.asset("cid:7", stored.inherit("pid:9")), stored.el(
+        "permission", stored.el("play") + stored.el("print")), object="77"))
+    done = call("import", bare, made)
+    check("import: entries that nobody can use", done.out.decode() == """\
+Rights object 77, 16 elements
+
+Assets: 2
+      1  parent, nothing with a key inherits from it
+      7  illegal (it inherits from 9 but has no key): never used
+
+Entries: 4
+      0  rights object 77, play of asset 1: nobody can use it: nothing with a key inherits from asset 1
+         no limits
+      1  rights object 77, play of asset 7: nobody can use it: asset 7 is illegal (it inherits but has no key)
+         no limits
+      2  rights object 77, print of asset 1: nobody can use it: nothing with a key inherits from asset 1
+         no limits
+      3  rights object 77, print of asset 7: nobody can use it: asset 7 is illegal (it inherits but has no key)
+         no limits
+""", done)
+    done = call("import", "-", made, stdin=stored.BARE.encode())
+    check("import: no entries", done.out.decode() == "Rights object 1, 7 elements\n\nAssets: 1\n"
+          "      1  parent, nothing with a key inherits from it\n\nEntries: 0\n", done)
+
+    long = stored.BARE.encode() + b"\n" * (imported.LONGEST - len(stored.BARE))
+    bare.write_bytes(long)
+    done = call("import", bare, made)
+    check("import: the longest text", done.status == 0 and done.out.startswith(b"Rights object 1, 7 elements\n"), done)
+    bare.write_bytes(long + b"\n")
+    made.unlink()
+    refused("import: a text too long", "bare.xml: the text is longer than 4,194,304 bytes", "import", bare, made)
+    refused("import: a stream without end", "the text is longer than 4,194,304 bytes", "import", "/dev/zero", made)
+    bare.write_bytes(long[:-1] + b"x")
+    refused("import: a fault in the last byte", f"line {imported.LONGEST - len(stored.BARE)}, column 1: 40", "import", bare, made)
+    check("import: a refused text leaves no book", not made.exists())
+    with open("/dev/full", "wb") as full:
+        ended = subprocess.run([sys.executable, TOOL, "import", OBJECTS / "film.xml", made], stdout=full, stderr=subprocess.PIPE)
+    check("import: the book is saved before the list leaves", ended.returncode == 2 and b"standard output" in ended.stderr
+          and made.exists(), ended)
+
+
+def test_import_places(folder):
+    """Of every stored text that is refused: one line says why, and what stands in front of the place is not at fault itself."""
+    for name, text, code, _, _ in stored.cases():
+        if code == 0:
+            continue
+        told = xml_rights.judge(text)
+        shown = imported.refusal("rights.xml", text, code, told)
+        line, column, start = imported.place(text, told.at)
+        before = xml_rights.judge(text[:told.at])
+        lines = shown.split("\n")
+        check_all(f"import: the place of `{name}`", [
+            (told.code == code, told), (0 < len(told.why) < 250 and told.why.isprintable(), told.why),
+            (before.code == 0 or (before.code, before.at) == (40, told.at), before),
+            (text.split(b"\n")[line - 1][:column - 1] == text[start:told.at], (line, column)),
+            (shown.startswith(f"rights.xml: line {line}, column {column}: {code}: "), shown), (len(lines) in (1, 3), shown),
+            (len(lines) == 1 or lines[2].strip() == "^" and len(lines[1]) < 160, shown)])
+    told = xml_rights.judge(b"<a>")
+    for code in (40, 42):
+        shown = imported.refusal("rights.xml", b"<a>", code, told)
+        check(f"import: only the code where the second reader has another, {code}", told.code == 41
+              and shown == f"rights.xml: refused with {code}: {imported.MEANINGS[code]}", shown)
+    shown = imported.refusal("r.xml", "\t<a>\u00fcb&".encode(), 41, xml_rights.judge("\t<a>\u00fcb&".encode()))
+    check("import: the mark stands below the byte at fault", shown == "r.xml: line 1, column 2: 41: a is not o-ex:rights, the first element"
+          " of a rights object\n    <a>\u00fcb&\n    ^", shown)
 
 
 # ---- The rest
@@ -980,13 +1235,14 @@ def test_damage(folder, how_many):
 
 def main():
     how_many = int(sys.argv[1]) if len(sys.argv) > 1 else 300
-    library.build("after", "why")
+    library.build("after", "why", "read_texts")
     if not RUN.exists():
         sys.exit(f"there is no {RUN}: `rt check run` makes it")
     parts = [(test_lines,), (test_inputs,), (test_forgiving,), (test_times,), (test_files,), (test_streams,),
              (test_round_trips, how_many), (test_diff, how_many), (test_left, how_many), (test_left_words,),
              (test_why, how_many // 3), (test_why_words,),
-             (test_after, how_many // 5), (test_building,), (test_explain,), (test_help,), (test_damage, 2 * how_many)]
+             (test_after, how_many // 5), (test_import,), (test_import_made,), (test_import_places,), (test_building,),
+             (test_explain,), (test_help,), (test_damage, 2 * how_many)]
     for part, *numbers in parts:
         name = part.__name__.removeprefix("test_")
         if len(sys.argv) > 2 and name not in sys.argv[2:]:

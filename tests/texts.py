@@ -9,7 +9,6 @@ last line is `N passed, M failed`; the exit status is 1 if anything failed.
 """
 
 import os
-import resource
 import shutil
 import subprocess
 import sys
@@ -27,7 +26,7 @@ import xml_rights  # noqa: E402
 PROGRAM = ROOT / "target" / "bin" / "import"
 LOG = ROOT / "target" / "tests" / "import-build.log"
 LIMIT = 60                  # seconds that one reading may take
-LONGEST = 16 * 1024 * 1024  # bytes of a text that the program takes
+LONGEST = 4 * 1024 * 1024   # bytes of a text that the program takes
 passed = failed = 0
 
 
@@ -137,22 +136,43 @@ def long_texts():
         frame = len(texts.keyed(""))
         same(f"a key of {name}", texts.keyed("k" * (size - frame)).encode())
     frame = len(texts.BARE)
-    for name, size in (("16 MB", LONGEST), ("16 MB less a byte", LONGEST - 1)):
+    for name, size in (("4 MB", LONGEST), ("4 MB less a byte", LONGEST - 1)):
         same(f"white space up to {name}", texts.BARE.encode() + b" " * (size - frame))
-    same("a fault in the last byte of 16 MB", texts.BARE.encode() + b" " * (LONGEST - frame - 1) + b"x")
-    out, said = ask(texts.BARE.encode() + b" " * (LONGEST + 1 - frame))
-    check("a text of more than 16 MB gets a message and no image", out == b"" and len(said) > 3,
-          f"{len(out)} bytes and {said[:200]!r}")
+    same("a fault in the last byte of 4 MB", texts.BARE.encode() + b" " * (LONGEST - frame - 1) + b"x")
+    same("a fault in the first byte of 4 MB", b"x" * LONGEST)
+    same("a key of 4 MB", texts.keyed("k" * (LONGEST - len(texts.keyed("")))).encode())
+    message = f"import: the text is longer than {LONGEST} bytes\n".encode()
+    for name, text in (("a byte more", texts.BARE.encode() + b" " * (LONGEST + 1 - frame)),
+                       ("twice as many bytes", texts.BARE.encode() + b" " * (2 * LONGEST - frame)),
+                       ("a byte more, refused at its start", b"x" * (LONGEST + 1))):
+        out, said = ask(text)
+        check(f"{name} than 4 MB: a message, no code and no image", (out, said) == (b"", message), f"{len(out)} bytes, {said[:200]!r}")
+    with open("/dev/zero", "rb") as zeros:
+        done = subprocess.run([PROGRAM], stdin=zeros, capture_output=True, timeout=LIMIT)
+    check("a text without end", (done.stdout, done.stderr) == (b"", message), f"{len(done.stdout)} bytes, {done.stderr[:200]!r}")
 
 
-def bad_outputs():
-    """An image that cannot be written whole must not end well."""
+def arguments():
+    """An argument is refused with a line on how to use the program, and nothing is read."""
     text = (ROOT / "examples" / "rights" / "film.xml").read_bytes()
-    if Path("/dev/full").exists():
-        with open("/dev/full", "wb") as full:
-            done = subprocess.run([PROGRAM], input=text, stdout=full, stderr=subprocess.PIPE, timeout=LIMIT)
-        check("a full disk is no success", done.returncode != 0 or done.stderr != wanted(text)[1],
-              f"status {done.returncode}, {done.stderr!r}")
+    for words in (["film.xml"], ["--help"], [""], ["a", "b"]):
+        done = subprocess.run([PROGRAM, *words], input=text, capture_output=True, timeout=LIMIT)
+        check(f"arguments {words}", done.stdout == b"" and done.stderr.startswith(b"import takes no argument.")
+              and done.stderr.endswith(b"import < rights.xml > rights.rbk\n") and done.stderr.count(b"\n") == 1, done)
+
+
+def bad_files():
+    """A text that cannot be read, or an image that cannot be written whole, gets a line that says so and no code."""
+    text = (ROOT / "examples" / "rights" / "film.xml").read_bytes()
+    with open("/dev/full", "wb") as full:
+        done = subprocess.run([PROGRAM], input=text, stdout=full, stderr=subprocess.PIPE, timeout=LIMIT)
+    check("a full disk", done.stderr == b"standard output: No space left on device\n", done)
+    folder = os.open(ROOT, os.O_RDONLY)
+    done = subprocess.run([PROGRAM], stdin=folder, capture_output=True, timeout=LIMIT)
+    os.close(folder)
+    check("a folder for a text", (done.stdout, done.stderr) == (b"", b"standard input: Is a directory\n"), done)
+    closed = subprocess.run(["sh", "-c", f"{PROGRAM} <&-"], capture_output=True, timeout=LIMIT)
+    check("standard input closed", (closed.stdout, closed.stderr) == (b"", b"standard input: Bad file descriptor\n"), closed)
     with tempfile.TemporaryDirectory() as folder:
         where = Path(folder) / "rights.rbk"
         with open(where, "wb") as file:
@@ -160,16 +180,12 @@ def bad_outputs():
         check("the image in a file is read back", rights.read(where.read_bytes()) == (0, xml_rights.read(text)[2]))
 
 
-def small_stack():
-    """A text of any depth is read with the stack that a program is given by default, and with a quarter of it."""
-    limit = 2 * 1024 * 1024
-
-    def less():
-        resource.setrlimit(resource.RLIMIT_STACK, (limit, limit))
-
-    for name, text in (("deep", texts.keyed("<a>" * 100_000)), ("many attributes", texts.keyed(
-            "<a " + " ".join(f"b{i}=''" for i in range(2000)) + "/>"))):
-        same(f"a small stack: {name}", text.encode(), ask(text.encode(), preexec_fn=less))
+def hostile_texts():
+    """Nothing that a text can do takes more than the stack of 8 MB that a program has by default."""
+    for name, text in (("deep", texts.keyed("<a>" * 100_000)), ("deep, in an element that is not accepted", "<a>" * 1_000_000),
+                       ("many attributes", texts.keyed("<a " + " ".join(f"b{i}=''" for i in range(2000)) + "/>")),
+                       ("many elements", texts.keyed("<a/>" * 500_000)), ("marks", texts.keyed("<!" * 500_000))):
+        same(f"hostile: {name}", text.encode())
 
 
 def damaged_texts(count):
@@ -195,7 +211,7 @@ def build():
 def main():
     count = int(sys.argv[1]) if len(sys.argv) > 1 else 20_000
     build()
-    for part in (stored_texts, examples, empty_inputs, pipes, long_texts, bad_outputs, small_stack):
+    for part in (stored_texts, examples, empty_inputs, pipes, long_texts, arguments, bad_files, hostile_texts):
         part()
     damaged_texts(count)
     print(f"{passed} passed, {failed} failed")

@@ -7,6 +7,7 @@
     tools/book.py diff BOOK BOOK                  what differs between two books; nothing if they are the same
     tools/book.py show BOOK                       all that a book says, in words
     tools/book.py explain EVENTS ANSWERS          each event in words, and what its answer means
+    tools/book.py import RIGHTS.XML BOOK          a fresh book from an XML rights object; prints what it has
     tools/book.py make BOOK.TXT BOOK              a book from its text
     tools/book.py text BOOK                       a book as text, to change and to `make`
     tools/book.py events EVENTS.TXT EVENTS        event records from their text
@@ -19,6 +20,10 @@ The server (target/bin/run) only reads its book. `after` gives the book as it is
 which it builds if it is missing (that needs rt and a C compiler). `left` and `why` go by this machine's clock; uses
 that have ended by then are counted as ended. A time before the book's time is judged at the book's time. `why` tells
 the answer that a begin would get and, for each entry that is suitable, what stands against it, both from that library.
+
+`import` reads an XML rights object as issuers send it (docs/FORMAT.md), with that library too. A text that is not accepted
+writes nothing and is told with its line and column (in bytes), the code and why: `rights.xml: line 12, column 21: 41: the
+count "0" is not a number from 1 to 1,000,000`.
 
 Exit status: 0; 1 from `diff` if the books differ; 2 if something is wrong.
 
@@ -60,6 +65,7 @@ import os
 import re
 import sys
 
+from books.imported import import_xml
 from books.library import after
 from books.records import events, explain
 from books.state import diff, left, show
@@ -70,8 +76,8 @@ from books.words import Trouble
 COMMANDS = {
     "left": (left, "BOOK [--at TIME]"), "why": (why, "BOOK PLAYER ASSET KIND [--at TIME]"),
     "after": (after, "BOOK EVENTS NEXT"), "diff": (diff, "BOOK BOOK"), "show": (show, "BOOK"),
-    "explain": (explain, "EVENTS ANSWERS"), "make": (make, "BOOK.TXT BOOK"), "text": (text, "BOOK"),
-    "events": (events, "EVENTS.TXT EVENTS")}
+    "explain": (explain, "EVENTS ANSWERS"), "import": (import_xml, "RIGHTS.XML BOOK"), "make": (make, "BOOK.TXT BOOK"),
+    "text": (text, "BOOK"), "events": (events, "EVENTS.TXT EVENTS")}
 
 
 def run(words):

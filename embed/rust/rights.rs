@@ -4,7 +4,8 @@
 //! saves them when it likes. What a call returns and leaves in the buffers is proved for every input. The declarations
 //! below are not checked against that proof, so they change only with `crates/embed/src/lib.rt`.
 //!
-//! A call needs at most `STACK` bytes of stack. `docs/FORMAT.md` has the bytes of records and images.
+//! A call needs at most `STACK` bytes of stack, `from_xml` and `fresh_book` at most `XML_STACK`. `docs/FORMAT.md` has the bytes of
+//! records and images, and the form of XML rights objects.
 #![allow(dead_code)] // a server need not use all of this
 
 /// Bytes of an event record.
@@ -13,8 +14,10 @@ pub const RECORD: usize = 13;
 pub const LINE: usize = 19;
 /// Room for any next image.
 pub const LONGEST_IMAGE: usize = 3979;
-/// Bytes of stack that are enough for any call (`docs/EMBEDDING.md`).
+/// Bytes of stack that are enough for any call that reads no XML (`docs/EMBEDDING.md`).
 pub const STACK: usize = 262_144;
+/// Bytes of stack that are enough for reading an XML text.
+pub const XML_STACK: usize = 2_097_152;
 /// In place of a remaining number: there is no such limit.
 pub const NO_LIMIT: u32 = u32::MAX;
 
@@ -27,6 +30,8 @@ pub enum Refused {
     ShortOut,
     /// The book has no asset, entry or player at that position.
     NotThere,
+    /// The XML text is refused: 40 not well formed, 41 something in it is not accepted, 42 too many elements, assets or entries.
+    Text(u8),
 }
 
 /// An event in numbers, as they are in a record: operation 1 begin, 2 continue, 3 stop; kind 1 play, 2 display,
@@ -122,6 +127,13 @@ pub struct Player {
     pub open_until: u32,
 }
 
+/// What an XML text gave: the length of the image of its book, and how many elements it has.
+#[derive(Clone, Copy, Debug, PartialEq, Eq)]
+pub struct Imported {
+    pub length: usize,
+    pub elements: u64,
+}
+
 mod library {
     // A slice is passed as its pointer and its length.
     #[link(name = "embed", kind = "static")]
@@ -182,6 +194,14 @@ mod library {
             out_length: usize,
         ) -> u8;
         pub fn rights_player(image: *const u8, image_length: usize, player: u32, out: *mut u32, out_length: usize) -> u8;
+        pub fn rights_from_xml(
+            text: *const u8,
+            text_length: usize,
+            image: *mut u8,
+            image_room: usize,
+            image_length: *mut u64,
+            elements: *mut u64,
+        ) -> u8;
     }
 }
 
@@ -190,6 +210,7 @@ fn judged(code: u8) -> Result<(), Refused> {
         0 => Ok(()),
         30 => Err(Refused::ShortOut),
         31 => Err(Refused::NotThere),
+        40..=42 => Err(Refused::Text(code)),
         code => Err(Refused::Image(code)),
     }
 }
@@ -293,6 +314,31 @@ pub fn record(event: Event) -> [u8; RECORD] {
         )
     };
     out
+}
+
+/// Turns an XML rights object into the image of a fresh book, at the start of the buffer `image`; what is behind it stays.
+pub fn from_xml(text: &[u8], image: &mut [u8]) -> Result<Imported, Refused> {
+    let (mut length, mut elements) = (0u64, 0u64);
+    // The borrows guarantee that what is pointed to is valid and does not overlap. The function keeps no pointer.
+    let code = unsafe {
+        library::rights_from_xml(
+            text.as_ptr(),
+            text.len(),
+            image.as_mut_ptr(),
+            image.len(),
+            &mut length,
+            &mut elements,
+        )
+    };
+    judged(code).map(|()| Imported { length: length as usize, elements })
+}
+
+/// Like `from_xml`, with the image in its own buffer, and the number of elements. Only the text can be refused.
+pub fn fresh_book(text: &[u8]) -> Result<(Vec<u8>, u64), Refused> {
+    let mut image = vec![0; LONGEST_IMAGE];
+    let made = from_xml(text, &mut image)?;
+    image.truncate(made.length);
+    Ok((image, made.elements))
 }
 
 /// What the book in an image holds.

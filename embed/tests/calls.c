@@ -1,8 +1,9 @@
-/* Calls the library on the stored files and prints what the programs of crates/test_days and crates/test_images print for them:
+/* Calls the library on the stored files and prints what the programs of crates/test_days, test_images and test_texts print for them:
  *
  *     calls days N days.bin     the answers of each day, N records per call (0: all of them), the image handed from call to call
  *     calls ones days.bin       the same with rights_answer_one, one event per call (a last record cut short goes through rights_answer)
  *     calls images cases.bin    the number of a refusal, or 0 and the image that a call without records leaves
+ *     calls texts cases.bin     the number of a refusal, or 0, the number of elements and the image of the text's book
  *     calls seen days.bin       what the calls that read an image say of each day's book, before, during and after the day
  *     calls seen-images cases.bin    the same for each stored image; embed/tests/seen.py prints both from the second program
  *
@@ -129,6 +130,52 @@ static void images(FILE *f)
                 fail("text for no records");
             putchar(' ');
             for (size_t i = 0; i < length; i++)
+                printf("%02x", image[i]);
+        }
+        putchar('\n');
+    }
+}
+
+/* One call on the text in records; everything it must not touch is compared before and after. */
+static uint8_t read_text(size_t text_length, size_t image_room, uint64_t *image_length, uint64_t *elements)
+{
+    size_t all_image = image_room + BEHIND;
+    memset(image, FILL, all_image);
+    memcpy(image_before, image, all_image);
+    memcpy(out_before, records, text_length + BEHIND);
+    *image_length = *elements = UNWRITTEN;
+    uint8_t code = rights_from_xml(records, text_length, image, image_room, image_length, elements);
+    size_t book = code == RIGHTS_OK ? (size_t)*image_length : 0;
+    if (book > image_room)
+        fail("an image that is longer than its room");
+    if (memcmp(image + book, image_before + book, all_image - book) != 0)
+        fail("a byte behind the image of a text, or of the buffer of a refused text, was touched");
+    if (memcmp(records, out_before, text_length + BEHIND) != 0)
+        fail("a text was touched");
+    if (code != RIGHTS_OK && (*image_length != UNWRITTEN || *elements != UNWRITTEN))
+        fail("a refused text set a number");
+    if (code == RIGHTS_OK && rights_check(image, book) != RIGHTS_OK)
+        fail("the image of a text is refused");
+    return code;
+}
+
+static void texts(FILE *f)
+{
+    size_t length;
+    while (read_length(f, 4, &length)) {
+        uint64_t image_length, elements, no_length, no_elements;
+        fill(f, records, length);
+        uint8_t code = read_text(length, RIGHTS_LONGEST_IMAGE, &image_length, &elements);
+        if (code == RIGHTS_OK && read_text(length, image_length - 1, &no_length, &no_elements) != RIGHTS_SHORT_OUT)
+            fail("a buffer that is a byte too short for the image of a text was not refused");
+        if (code != RIGHTS_OK && read_text(length, 0, &no_length, &no_elements) != code)
+            fail("a refused text gets another code without room for an image");
+        if (code == RIGHTS_OK && read_text(length, image_length, &no_length, &no_elements) != RIGHTS_OK)
+            fail("a buffer that is just long enough for the image of a text was refused");
+        printf("%d", code);
+        if (code == RIGHTS_OK) {
+            printf(" %u ", (unsigned)elements);
+            for (size_t i = 0; i < image_length; i++)
                 printf("%02x", image[i]);
         }
         putchar('\n');
@@ -342,11 +389,13 @@ int main(int count, char **words)
         ones(f);
     else if (f && strcmp(what, "images") == 0)
         images(f);
+    else if (f && strcmp(what, "texts") == 0)
+        texts(f);
     else if (f && strcmp(what, "seen") == 0)
         seen_days(f);
     else if (f && strcmp(what, "seen-images") == 0)
         seen_images(f);
     else
-        fail("usage: calls days N FILE, calls ones|images|seen|seen-images FILE");
+        fail("usage: calls days N FILE, calls ones|images|texts|seen|seen-images FILE");
     return 0;
 }

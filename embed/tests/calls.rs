@@ -1,9 +1,10 @@
-//! Calls the library through the safe functions of `embed/rust/rights.rs` and prints what the programs of `crates/test_days`
-//! and `crates/test_images` print for the stored files:
+//! Calls the library through the safe functions of `embed/rust/rights.rs` and prints what the programs of `crates/test_days`,
+//! `crates/test_images` and `crates/test_texts` print for the stored files:
 //!
 //!     calls days N days.bin     the answers of each day, N records per call (0: all of them)
 //!     calls ones days.bin       the same with `answer_one`, one event per call (a last record cut short goes through `answers`)
 //!     calls images cases.bin    the number of a refusal, or 0 and the image that a call without records leaves
+//!     calls texts cases.bin     the number of a refusal, or 0, the number of elements and the image of the text's book
 //!     calls seen days.bin       what the functions that read an image say, as calls.c prints it
 //!
 //! A refused call has to leave every byte of every buffer unchanged, and the lengths.
@@ -94,6 +95,32 @@ fn images(file: &[u8], print: &mut impl Write) {
     }
 }
 
+fn texts(file: &[u8], print: &mut impl Write) {
+    let mut rest = file;
+    while let Some(text) = part(&mut rest, 4) {
+        let mut room = vec![0xa5; rights::LONGEST_IMAGE + 7];
+        let made = rights::from_xml(text, &mut room);
+        match rights::fresh_book(text) {
+            Ok((image, elements)) => {
+                assert_eq!(made, Ok(rights::Imported { length: image.len(), elements }));
+                assert!(room.starts_with(&image) && room[image.len()..].iter().all(|&b| b == 0xa5));
+                let mut short = vec![0xa5; image.len() - 1];
+                assert_eq!(rights::from_xml(text, &mut short), Err(Refused::ShortOut));
+                assert!(short.iter().all(|&b| b == 0xa5));
+                assert_eq!(rights::check(&image), Ok(()));
+                let hex: String = image.iter().map(|b| format!("{b:02x}")).collect();
+                writeln!(print, "0 {elements} {hex}").unwrap();
+            }
+            Err(Refused::Text(code)) => {
+                assert_eq!(made, Err(Refused::Text(code)));
+                assert!(room.iter().all(|&b| b == 0xa5));
+                writeln!(print, "{code}").unwrap();
+            }
+            Err(refused) => panic!("{refused:?}"),
+        }
+    }
+}
+
 fn event_in(record: &[u8]) -> Event {
     Event {
         player: record[0],
@@ -155,7 +182,7 @@ fn seen_line(print: &mut impl Write, name: &str, at: u32, time: Option<u32>, num
         Ok(numbers) => numbers.iter().for_each(|n| write!(print, " {n}").unwrap()),
         Err(Refused::Image(code)) => write!(print, " refused {code}").unwrap(),
         Err(Refused::NotThere) => write!(print, " refused 31").unwrap(),
-        Err(Refused::ShortOut) => panic!("there was room"),
+        Err(refused) => panic!("{refused:?}"),
     }
     writeln!(print).unwrap();
 }
@@ -254,8 +281,9 @@ fn main() {
         "days" => days(&file, words[2].parse().unwrap(), &mut print),
         "ones" => ones(&file, &mut print),
         "images" => images(&file, &mut print),
+        "texts" => texts(&file, &mut print),
         "seen" => seen(&file, &mut print),
-        _ => panic!("usage: calls days N FILE, calls ones|images|seen FILE"),
+        _ => panic!("usage: calls days N FILE, calls ones|images|texts|seen FILE"),
     }
     print.flush().unwrap();
 }

@@ -1,9 +1,10 @@
 /* What a call costs: microseconds, and bytes of stack.
  *
- *     cost rights.rbk player number operation asset kind time
+ *     cost rights.rbk player number operation asset kind time cases.bin
  *
  * calls each function on the book many times over, on a copy of the image for each call that changes it, and prints a
- * line for each. The stack is measured by filling it with a pattern and looking how far down the pattern is overwritten. */
+ * line for each. Of rights_from_xml it prints the time of one stored text on average, and the most stack of any. The stack is
+ * measured by filling it with a pattern and looking how far down the pattern is overwritten. */
 #define _POSIX_C_SOURCE 200809L
 #include <pthread.h>
 #include <stdio.h>
@@ -13,14 +14,16 @@
 
 #include "../rights.h"
 
-enum { TIMES = 20000, STACK = 1 << 20, PAINT = 0xa5 };
+enum { TIMES = 20000, STACK = 8 << 20, PAINT = 0xa5, TEXTS = 1 << 20 };
 
 static uint8_t image[RIGHTS_LONGEST_IMAGE + 1], copy[RIGHTS_LONGEST_IMAGE + 1], record[RIGHTS_RECORD], out[RIGHTS_LINE];
 static size_t length;
 static uint32_t event[6], numbers[RIGHTS_ENTRY_NUMBERS];
 static uint8_t code, entry;
 static uint32_t until;
-static uint64_t written, copy_length;
+static uint64_t written, copy_length, elements;
+static uint8_t texts[TEXTS]; /* each with its length in 4 bytes in front */
+static size_t texts_length, at, text_length;
 
 static void fail(const char *what)
 {
@@ -90,6 +93,23 @@ static uint8_t player(void)
     return rights_player(image, length, 0, numbers, RIGHTS_ENTRY_NUMBERS);
 }
 
+/* The text whose length stands at `at`. */
+static uint8_t from_xml(void)
+{
+    rights_from_xml(texts + at + 4, text_length, copy, sizeof copy, &copy_length, &elements);
+    return 0;
+}
+
+/* Steps to the next text; whether there is one. */
+static int next_text(int first)
+{
+    at = first ? 0 : at + 4 + text_length;
+    if (at + 4 > texts_length)
+        return 0;
+    text_length = (size_t)texts[at] << 24 | (size_t)texts[at + 1] << 16 | (size_t)texts[at + 2] << 8 | texts[at + 3];
+    return 1;
+}
+
 static const struct {
     const char *name;
     uint8_t (*call)(void);
@@ -113,16 +133,17 @@ static void *thread(void *nothing_more)
 static size_t stack_of(uint8_t (*call)(void))
 {
     static uint8_t *stack;
+    static size_t free_bytes; /* what is above them was used before */
     pthread_attr_t attributes;
     pthread_t id;
     if (!stack && posix_memalign((void **)&stack, 4096, STACK) != 0)
         fail("no memory");
-    memset(stack, PAINT, STACK);
+    memset(stack + free_bytes, PAINT, STACK - free_bytes);
     now = call;
     if (pthread_attr_init(&attributes) || pthread_attr_setstack(&attributes, stack, STACK)
         || pthread_create(&id, &attributes, thread, NULL) || pthread_join(id, NULL))
         fail("no thread");
-    size_t free_bytes = 0;
+    free_bytes = 0;
     while (free_bytes < STACK && stack[free_bytes] == PAINT)
         free_bytes++;
     return STACK - free_bytes;
@@ -137,10 +158,11 @@ static double seconds(void)
 
 int main(int count, char **words)
 {
-    FILE *f = count == 8 ? fopen(words[1], "rb") : NULL;
-    if (!f)
-        fail("usage: cost rights.rbk player number operation asset kind time");
+    FILE *f = count == 9 ? fopen(words[1], "rb") : NULL, *stored = count == 9 ? fopen(words[8], "rb") : NULL;
+    if (!f || !stored)
+        fail("usage: cost rights.rbk player number operation asset kind time cases.bin");
     length = fread(image, 1, sizeof image, f);
+    texts_length = fread(texts, 1, sizeof texts, stored);
     for (int i = 0; i < 6; i++)
         event[i] = (uint32_t)strtoul(words[i + 2], NULL, 10);
     if (make() || check())
@@ -157,6 +179,18 @@ int main(int count, char **words)
         }
         printf("%-24s %8.3f us %8zu bytes of stack\n", calls[i].name, best * 1e6, stack_of(calls[i].call));
     }
+    size_t most = 0, how_many = 0;
+    double from = seconds();
+    for (int more = next_text(1); more; more = next_text(0)) {
+        from_xml();
+        how_many++;
+    }
+    double took = (seconds() - from) / (double)how_many;
+    for (int more = next_text(1); more; more = next_text(0)) {
+        size_t used = stack_of(from_xml);
+        most = used > most ? used : most;
+    }
+    printf("%-24s %8.3f us %8zu bytes of stack\n", "rights_from_xml", took * 1e6, most);
     printf("answer: %u %u %u\n", code, entry, until);
     return 0;
 }

@@ -15,13 +15,15 @@ TABLES = [
     ("An event record", RECORD_FIELDS), ("Header", HEADER_FIELDS), ("Asset", rights.ASSET_FIELDS),
     ("Entry", rights.ENTRY_FIELDS), ("Player", rights.PLAYER_FIELDS)]
 
-# the codes of document 01's table, and 31, each with the header's name; the first of each row has the number
+# the codes of document 01's table, 31, and those of document 02's first order, each with the header's name; the first of each row has
+# the number
 CODES = {
     0: "OK",
     1: "BAD_REQUEST BAD_PLAYER OUT_OF_LINE NUMBER_USED BAD_TIME CUT_SHORT",
     10: "NO_ASSET ALREADY_OPEN NONE_SUITABLE NONE_GRANTABLE NOTHING_OPEN NO_MORE_TIME",
     20: "IMAGE_LENGTH IMAGE_MARK IMAGE_VERSION IMAGE_HEADER IMAGE_ASSETS IMAGE_ENTRIES IMAGE_PLAYERS IMAGE_METERS",
     30: "SHORT_OUT NOT_THERE",
+    40: "XML_FORM XML_CONTENT XML_TOO_MANY",
 }
 
 # fields of the second program that have another name in the header

@@ -1,8 +1,8 @@
-"""The answers to a file of events and the book after them, and what stands against the entries of a book, from the proved
-library for C (crates/embed).
+"""The answers to a file of events and the book after them, what stands against the entries of a book, and the book of an XML
+rights object, from the proved library for C (crates/embed).
 
-The library and the small programs on top of it (tools/after.c, tools/why.c) are built if they are missing or older than
-their sources; the messages of the prover and the compiler go into target/tools/after.log.
+The library and the small programs on top of it (tools/after.c, why.c, read_texts.c) are built if they are missing or older
+than their sources; the messages of the prover and the compiler go into target/tools/after.log.
 """
 
 import os
@@ -72,6 +72,18 @@ def judged(image, record, player, t):
                 raise Trouble(said or f"{ended.args[0]} ended with status {ended.returncode}")
         told = tuple(map(int, (work / "answers").read_text().split()))
         return told, [[word == "1" for word in line.split()] for line in listed.stdout.decode().splitlines()]
+
+
+def read_xml(text):
+    """By the library: the code of an XML text, its number of elements, and the image of its book."""
+    build("read_texts")
+    done = subprocess.run([MADE / "read_texts"], input=len(text).to_bytes(4, "big") + text, capture_output=True)
+    head, image = done.stdout[:12], done.stdout[12:]
+    code, elements, length = (int.from_bytes(head[at:at + 4], "big") for at in (0, 4, 8))
+    if done.returncode != 0 or len(head) != 12 or len(image) != length:
+        said = done.stderr.decode(errors="replace").strip()
+        raise Trouble(said or f"{MADE}/read_texts ended with status {done.returncode}")
+    return code, elements, image
 
 
 def open_records(path):

@@ -26,14 +26,20 @@ def settled(book, t):
     return book
 
 
-def grounds(book, position, t):
-    """Why nobody can be granted the entry at t; empty if somebody can. The book must be settled to t."""
-    entry, found = book.entries[position], []
+def of_no_use(book, entry):
+    """Why the entry's asset allows nobody to use it, at any time; empty if it does."""
     asset = book.asset(entry.asset)
     if asset.is_parent() and not heirs(book, asset):
-        found.append(f"nothing with a key inherits from asset {asset.number}")
+        return [f"nothing with a key inherits from asset {asset.number}"]
     if not asset.is_parent() and not asset.key:
-        found.append(f"asset {asset.number} is illegal (it inherits but has no key)")
+        return [f"asset {asset.number} is illegal (it inherits but has no key)"]
+    return []
+
+
+def grounds(book, position, t):
+    """Why nobody can be granted the entry at t; empty if somebody can. The book must be settled to t."""
+    entry = book.entries[position]
+    found = of_no_use(book, entry)
     if entry.has(rights.COUNT) and entry.used_count >= entry.count:
         found.append("the count is used up")
     if entry.has(rights.TIMED) and entry.used_timed >= entry.timed:
@@ -103,6 +109,11 @@ def date_words(entry):
     return words
 
 
+def limit_words(entry):
+    """Everything that limits the entry, and what is used of it."""
+    return used_words(entry) + date_words(entry) or ["no limits"]
+
+
 def asset_words(book, asset):
     if asset.is_parent():
         numbers = ", ".join(map(str, heirs(book, asset)))
@@ -131,7 +142,7 @@ def show(image):
     for position, entry in enumerate(book.entries):
         print(f"  {position:>5}  rights object {entry.object}, {kind_name(entry.kind)} of asset {entry.asset}:"
               f" {state_words(book, position, book.time, f' at {date(book.time)}')}")
-        for line in used_words(entry) + date_words(entry) or ["no limits"]:
+        for line in limit_words(entry):
             print(f"         {line}")
     asked = [index for index, player in enumerate(book.players) if player.number != 0]
     print(f"\nPlayers that have asked: {len(asked)}")
