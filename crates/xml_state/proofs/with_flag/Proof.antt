@@ -1,5 +1,5 @@
-use Prim.Native.Nat.{_/_, _%_}
 -- `xml_state::with_flag` meets its contract: the flag is that of the role, and one that is not set leaves room for it.
+use Prim.Native.Nat.{_/_, _%_}
 use native.Mathlib.Omega.{arith}
 use borrow.Author.Tests.{eqb-false, eq-eqb, ne-eqb}
 use Rattle.model.specs.Book.{flagged}
@@ -14,7 +14,9 @@ flags-of-requires c κs = search needs
 
 added-requires : tie.Need-added-requires
 unfolding flagsOf flagged
-added-requires c κs = λ h. omega (arith, eqb-false (c .before .before .args .l .flags / 1 % 2) 1 (rw (c .before .flags-of .ensures) at h))
+added-requires c κs =
+    let l = c .before .before .args .l in
+    λ h. omega (arith, eqb-false (l .flags / 1 % 2) 1 (rw (c .before .flags-of .ensures) at h))
 
 returns : tie.Need-returns
 unfolding withFlag flagOf flagsOf
@@ -22,10 +24,9 @@ returns c = rw (c .added .ensures, c .before .before .flags-of .ensures, eq-eqb 
 
 added-requires-2 : tie.Need-added-requires-2
 unfolding flagsOf flagged
-added-requires-2 c κs = λ h. omega (
-  arith,
-  eqb-false (c .before .before .before .args .l .flags / 2 % 2) 1 (rw (c .before .before .flags-of .ensures) at h),
-)
+added-requires-2 c κs =
+    let l = c .before .before .before .args .l in
+    λ h. omega (arith, eqb-false (l .flags / 2 % 2) 1 (rw (c .before .before .flags-of .ensures) at h))
 
 returns-2 : tie.Need-returns-2
 unfolding withFlag flagOf flagsOf
@@ -38,10 +39,9 @@ returns-2 c = rw (
 
 added-requires-3 : tie.Need-added-requires-3
 unfolding flagsOf flagged
-added-requires-3 c κs = λ h. omega (
-  arith,
-  eqb-false (c .before .before .before .before .args .l .flags / 4 % 2) 1 (rw (c .before .before .before .flags-of .ensures) at h),
-)
+added-requires-3 c κs =
+    let l = c .before .before .before .before .args .l in
+    λ h. omega (arith, eqb-false (l .flags / 4 % 2) 1 (rw (c .before .before .before .flags-of .ensures) at h))
 
 returns-3 : tie.Need-returns-3
 unfolding withFlag flagOf flagsOf
@@ -55,10 +55,9 @@ returns-3 c = rw (
 
 added-requires-4 : tie.Need-added-requires-4
 unfolding flagsOf flagged
-added-requires-4 c κs = λ h. omega (
-  arith,
-  eqb-false (c .before .before .before .before .before .args .l .flags / 8 % 2) 1 (rw (c .before .before .before .before .flags-of .ensures) at h),
-)
+added-requires-4 c κs =
+    let l = c .before .before .before .before .before .args .l in
+    λ h. omega (arith, eqb-false (l .flags / 8 % 2) 1 (rw (c .before .before .before .before .flags-of .ensures) at h))
 
 returns-4 : tie.Need-returns-4
 unfolding withFlag flagOf flagsOf
@@ -73,10 +72,9 @@ returns-4 c = rw (
 
 added-requires-5 : tie.Need-added-requires-5
 unfolding flagsOf flagged
-added-requires-5 c κs = λ h. omega (
-  arith,
-  eqb-false (c .before .before .before .before .before .before .args .l .flags / 16 % 2) 1 (rw (c .before .before .before .before .before .flags-of .ensures) at h),
-)
+added-requires-5 c κs =
+    let l = c .before .before .before .before .before .before .args .l in
+    λ h. omega (arith, eqb-false (l .flags / 16 % 2) 1 (rw (c .before .before .before .before .before .flags-of .ensures) at h))
 
 returns-5 : tie.Need-returns-5
 unfolding withFlag flagOf flagsOf
@@ -92,10 +90,9 @@ returns-5 c = rw (
 
 added-requires-6 : tie.Need-added-requires-6
 unfolding flagsOf flagged
-added-requires-6 c κs = λ h. omega (
-  arith,
-  eqb-false (c .before .before .before .before .before .before .args .l .flags / 32 % 2) 1 (rw (c .before .before .before .before .before .flags-of .ensures) at h),
-)
+added-requires-6 c κs =
+    let l = c .before .before .before .before .before .before .args .l in
+    λ h. omega (arith, eqb-false (l .flags / 32 % 2) 1 (rw (c .before .before .before .before .before .flags-of .ensures) at h))
 
 returns-6 : tie.Need-returns-6
 unfolding withFlag flagOf flagsOf
