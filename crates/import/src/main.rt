@@ -46,9 +46,8 @@ fn answer(text: &[u8], n: usize) {
     report(r.code, r.elements);
 }
 
-fn import() {
-    let mut text = [0u8; TEXT];
-    let i = stream::read_all(0, b"standard input", &mut text);
+fn import_into(text: &mut [u8; TEXT]) {
+    let i = stream::read_all(0, b"standard input", text);
     if !i.good {
         return;
     }
@@ -56,7 +55,12 @@ fn import() {
         too_long();
         return;
     }
-    answer(&text, i.length);
+    answer(text, i.length);
+}
+
+fn import() {
+    let mut text = [0u8; TEXT];
+    import_into(&mut text);
 }
 
 fn main() {
