@@ -1,4 +1,5 @@
 -- `xml_steps::counted` meets its contract: the code's test is the definition's.
+use native.Mathlib.Omega.{arith}
 use borrow.Author.Tests.{lt-ltb, le-ltb}
 use Rattle.xml_model.specs.State.{counted}
 use borrow.Author.Needs.{needs}
@@ -16,14 +17,18 @@ accepted-requires c κs = search needs
 
 returns : tie.Need-returns
 unfolding counted
-returns c = rw (c .accepted .ensures, c .before .with-elements .ensures, lt-ltb _ _ (c .before .before .if1 .taken))
+returns c =
+    let n = c .before .before .before .args .st .elements in
+    rw (c .accepted .ensures, c .before .with-elements .ensures, lt-ltb n 256 (omega arith))
 
 refused-requires : tie.Need-refused-requires
 refused-requires c κs = search needs
 
 returns-2 : tie.Need-returns-2
 unfolding counted
-returns-2 c = rw (c .refused .ensures, le-ltb _ _ (c .before .if1 .left))
+returns-2 c =
+    let n = c .before .before .args .st .elements in
+    rw (c .refused .ensures, le-ltb n 256 (omega arith))
 
 pub counted-spec : {M : Type 1} → statement M
 counted-spec =
