@@ -2,3 +2,4 @@
 pub mod Left
 mod OneLeft
 mod SeenLeft
+mod XmlLeft

@@ -11,6 +11,7 @@ ghost use Rattle.embed.specs.Calls.{imageIn, heldBook, answerCode, image
 ghost use Rattle.embed.specs.One.{oneResult, oneImage, oneSize, oneCode, oneEntry, oneUntil};
 ghost use Rattle.embed.specs.Seen.{bookCode, bookOut, assetCode, assetOut, entryCode, entryOut, playerCode, playerOut, leftCode};
 ghost use Rattle.embed.specs.Seen.{leftOut, groundsCode, groundsOut};
+ghost use Rattle.embed.specs.FromXml.{xmlCode, xmlImage, xmlSize, xmlElements};
 use book::Ask;
 use book::Book;
 use book::Entry;
@@ -295,4 +296,29 @@ pub extern "C" fn rights_grounds(
     };
     let values = views::ground_values(entry_then(loaded.book, at, when), ask);
     fill::fill32(out, &values)
+}
+
+// Turns an XML rights object into the image of a fresh book, at the start of the buffer image, and puts the image's length into size
+// and the number of the text's elements into elements.
+// Returns 0, or 40 to 42 if the text is refused, or 30 if the buffer has no room for the image.
+// Rules out: a refusal that touches a byte or a number, a byte touched after the image, the length and the elements exchanged.
+#[no_mangle]
+pub extern "C" fn rights_from_xml(
+    text: &[u8],
+    image: &mut [u8],
+    size: &mut u64,
+    elements: &mut u64,
+) -> u8
+    ensures { λ r. ⌜ r ≡ xmlCode (now (text .entry)) (now (image .entry)) ⌝ }
+    ensures { λ _. ⌜ now (image .exit) ≡ xmlImage (now (text .entry)) (now (image .entry)) ⌝ }
+    ensures { λ _. ⌜ now (size .exit) ≡ xmlSize (now (text .entry)) (now (image .entry)) (now (size .entry)) ⌝ }
+    ensures { λ _. ⌜ now (elements .exit) ≡ xmlElements (now (text .entry)) (now (image .entry)) (now (elements .entry)) ⌝ }
+{
+    let r = xml_image::import_text(text, image);
+    if r.code != 0 {
+        return r.code;
+    }
+    *size = r.length as u64;
+    *elements = r.elements as u64;
+    0
 }
