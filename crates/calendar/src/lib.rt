@@ -1,7 +1,7 @@
 // The calendar by the leap-year rule: the days of a month, and the days from 1970-01-01 to its first.
 ghost use mathlib.Core.Path.{_≡_};
 ghost use mathlib.Core.Bool.{cond};
-ghost use Prim.Native.Nat.{_+_, _*_, _<_};
+ghost use Prim.Native.Nat.{_<_};
 ghost use Rattle.numbers.specs.Count.{sum};
 ghost use Rattle.xml_model.specs.Calendar.{leap, monthDays, monthLength, inCalendar, daysBefore};
 

@@ -1,14 +1,14 @@
 -- Laws of numbers in a text: that saturation changes no accepted value, and how large the number is that a few digits are.
 use Prim.Native.Nat.{ℕ, zero, suc, _+_, _-_, _*_, _<_, _≤_, min}
 use mathlib.Core.Path.{_≡_, refl, sym, ap, _∙_}
-use mathlib.Core.Bool.{Bool, true, false, cond, _&&_, and-false}
+use mathlib.Core.Bool.{Bool, true, false, cond, not, _&&_, and-false}
 use mathlib.Core.List.{List, [], _∷_}
 use native.Mathlib.Numerals.{add-one}
 use native.Mathlib.Omega.{arith}
 use lib.ListN.{length, getD, take, drop, drop-of-length-le}
 use lib.Seq.{drop-cons}
 use lib.Dec.{leb, eqb}
-use borrow.Author.Tests.{leb-true, leb-false, lt-leb}
+use borrow.Author.Tests.{leb-true, leb-false, lt-leb, not-false}
 use Rattle.numbers.proofs.Tests.{on-test, and-right, row-passed}
 use Rattle.numbers.proofs.TableLaws.{below-or-not}
 use Rattle.model.specs.Book.{between, leastLimit, mostSeconds}
@@ -130,11 +130,12 @@ digits-inside v i n p h =
     omega (arith, e, run-inside digits v i (omega (arith, e)))
 
 -- where the digits of a time are
-pub time-digits : (v : List ℕ) → timeFormed v ≡ true
+pub time-digits : (v : List ℕ) {w : Bool} → w ≡ timeFormed v → not w ≡ false
     → (digitsAt v 0 4 ≡ true) × (digitsAt v 5 2 ≡ true) × (digitsAt v 8 2 ≡ true) × (digitsAt v 11 2 ≡ true)
     × (digitsAt v 14 2 ≡ true) × (digitsAt v 17 2 ≡ true)
 unfolding timeFormed
-time-digits v h =
+time-digits v {w} q f =
+    let h = sym q ∙ not-false w f in
     let p = row-passed (eqb (length v) 20)
     (digitsAt v 0 4 ∷ eqb (byteAt v 4) 45
     ∷ digitsAt v 5 2 ∷ eqb (byteAt v 7) 45

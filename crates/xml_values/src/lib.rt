@@ -1,7 +1,7 @@
 // Text values of order 1: numbers, uids, times and durations. Each function is defined for every text.
 ghost use mathlib.Core.Path.{_≡_};
-ghost use mathlib.Core.Bool.{Bool, true, cond};
-ghost use Prim.Native.Nat.{ℕ, _+_, _-_, _*_, _≤_, _<_, min};
+ghost use mathlib.Core.Bool.{true, cond};
+ghost use Prim.Native.Nat.{_+_, _-_, _*_, _≤_, min};
 ghost use lib.ListN.{length};
 ghost use Rattle.xml_model.specs.Values.{valueIf, numberOf, isNumber, numberIn, uidOf, digitsAt, numberAt, timeFormed, timeReal, secondsAt};
 ghost use Rattle.xml_model.specs.Values.{timeIf, timeOf, pieceAt, durationFormed, durationOf, valueOf};

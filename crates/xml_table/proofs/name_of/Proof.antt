@@ -4,10 +4,11 @@ use mathlib.Core.Path.{_≡_, refl, _∙_}
 use mathlib.Core.Bool.{cond}
 use mathlib.Core.List.{List, [], _∷_}
 use Rattle.xml_model.specs.Bytes.{same}
-use Rattle.xml_model.specs.Elements.{rightsBytes, contextBytes, versionBytes, uidBytes, agreementBytes, assetBytes, inheritBytes, keyInfoBytes, permissionBytes, playBytes, displayBytes}
-use Rattle.xml_model.specs.Elements.{executeBytes, printBytes, exportBytes, constraintBytes, countBytes, timedCountBytes, datetimeBytes, startBytes, endBytes, intervalBytes, accumulatedBytes}
+use Rattle.xml_model.specs.Elements.{rightsBytes, contextBytes, versionBytes, uidBytes, agreementBytes, assetBytes}
+use Rattle.xml_model.specs.Elements.{inheritBytes, keyInfoBytes, permissionBytes, playBytes, displayBytes, executeBytes}
+use Rattle.xml_model.specs.Elements.{printBytes, exportBytes, constraintBytes, countBytes, timedCountBytes, datetimeBytes}
+use Rattle.xml_model.specs.Elements.{startBytes, endBytes, intervalBytes, accumulatedBytes}
 use Rattle.xml_model.specs.Elements.{known, find, nameOf}
-use borrow.Author.Needs.{needs}
 use Rattle.xml_table.proofs.name_of.Statement.{statement}
 use Rattle.xml_table.proofs.name_of.Tie as tie
 
@@ -22,136 +23,136 @@ unfolding find
 link-end v k = refl
 
 slice-aggregate-named : tie.Need-slice-aggregate-named
-slice-aggregate-named c = search needs
+slice-aggregate-named c = refl
 
 named-requires : tie.Need-named-requires
-named-requires c κs = search needs
+named-requires c κs = tt
 
 slice-aggregate-named-2 : tie.Need-slice-aggregate-named-2
-slice-aggregate-named-2 c = search needs
+slice-aggregate-named-2 c = refl
 
 named-requires-2 : tie.Need-named-requires-2
-named-requires-2 c κs = search needs
+named-requires-2 c κs = tt
 
 slice-aggregate-named-3 : tie.Need-slice-aggregate-named-3
-slice-aggregate-named-3 c = search needs
+slice-aggregate-named-3 c = refl
 
 named-requires-3 : tie.Need-named-requires-3
-named-requires-3 c κs = search needs
+named-requires-3 c κs = tt
 
 slice-aggregate-named-4 : tie.Need-slice-aggregate-named-4
-slice-aggregate-named-4 c = search needs
+slice-aggregate-named-4 c = refl
 
 named-requires-4 : tie.Need-named-requires-4
-named-requires-4 c κs = search needs
+named-requires-4 c κs = tt
 
 slice-aggregate-named-5 : tie.Need-slice-aggregate-named-5
-slice-aggregate-named-5 c = search needs
+slice-aggregate-named-5 c = refl
 
 named-requires-5 : tie.Need-named-requires-5
-named-requires-5 c κs = search needs
+named-requires-5 c κs = tt
 
 slice-aggregate-named-6 : tie.Need-slice-aggregate-named-6
-slice-aggregate-named-6 c = search needs
+slice-aggregate-named-6 c = refl
 
 named-requires-6 : tie.Need-named-requires-6
-named-requires-6 c κs = search needs
+named-requires-6 c κs = tt
 
 slice-aggregate-named-7 : tie.Need-slice-aggregate-named-7
-slice-aggregate-named-7 c = search needs
+slice-aggregate-named-7 c = refl
 
 named-requires-7 : tie.Need-named-requires-7
-named-requires-7 c κs = search needs
+named-requires-7 c κs = tt
 
 slice-aggregate-named-8 : tie.Need-slice-aggregate-named-8
-slice-aggregate-named-8 c = search needs
+slice-aggregate-named-8 c = refl
 
 named-requires-8 : tie.Need-named-requires-8
-named-requires-8 c κs = search needs
+named-requires-8 c κs = tt
 
 slice-aggregate-named-9 : tie.Need-slice-aggregate-named-9
-slice-aggregate-named-9 c = search needs
+slice-aggregate-named-9 c = refl
 
 named-requires-9 : tie.Need-named-requires-9
-named-requires-9 c κs = search needs
+named-requires-9 c κs = tt
 
 slice-aggregate-named-10 : tie.Need-slice-aggregate-named-10
-slice-aggregate-named-10 c = search needs
+slice-aggregate-named-10 c = refl
 
 named-requires-10 : tie.Need-named-requires-10
-named-requires-10 c κs = search needs
+named-requires-10 c κs = tt
 
 slice-aggregate-named-11 : tie.Need-slice-aggregate-named-11
-slice-aggregate-named-11 c = search needs
+slice-aggregate-named-11 c = refl
 
 named-requires-11 : tie.Need-named-requires-11
-named-requires-11 c κs = search needs
+named-requires-11 c κs = tt
 
 slice-aggregate-named-12 : tie.Need-slice-aggregate-named-12
-slice-aggregate-named-12 c = search needs
+slice-aggregate-named-12 c = refl
 
 named-requires-12 : tie.Need-named-requires-12
-named-requires-12 c κs = search needs
+named-requires-12 c κs = tt
 
 slice-aggregate-named-13 : tie.Need-slice-aggregate-named-13
-slice-aggregate-named-13 c = search needs
+slice-aggregate-named-13 c = refl
 
 named-requires-13 : tie.Need-named-requires-13
-named-requires-13 c κs = search needs
+named-requires-13 c κs = tt
 
 slice-aggregate-named-14 : tie.Need-slice-aggregate-named-14
-slice-aggregate-named-14 c = search needs
+slice-aggregate-named-14 c = refl
 
 named-requires-14 : tie.Need-named-requires-14
-named-requires-14 c κs = search needs
+named-requires-14 c κs = tt
 
 slice-aggregate-named-15 : tie.Need-slice-aggregate-named-15
-slice-aggregate-named-15 c = search needs
+slice-aggregate-named-15 c = refl
 
 named-requires-15 : tie.Need-named-requires-15
-named-requires-15 c κs = search needs
+named-requires-15 c κs = tt
 
 slice-aggregate-named-16 : tie.Need-slice-aggregate-named-16
-slice-aggregate-named-16 c = search needs
+slice-aggregate-named-16 c = refl
 
 named-requires-16 : tie.Need-named-requires-16
-named-requires-16 c κs = search needs
+named-requires-16 c κs = tt
 
 slice-aggregate-named-17 : tie.Need-slice-aggregate-named-17
-slice-aggregate-named-17 c = search needs
+slice-aggregate-named-17 c = refl
 
 named-requires-17 : tie.Need-named-requires-17
-named-requires-17 c κs = search needs
+named-requires-17 c κs = tt
 
 slice-aggregate-named-18 : tie.Need-slice-aggregate-named-18
-slice-aggregate-named-18 c = search needs
+slice-aggregate-named-18 c = refl
 
 named-requires-18 : tie.Need-named-requires-18
-named-requires-18 c κs = search needs
+named-requires-18 c κs = tt
 
 slice-aggregate-named-19 : tie.Need-slice-aggregate-named-19
-slice-aggregate-named-19 c = search needs
+slice-aggregate-named-19 c = refl
 
 named-requires-19 : tie.Need-named-requires-19
-named-requires-19 c κs = search needs
+named-requires-19 c κs = tt
 
 slice-aggregate-named-20 : tie.Need-slice-aggregate-named-20
-slice-aggregate-named-20 c = search needs
+slice-aggregate-named-20 c = refl
 
 named-requires-20 : tie.Need-named-requires-20
-named-requires-20 c κs = search needs
+named-requires-20 c κs = tt
 
 slice-aggregate-named-21 : tie.Need-slice-aggregate-named-21
-slice-aggregate-named-21 c = search needs
+slice-aggregate-named-21 c = refl
 
 named-requires-21 : tie.Need-named-requires-21
-named-requires-21 c κs = search needs
+named-requires-21 c κs = tt
 
 slice-aggregate-named-22 : tie.Need-slice-aggregate-named-22
-slice-aggregate-named-22 c = search needs
+slice-aggregate-named-22 c = refl
 
 named-requires-22 : tie.Need-named-requires-22
-named-requires-22 c κs = search needs
+named-requires-22 c κs = tt
 
 returns : tie.Need-returns
 unfolding nameOf known

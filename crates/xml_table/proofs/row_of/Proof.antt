@@ -26,7 +26,8 @@ cast-result c = omega arith
 
 returns : tie.Need-returns Inv-loop μ-loop
 unfolding rowOf
-returns c = let a = c .before .before .before .before .args in
+returns c =
+    let a = c .before .before .before .before .args in
     let l = c .before .before .before .loop in
     sym (first-found (fits (a .role) (a .state) (a .name)) (l .k) rowCount (c .before .before .loop-test .taken) (l .inv .1)
     (sym (c .before .row-fits .ensures) ∙ c .if1 .taken))
@@ -38,13 +39,15 @@ loop-less : tie.Need-loop-less Inv-loop μ-loop
 loop-less c = omega arith
 
 loop-again : tie.Need-loop-again Inv-loop μ-loop
-loop-again c = let a = c .before .before .before .before .args in
+loop-again c =
+    let a = c .before .before .before .before .args in
     let l = c .before .before .before .loop in
     (omega arith, first-on (fits (a .role) (a .state) (a .name)) (l .k) (l .inv .1) (sym (c .before .row-fits .ensures) ∙ c .if1 .left))
 
 returns-2 : tie.Need-returns-2 Inv-loop μ-loop
 unfolding rowOf
-returns-2 c = let a = c .before .before .args in
+returns-2 c =
+    let a = c .before .before .args in
     let l = c .before .loop in
     let e : l .k ≡ rowCount = omega arith in
     sym (ap (first (fits (a .role) (a .state) (a .name))) (sym e) ∙ l .inv .1 ∙ e)

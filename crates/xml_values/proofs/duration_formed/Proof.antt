@@ -15,7 +15,9 @@ pick-requires c κs = search needs
 
 returns : tie.Need-returns
 unfolding durationFormed
-returns c = rw (c .pick .ensures, c .before .byte-at2 .ensures, c .before .before .before .before .before .before .before .before .byte-at .ensures)
+returns c =
+    let b = c .before .before .before .before .before .before .before .before in
+    rw (c .pick .ensures, c .before .byte-at2 .ensures, b .byte-at .ensures)
 
 pub duration-formed-spec : {M : Type 1} → statement M
 duration-formed-spec =

@@ -56,17 +56,17 @@ pick64-requires : tie.Need-pick64-requires
 pick64-requires c κs = search needs
 
 add-n : tie.Need-add-n
-add-n c = let d = c .before .before .before .before .before .before .before .before .before .before .piece-at in
-    let h = c .before .before .before .before .before .before .before .before .piece-at2 in
-    let m = c .before .before .before .before .before .before .before .piece-at3 in
-    let s = c .before .before .before .before .before .before .piece-at4 in
-    let x = h .result .number * 3600 + m .result .number * 60 + s .result .number in
+add-n c =
+    let s = c .before .before .before .before .before .before in
+    let h = s .before .before in
+    let d = h .before .before .piece-at in
+    let x = h .piece-at2 .result .number * 3600 + s .before .piece-at3 .result .number * 60 + s .piece-at4 .result .number in
     omega (
       arith,
       d .ensures .1 .0,
-      h .ensures .1 .0,
-      m .ensures .1 .0,
-      s .ensures .1 .0,
+      h .piece-at2 .ensures .1 .0,
+      s .before .piece-at3 .ensures .1 .0,
+      s .piece-at4 .ensures .1 .0,
       picked (eqb (c .before .before .byte-at .result) 84) x (c .pick64 .ensures),
     )
 
@@ -81,12 +81,17 @@ duration-formed-requires c κs = search needs
 
 value-if-requires : tie.Need-value-if-requires
 value-if-requires c κs = λ h.
-    let n = c .before .before .before .before .before .before .before .before .before .before .before .piece-at .result .number * 86400 + c .before .pick64 .result in
+    let d = c .before .before .before .before .before .before .before .before .before .before .before .piece-at .result in
+    let n = d .number * 86400 + c .before .pick64 .result in
     omega (arith, leb-true n mostSeconds (and-right (leb leastLimit n) (leb n mostSeconds) (and-right (c .duration-formed .result) _ h)))
 
 returns : tie.Need-returns
 unfolding durationOf durationFormed saturated
-returns c = let v = c .before .before .before .before .before .before .before .before .before .before .before .before .before .before .args .v .now in
+returns c =
+    let s4 = c .before .before .before .before .before .before .before .before in
+    let s2 = s4 .before .before in
+    let s1 = s2 .before .before in
+    let v = s1 .before .before .args .v .now in
     let d = pieceAt v 68 1 in
     let h = pieceAt v 72 (d .next + 1) in
     let m = pieceAt v 77 (h .next) in
@@ -96,10 +101,10 @@ returns c = let v = c .before .before .before .before .before .before .before .b
       c .before .duration-formed .ensures,
       c .before .before .pick64 .ensures,
       c .before .before .before .before .byte-at .ensures,
-      c .before .before .before .before .before .before .before .before .piece-at4 .ensures .0,
-      c .before .before .before .before .before .before .before .before .before .piece-at3 .ensures .0,
-      c .before .before .before .before .before .before .before .before .before .before .piece-at2 .ensures .0,
-      c .before .before .before .before .before .before .before .before .before .before .before .before .piece-at .ensures .0,
+      s4 .piece-at4 .ensures .0,
+      s4 .before .piece-at3 .ensures .0,
+      s2 .piece-at2 .ensures .0,
+      s1 .piece-at .ensures .0,
     )
     (same-duration (durationFormed v d h m s) (eqb (byteAt v (d .next)) 84) (d .number) (h .number) (m .number) (s .number))
 

@@ -26,7 +26,8 @@ value-if-requires c κs = λ h.
 
 returns : tie.Need-returns
 unfolding numberIn
-returns c = let a = c .before .before .before .before .args in
+returns c =
+    let a = c .before .before .before .before .args in
     let n = c .before .before .number-of in
     c .value-if .ensures
     ∙ ap (λ (w : Bool). valueIf (w && between (a .least) (a .most) (n .result)) (n .result)) (c .before .is-number .ensures)

@@ -26,7 +26,9 @@ digit-of-requires : tie.Need-digit-of-requires Inv-loop μ-loop
 digit-of-requires c κs = tt
 
 with-digit-requires : tie.Need-with-digit-requires Inv-loop μ-loop
-with-digit-requires c κs = (c .before .before .before .loop .inv .0, omega (arith, c .digit-of .ensures, c .before .before .before .before .shared-slice-known .given (c .before .before .before .loop .i)))
+with-digit-requires c κs =
+    let l = c .before .before .before in
+    (l .loop .inv .0, omega (arith, c .digit-of .ensures, l .before .shared-slice-known .given (l .loop .i)))
 
 add-i : tie.Need-add-i Inv-loop μ-loop
 add-i c = omega arith
@@ -35,14 +37,18 @@ loop-less : tie.Need-loop-less Inv-loop μ-loop
 loop-less c = omega arith
 
 loop-again : tie.Need-loop-again Inv-loop μ-loop
-loop-again c = let l = c .before .before .before .before .loop in (
-  omega (arith, c .with-digit .ensures),
-  l .inv .1 ∙ number-turn (l .x) (c .before .before .before .before .before .before .args .v .now) (l .i) (omega arith) ∙ rw (c .with-digit .ensures, c .before .digit-of .ensures),
-)
+loop-again c =
+    let l = c .before .before .before .before .loop in
+    let v = c .before .before .before .before .before .before .args .v .now in (
+      omega (arith, c .with-digit .ensures),
+      l .inv .1 ∙ number-turn (l .x) v (l .i) (omega arith) ∙ rw (c .with-digit .ensures, c .before .digit-of .ensures),
+    )
 
 returns : tie.Need-returns Inv-loop μ-loop
-returns c = let l = c .before .loop in
-    sym (l .inv .1 ∙ rw (number-end (l .x) (c .before .before .before .args .v .now) (l .i) (c .loop-test .left)) (omega (arith, l .inv .0)))
+returns c =
+    let l = c .before .loop in
+    let v = c .before .before .before .args .v .now in
+    sym (l .inv .1 ∙ rw (number-end (l .x) v (l .i) (c .loop-test .left)) (omega (arith, l .inv .0)))
 
 pub number-of-spec : {M : Type 1} → statement M
 number-of-spec =

@@ -24,33 +24,54 @@ part-number-of-start : tie.Need-part-number-of-start
 part-number-of-start c = search needs
 
 part-number-of-end : tie.Need-part-number-of-end
-part-number-of-end c = rw (c .before .before .before .run-end .ensures)
-    (run-inside digits (c .before .before .before .before .before .args .v .now) (c .before .before .before .before .before .args .i) (rw (c .before .before .before .run-end .ensures) at (c .before .if1 .taken)))
+part-number-of-end c =
+    let e = c .before .before .before .run-end in
+    let a = c .before .before .before .before .before .args in
+    rw (e .ensures) (run-inside digits (a .v .now) (a .i) (rw (e .ensures) at (c .before .if1 .taken)))
 
 number-of-requires : tie.Need-number-of-requires
 number-of-requires c κs = search needs
 
 add-t14 : tie.Need-add-t14
-add-t14 c = let a = c .before .before .before .before .before .before .before .args in
-    omega (arith, inside (a .v .now) (c .before .before .before .before .before .run-end .result) (a .u) (c .before .before .before .before .before .before .before .fits .u .fits) (sym (c .before .before .before .before .byte-at .ensures) ∙ c .before .before .if2 .taken))
+add-t14 c =
+    let b = c .before .before .before .before in
+    let s = b .before .before .before in
+    omega (
+      arith,
+      inside (s .args .v .now) (b .before .run-end .result) (s .args .u) (s .fits .u .fits)
+          (sym (b .byte-at .ensures) ∙ c .before .before .if2 .taken),
+    )
 
 returns : tie.Need-returns
 unfolding pieceAt saturated
-returns c = let a = c .before .before .before .before .before .before .before .args in
-    let e = c .before .before .before .before .before .run-end in (
-      rw (c .number-of .ensures, ← (e .ensures), ← (c .before .before .before .before .byte-at .ensures), lt-ltb _ _ (c .before .before .before .if1 .taken), eq-eqb _ _ (c .before .before .if2 .taken)),
+returns c =
+    let t = c .before .before in
+    let b = t .before .before in
+    let e = b .before .run-end in
+    let s = b .before .before .before in (
+      rw (
+        c .number-of .ensures,
+        ← (e .ensures),
+        ← (b .byte-at .ensures),
+        lt-ltb _ _ (t .before .if1 .taken),
+        eq-eqb _ _ (t .if2 .taken),
+      ),
       (
         omega (arith, c .number-of .ensures),
-        omega (arith, inside (a .v .now) (e .result) (a .u) (c .before .before .before .before .before .before .before .fits .u .fits) (sym (c .before .before .before .before .byte-at .ensures) ∙ c .before .before .if2 .taken)),
+        omega (
+          arith,
+          inside (s .args .v .now) (e .result) (s .args .u) (s .fits .u .fits) (sym (b .byte-at .ensures) ∙ t .if2 .taken),
+        ),
       ),
     )
 
 returns-2 : tie.Need-returns-2
 unfolding pieceAt saturated
-returns-2 c = (
-  rw (← (c .before .before .before .run-end .ensures), ← (c .before .before .byte-at .ensures), lt-ltb _ _ (c .before .if1 .taken), ne-eqb _ _ (c .if2 .left)),
-  (omega arith, omega arith),
-)
+returns-2 c =
+    let b = c .before .before in (
+      rw (← (b .before .run-end .ensures), ← (b .byte-at .ensures), lt-ltb _ _ (c .before .if1 .taken), ne-eqb _ _ (c .if2 .left)),
+      (omega arith, omega arith),
+    )
 
 returns-3 : tie.Need-returns-3
 unfolding pieceAt saturated

@@ -22,11 +22,15 @@ number-of-requires c κs = search needs
 
 cast-result : tie.Need-cast-result
 unfolding grown
-cast-result c = omega (arith, c .number-of .ensures, number-small (c .before .before .before .args .v .now) (c .before .before .before .args .i) 2 (c .before .before .before .pre))
+cast-result c =
+    let s = c .before .before .before in
+    omega (arith, c .number-of .ensures, number-small (s .args .v .now) (s .args .i) 2 (s .pre))
 
 returns : tie.Need-returns
 unfolding grown
-returns c = omega (arith, c .number-of .ensures, number-small (c .before .before .before .args .v .now) (c .before .before .before .args .i) 2 (c .before .before .before .pre))
+returns c =
+    let s = c .before .before .before in
+    omega (arith, c .number-of .ensures, number-small (s .args .v .now) (s .args .i) 2 (s .pre))
 
 pub two-digits-spec : {M : Type 1} → statement M
 two-digits-spec =

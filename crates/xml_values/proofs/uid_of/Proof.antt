@@ -22,7 +22,8 @@ value-if-requires c κs = search needs
 
 returns : tie.Need-returns
 unfolding uidOf
-returns c = let v = c .before .before .before .args .v .now in
+returns c =
+    let v = c .before .before .before .args .v .now in
     rw (
       c .value-if .ensures,
       differs v (99 ∷ 105 ∷ 100 ∷ 58 ∷ []) (c .before .if1 .taken) refl,
@@ -64,7 +65,8 @@ number-in-requires c κs = search needs
 
 returns-2 : tie.Need-returns-2
 unfolding uidOf
-returns-2 c = let v = c .before .before .before .before .before .before .before .before .before .before .args .v .now in
+returns-2 c =
+    let v = c .before .before .before .before .before .before .before .before .before .before .args .v .now in
     rw (
       c .number-in .ensures,
       take-all (length v - 4) (drop 4 v) (omega (arith, length-drop 4 v)),
@@ -78,7 +80,9 @@ value-if-requires-2 c κs = search needs
 
 returns-3 : tie.Need-returns-3
 unfolding uidOf
-returns-3 c = rw (c .value-if2 .ensures, ← (c .before .before .before .before .equal .ensures), ← (c .before .before .equal2 .ensures), c .before .if2 .left)
+returns-3 c =
+    let e = c .before .before in
+    rw (c .value-if2 .ensures, ← (e .before .before .equal .ensures), ← (e .equal2 .ensures), c .before .if2 .left)
 
 pub uid-of-spec : {M : Type 1} → statement M
 uid-of-spec =

@@ -30,28 +30,49 @@ uid-of-requires c κs = search needs
 
 returns-3 : tie.Need-returns-3
 unfolding valueOf
-returns-3 c = rw (c .uid-of .ensures, ne-eqb _ _ (c .before .before .before .if1 .left), ne-eqb _ _ (c .before .before .if2 .left), c .before .if3 .taken)
+returns-3 c =
+    let t3 = c .before in
+    let t2 = t3 .before in
+    let t1 = t2 .before in
+    rw (c .uid-of .ensures, ne-eqb _ _ (t1 .if1 .left), ne-eqb _ _ (t2 .if2 .left), t3 .if3 .taken)
 
 number-in-requires-2 : tie.Need-number-in-requires-2
 number-in-requires-2 c κs = search needs
 
 returns-4 : tie.Need-returns-4
 unfolding valueOf
-returns-4 c = rw (c .number-in2 .ensures, ne-eqb _ _ (c .before .before .before .before .if1 .left), ne-eqb _ _ (c .before .before .before .if2 .left), c .before .before .if3 .left, c .before .if4 .taken)
+returns-4 c =
+    let t4 = c .before in
+    let t3 = t4 .before in
+    let t2 = t3 .before in
+    let t1 = t2 .before in
+    rw (c .number-in2 .ensures, ne-eqb _ _ (t1 .if1 .left), ne-eqb _ _ (t2 .if2 .left), t3 .if3 .left, t4 .if4 .taken)
 
 time-of-requires : tie.Need-time-of-requires
 time-of-requires c κs = search needs
 
 returns-5 : tie.Need-returns-5
 unfolding valueOf
-returns-5 c = rw (c .time-of .ensures, ne-eqb _ _ (c .before .before .before .before .before .if1 .left), ne-eqb _ _ (c .before .before .before .before .if2 .left), c .before .before .before .if3 .left, c .before .before .if4 .left, c .before .if5 .taken)
+returns-5 c =
+    let t5 = c .before in
+    let t4 = t5 .before in
+    let t3 = t4 .before in
+    let t2 = t3 .before in
+    let t1 = t2 .before in
+    rw (c .time-of .ensures, ne-eqb _ _ (t1 .if1 .left), ne-eqb _ _ (t2 .if2 .left), t3 .if3 .left, t4 .if4 .left, t5 .if5 .taken)
 
 duration-of-requires : tie.Need-duration-of-requires
 duration-of-requires c κs = search needs
 
 returns-6 : tie.Need-returns-6
 unfolding valueOf
-returns-6 c = rw (c .duration-of .ensures, ne-eqb _ _ (c .before .before .before .before .before .if1 .left), ne-eqb _ _ (c .before .before .before .before .if2 .left), c .before .before .before .if3 .left, c .before .before .if4 .left, c .before .if5 .left)
+returns-6 c =
+    let t5 = c .before in
+    let t4 = t5 .before in
+    let t3 = t4 .before in
+    let t2 = t3 .before in
+    let t1 = t2 .before in
+    rw (c .duration-of .ensures, ne-eqb _ _ (t1 .if1 .left), ne-eqb _ _ (t2 .if2 .left), t3 .if3 .left, t4 .if4 .left, t5 .if5 .left)
 
 pub value-of-spec : {M : Type 1} → statement M
 value-of-spec =
