@@ -5,9 +5,10 @@ ghost use mathlib.Core.Bool.{false, cond};
 ghost use Prim.Native.Nat.{_+_, _<_, _≤_, min};
 ghost use lib.ListN.{set};
 ghost use Rattle.xml_model.specs.Bytes.{part};
-ghost use Rattle.xml_model.specs.State.{containerDone, closing};
+ghost use Rattle.xml_model.specs.Elements.{objectUidRole, inheritUidRole};
 ghost use Rattle.xml_model.specs.State.{idsIn, idPosition, idOf, newId, assetNamed, objectAlone, withTimer, flagOf, withFlag};
 ghost use Rattle.xml_model.specs.State.{withLimit, begun, referred, withIdref, withTimerOf, opening, stored, textDone, keyDone};
+ghost use Rattle.xml_model.specs.State.{containerDone, closing};
 use book::Limits;
 use book::MOST_TIMES;
 use book::blank_asset;
@@ -96,6 +97,7 @@ fn with_one_id(value: Range, mut g: Ids) -> Ids
     g
 }
 
+// An id, if there is one, is given for the first time.
 fn new_id(s: &[u8], value: Range, st: State) -> Done
     ensures { λ r. ⌜ r ≡ newId (now (s .entry)) value st ⌝ }
 {
@@ -109,6 +111,7 @@ fn new_id(s: &[u8], value: Range, st: State) -> Done
     accepted(with_ids(with_one_id(value, g), st))
 }
 
+// The number of the asset whose id the value is; 0 if there is none, or it is still open.
 fn asset_named(s: &[u8], g: Ids, value: Range) -> u16
     ensures { λ r. ⌜ r ≡ assetNamed (now (s .entry)) g value ⌝ }
 {
@@ -120,6 +123,7 @@ fn asset_named(s: &[u8], g: Ids, value: Range) -> u16
     0
 }
 
+// No limits yet, but the rights object's number.
 fn object_alone(x: u16) -> Limits
     ensures { λ r. ⌜ r ≡ objectAlone x ⌝ }
 {
@@ -179,6 +183,7 @@ fn with_flag(role: u8, l: Limits) -> u8
     added(f.accumulated, 32, l.flags)
 }
 
+// The limit of that role, with its flag.
 fn with_limit(role: u8, x: u32, l: Limits) -> Limits
     ensures { λ r. ⌜ r ≡ withLimit role x l ⌝ }
 {
@@ -279,8 +284,8 @@ fn with_timer_of(s: &[u8], value: Range, role: u8, st: State) -> Done
 }
 
 // The first tag of an element.
-// Rules out: an id given twice, an idref of an asset that is not closed yet, a timer over 1,000,000; an asset that keeps the key of
-// the one before it.
+// Rules out: an id taken that was given before, an idref of an asset that is still open, a kind that keeps the limits of the one
+// before it.
 pub fn opening(s: &[u8], t: Tag, role: u8, st: State) -> Done
     ensures { λ r. ⌜ r ≡ opening (now (s .entry)) t role st ⌝ }
 {
@@ -301,9 +306,9 @@ pub fn opening(s: &[u8], t: Tag, role: u8, st: State) -> Done
     with_timer_of(s, timer, role, w)
 }
 
-// A text value in its place.
+// A text value in its place. The fields of a uid have 16 bits.
 fn stored(role: u8, x: u32, st: State) -> State
-    requires { ⌜ (6 ≤ role → role ≤ 8 → x ≤ 65535) ⌝ }
+    requires { ⌜ (objectUidRole ≤ role → role ≤ inheritUidRole → x ≤ 65535) ⌝ }
     ensures { λ r. ⌜ r ≡ stored role x st ⌝ }
 {
     if role == VERSION {
@@ -326,6 +331,7 @@ fn stored(role: u8, x: u32, st: State) -> State
     with_limits(with_limit(role, x, l), st)
 }
 
+// The last tag of an element that holds a text.
 fn text_done(role: u8, v: &[u8], st: State) -> Done
     ensures { λ r. ⌜ r ≡ textDone role (now (v .entry)) st ⌝ }
 {
@@ -336,6 +342,7 @@ fn text_done(role: u8, v: &[u8], st: State) -> Done
     refused(41)
 }
 
+// The last tag of a KeyInfo: the asset has a key.
 fn key_done(st: State) -> State
     ensures { λ r. ⌜ r ≡ keyDone st ⌝ }
 {
@@ -344,6 +351,7 @@ fn key_done(st: State) -> State
     with_asset(a, st.assetid, st)
 }
 
+// The last tag of an element that holds elements.
 fn container_done(role: u8, st: State) -> Done
     ensures { λ r. ⌜ r ≡ containerDone role st ⌝ }
 {

@@ -10,6 +10,7 @@ use lib.Dec.{leb}
 use borrow.Author.Tests.{leb-true}
 use Rattle.numbers.proofs.Tests.{on-test, on-same, and-right}
 use Rattle.model.specs.Book.{between}
+use Rattle.xml_model.specs.Elements.{objectUidRole, assetUidRole, inheritUidRole}
 use Rattle.xml_model.specs.Values.{valueIf, numberOf, isNumber, numberIn, uidOf, valueOf}
 use Rattle.xml_model.specs.State.{textDone}
 use borrow.Author.Needs.{needs}
@@ -30,11 +31,11 @@ uid-fits v = on-test (same (take 4 v) (99 ∷ 105 ∷ 100 ∷ 58 ∷ []) || same
     (λ e. rw e (number-fits (drop 4 v)))
     (λ e. rw e (omega arith))
 
-value-fits : (role : ℕ) (v : List ℕ) → 6 ≤ role → role ≤ 8 → valueOf role v .number ≤ 65535
+value-fits : (role : ℕ) (v : List ℕ) → objectUidRole ≤ role → role ≤ inheritUidRole → valueOf role v .number ≤ 65535
 unfolding valueOf
-value-fits role v lo hi = on-same role 6 (λ e. rw e (number-fits v)) (λ a.
-    on-same role 7 (λ e. rw e (uid-fits v)) (λ b.
-    let e : role ≡ 8 = omega (arith, a, b) in
+value-fits role v lo hi = on-same role objectUidRole (λ e. rw e (number-fits v)) (λ a.
+    on-same role assetUidRole (λ e. rw e (uid-fits v)) (λ b.
+    let e : role ≡ inheritUidRole = omega (arith, a, b) in
     rw e (uid-fits v)))
 
 value-of-requires : tie.Need-value-of-requires
