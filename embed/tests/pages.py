@@ -1,5 +1,6 @@
-"""Checks docs/FORMAT.md and embed/rights.h against the second program (oracle/rights.py): each table of fields with its offsets and
-widths, the lengths, and the numbers that the header names. Prints nothing if everything agrees."""
+"""Checks docs/FORMAT.md and embed/rights.h against the second program (oracle/rights.py, xml_rights.py): each table of fields with its
+offsets and widths, the lengths, the XML elements in their order, and the numbers that the header names. Prints nothing if everything
+agrees."""
 
 import re
 import sys
@@ -8,6 +9,7 @@ from pathlib import Path
 ROOT = Path(__file__).resolve().parents[2]
 sys.path.insert(0, str(ROOT / "oracle"))
 import rights  # noqa: E402
+import xml_rights  # noqa: E402
 
 RECORD_FIELDS = [("player", 1), ("number", 4), ("operation", 1), ("asset", 2), ("kind", 1), ("time", 4)]
 HEADER_FIELDS = [("mark", 3), ("version", 2), ("assets", 1), ("entries", 1), ("time", 4)]
@@ -61,6 +63,24 @@ def page_example(page):
     must(len(lines) == 6 and image.startswith(shown), "the example of an image")
 
 
+def page_xml(page):
+    """The table of XML elements: each element that holds others, with their names in order, and the numbers behind it."""
+    part = page.partition("## XML rights objects")[2]
+    rows = dict(re.findall(r"^\| (.+?) \| (.*?) \|", part, re.M))
+    names = {shape: name.decode() for shape, name in xml_rights.NAMES.items()}
+    for shape, line in xml_rights.LINES.items():
+        title = "a kind" if shape in xml_rights.KINDS else f"`{names[shape]}`" + " in an agreement" * (shape == "asset")
+        children = [names[word.rstrip("?*+")] for word in line.split()]
+        shown = re.findall(r"`([a-z-]+:[A-Za-z-]+)`", rows.get(title, ""))
+        must(shape == "reference" or [name for name in shown if name != "o-ex:idref"] == children, f"the row of {title}")
+    for shape in xml_rights.TEXTS | {"KeyInfo"}:
+        must(f"`{names[shape]}`" in part, f"{names[shape]} on the page")
+    numbers = (xml_rights.ELEMENTS, xml_rights.DEPTH, xml_rights.MOST, xml_rights.GREATEST_NUMBER, xml_rights.GREATEST_COUNT,
+               xml_rights.GREATEST_TIMER, xml_rights.GREATEST_DURATION, xml_rights.ELEMENTS + 1, xml_rights.MOST + 1)
+    for number in numbers:
+        must(re.search(rf"(?<![0-9,])({number}|{number:,})(?![0-9])", part), f"the number {number:,} on the page")
+
+
 def header_numbers(header):
     """The header's enums: each name with its number, one more than the previous if none is given."""
     numbers = {}
@@ -105,6 +125,7 @@ def main():
     numbers = header_numbers((ROOT / "embed/rights.h").read_text())
     page_tables(page)
     page_example(page)
+    page_xml(page)
     header_positions(numbers)
     header_words(numbers)
 

@@ -2,4 +2,5 @@
 -- agree with one another.
 pub mod Pieces
 pub mod Same
+pub mod Started
 pub mod Stands

@@ -63,7 +63,7 @@ run-kept b s l y h = final-kept b (recordsIn s) l y (records-bytes s h (recordCo
 -- ## The next call
 
 -- the image written to the start of a buffer that has room is the image found there, by its length
-image-back : (b : Book) (buffer : List ℕ) → lengthOf b ≤ length buffer → imageIn (writeBuffer b buffer) (lengthOf b) ≡ image b
+pub image-back : (b : Book) (buffer : List ℕ) → lengthOf b ≤ length buffer → imageIn (writeBuffer b buffer) (lengthOf b) ≡ image b
 unfolding imageIn writeBuffer
 image-back b buffer h =
     let long : lengthOf b ≤ length (image b ++ drop (lengthOf b) buffer) =
