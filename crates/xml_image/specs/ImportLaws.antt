@@ -1,14 +1,12 @@
 -- One law for each return of the code.
 use Prim.Native.Nat.{ℕ}
-use mathlib.Core.Path.{_≡_, refl, sym, ap, _∙_}
+use mathlib.Core.Path.{_≡_, refl}
 use mathlib.Core.Bool.{Bool, true, false, cond}
 use mathlib.Core.List.{List}
 use native.Mathlib.Omega.{arith}
 use lib.ListN.{length}
-use lib.Dec.{eqb, leb}
+use lib.Dec.{leb}
 use borrow.Author.Tests.{eq-eqb, ne-eqb}
-use Rattle.numbers.proofs.Tests.{on-test}
-use Rattle.book.specs.declared.Book.{Book}
 use Rattle.model.specs.Image.{lengthOf, writeAnswer, writeBuffer}
 use Rattle.model.proofs.Image.RoundTrip.{demand2}
 use Rattle.xml_model.specs.declared.Reading.{Reading}

@@ -1,10 +1,9 @@
 -- Order 1 in other words (`specs/Import`), proved. Its premises are met: `Examples.Accepted` has accepted texts, `Examples.Refused`
 -- refused ones with the places of their faults.
-use Prim.Native.Nat.{ℕ, _≤_}
+use Prim.Native.Nat.{ℕ}
 use mathlib.Core.Path.{_≡_}
-use mathlib.Core.List.{List, _++_}
-use lib.ListN.{length, take}
-use Rattle.xml_model.specs.Import.{Agree, Import}
+use mathlib.Core.List.{List}
+use Rattle.xml_model.specs.Import.{Import}
 use Rattle.xml_model.specs.Text.{progressOf, readingOf}
 use Rattle.xml_model.proofs.Legal.{reading-fresh, reading-legal, reading-typed, reading-image, reading-demand3, reading-code}
 use Rattle.xml_model.proofs.Legal.{reading-most, refused-nothing}

@@ -1,32 +1,34 @@
 -- A fresh and legal book that gets one asset more, or entries for one kind more, is fresh and legal.
 use Prim.Native.Nat.{ℕ, zero, suc, _+_, _≤_, _<_}
 use mathlib.Core.Path.{_≡_, refl, sym, ap, _∙_, subst}
-use mathlib.Core.Bool.{Bool, true, false, cond, not, _&&_, _||_}
+use mathlib.Core.Bool.{Bool, true, false, cond}
 use mathlib.Core.List.{List, [], _∷_}
 use native.Mathlib.Omega.{arith}
 use lib.ListN.{length, getD, length-set}
 use lib.Seq.{getD-set-same, getD-set-other}
-use lib.Dec.{eqb, leb, ltb}
+use lib.Dec.{eqb, leb}
 use borrow.Author.Tests.{eqb-true, eq-eqb, ltb-true, lt-ltb, leb-true}
 use Rattle.numbers.specs.Count.{first, sum, one}
 use Rattle.numbers.specs.Fields.{Fit}
 use Rattle.numbers.proofs.FieldLaws.{zeros-fit}
 use Rattle.numbers.proofs.Loops.{first-found}
 use Rattle.numbers.proofs.TableLaws.{below-or-not}
-use Rattle.numbers.proofs.Tests.{on-test, on-same, eqb-self, and-right, and-both, Pass, row-passed, all-below}
+use Rattle.numbers.proofs.Tests.{on-same, eqb-self, and-right, and-both, Pass, row-passed, all-below}
 use Rattle.book.specs.declared.Asset.{Asset}
 use Rattle.book.specs.declared.Limits.{Limits}
 use Rattle.book.specs.declared.Entry.{Entry}
 use Rattle.book.specs.declared.Player.{Player}
 use Rattle.book.specs.declared.Book.{Book}
 use Rattle.book.specs.Blank.{noAsset, noMeters, noEntry, noPlayer}
-use Rattle.model.specs.Book.{assetAt, limitsAt, metersAt, playerAt, assetsIn, entriesIn, assetPosition, inBook, between, flagged, limit}
-use Rattle.model.specs.Book.{assetLegal, assetsLegal, rangesLegal, limitsLegal, entriesLegal, playerBlank, playerLegal, momentary}
-use Rattle.model.specs.Book.{countFlag, timedFlag, startFlag, endFlag, intervalFlag, accumulatedFlag, leastLimit, mostTimes, mostSeconds}
-use Rattle.model.specs.Book.{latestTime, opens, lasts, openUses, openSeconds, ruleBroken, Legal, Fresh}
+use Rattle.model.specs.Book.{assetAt, limitsAt, metersAt, playerAt, assetsIn, entriesIn, assetPosition, inBook, between, limit}
+use Rattle.model.specs.Book.{assetLegal, assetsLegal, limitsLegal, entriesLegal, playerBlank, playerLegal}
+use Rattle.model.specs.Book.{opens, lasts, openUses, openSeconds, ruleBroken, Legal, Fresh}
 use Rattle.model.specs.Image.{newest, assetWidths, assetValues, entryWidths, entryValues, playerWidths, Typed}
+use Rattle.model.proofs.Ledger.WellFormed.{ranges-tests, limits-tests}
+use Rattle.model.proofs.Demand3.Suitable.{first-found as first-holds}
+use Rattle.model.proofs.Legal.Renewed.{unused-meters}
 use Rattle.model.proofs.Legal.Facts.{all-of, sum-same}
-use Rattle.model.proofs.Legal.Rules.{lawfulIn, playerPasses, Counted, MeterOk, meter-to, stages-from, stages-to, entries-counted}
+use Rattle.model.proofs.Legal.Rules.{lawfulIn, playerPasses, meter-to, stages-from, stages-to, entries-counted}
 use Rattle.xml_model.specs.declared.State.{State}
 use Rattle.xml_model.specs.State.{withOneAsset, howMany, assetFor, limitsFor, forAsset, kindLegal, filled, withEntries}
 
@@ -46,14 +48,6 @@ first-kept : (f g : ℕ → Bool) (n : ℕ) → ((i : ℕ) → i < n → f i ≡
 unfolding first
 first-kept f g n h l = rw (← first-same f g n h, lt-ltb (first f n) n l)
 
-first-holds : (f : ℕ → Bool) (n : ℕ) → first f n < n → f (first f n) ≡ true
-unfolding first
-first-holds f zero h = absurd (omega arith)
-first-holds f (suc n) h =
-    on-test (ltb (first f n) n)
-    (λ q. rw q (first-holds f n (ltb-true (first f n) n q)))
-    (λ q. on-test (f n) (λ r. rw (q, r) r) (λ r. let z : suc n < suc n = rw (q, r) at h in absurd (omega arith)))
-
 -- ## The rules of a fresh book
 
 -- players and meters of a fresh book meet their rules, so that those of assets and entries are left
@@ -66,20 +60,6 @@ unfolding openSeconds opens sum
 no-seconds b h i =
     sum-same (λ p. cond (opens i (playerAt (b .players) p .current)) (lasts (playerAt (b .players) p .current)) 0) (λ p. 0) 16
     (λ p l. rw (h .players p))
-
-unused-counted : {f : Bool} {z : ℕ} → Counted f z 0 0
-unused-counted = record { within = λ q. omega arith; covers = λ q. omega arith; unused = λ q. refl }
-
-unused-meters : (T : ℕ) (l : Limits) → MeterOk T l noMeters 0 0
-unused-meters T l = record {
-  count = unused-counted;
-  timed = unused-counted;
-  seconds = unused-counted;
-  mark = omega arith;
-  unstarted = λ q. refl;
-  unset = λ q. refl;
-  past = omega arith;
-}
 
 blank-passes : (b : Book) → playerPasses b noPlayer ≡ true
 unfolding playerLegal playerBlank
@@ -101,13 +81,6 @@ asset-tests : (ats : List Asset) (n i : ℕ) (a : Asset) → assetLegal ats n i 
     → (between 1 65535 (a .number) ≡ true) × Pass (eqb (assetPosition ats n (a .number)) i ∷ leb (a .key) 1 ∷ [])
 unfolding assetLegal
 asset-tests ats n i a e = row-passed _ (_ ∷ _ ∷ []) e
-
-limits-tests : (known : Bool) (l : Limits) → limitsLegal known l ≡ true → (between 1 65535 (l .object) ≡ true)
-    × Pass (known ∷ between 1 5 (l .kind) ∷ leb (l .flags) 63 ∷ rangesLegal l
-    ∷ (not (flagged startFlag l && flagged endFlag l) || leb (l .start) (l .end)) ∷
-    (not (momentary (l .kind)) || (not (flagged accumulatedFlag l) && eqb (l .timer) 0)) ∷ [])
-unfolding limitsLegal
-limits-tests known l e = row-passed _ (_ ∷ _ ∷ _ ∷ _ ∷ _ ∷ _ ∷ []) e
 
 module _ (b : Book) (h : Legal b) where
   assets-counted : assetsIn b ≡ b .assetcount
@@ -320,14 +293,6 @@ limit-most false a z v e = omega (arith, eqb-true v 0 e)
 
 between-most : (a z v : ℕ) → between a z v ≡ true → v ≤ z
 between-most a z v e = leb-true v z (and-right (leb a v) (leb v z) e)
-
-ranges-tests : (l : Limits) → rangesLegal l ≡ true → (limit (flagged countFlag l) leastLimit mostTimes (l .count) ≡ true)
-    × Pass (limit (flagged timedFlag l) leastLimit mostTimes (l .timed) ∷ limit (flagged timedFlag l) 0 mostTimes (l .timer)
-    ∷ limit (flagged startFlag l) 0 latestTime (l .start) ∷ limit (flagged endFlag l) 0 latestTime (l .end)
-    ∷ limit (flagged intervalFlag l) leastLimit mostSeconds (l .interval)
-    ∷ limit (flagged accumulatedFlag l) leastLimit mostSeconds (l .accumulated) ∷ [])
-unfolding rangesLegal
-ranges-tests l e = row-passed _ (_ ∷ _ ∷ _ ∷ _ ∷ _ ∷ _ ∷ []) e
 
 limits-fit : (known : Bool) (l : Limits) → limitsLegal known l ≡ true → Small (l .asset)
     → Fit (entryWidths newest) (entryValues (record { limits = l; meters = noMeters }))

@@ -12,7 +12,7 @@ use Rattle.xml_model.specs.Repeat.{Next, stop, more}
 use Rattle.xml_model.specs.Bytes.{byteAt, part, isNameStart, spaces, names, texts, runEnd, isMark, stuck, looked}
 use Rattle.xml_model.specs.Tags.{stuckAttribute, valueAt, equalsAt, attributeAt, given, tailed, stuckTail, emptyTail}
 use Rattle.xml_model.specs.Tags.{attributeStep, tailStep, tailOf, stuckTag, endTag, startTag, tagAt, unitAt}
-use Rattle.xml_model.specs.Import.{Code, accepted, not-formed, not-accepted, too-much}
+use Rattle.xml_model.specs.Import.{Code, accepted, not-formed, not-accepted}
 use Rattle.xml_model.proofs.Repeats.{repeat-ind}
 
 -- what holds of both values of a choice

@@ -1,8 +1,8 @@
 -- Whatever an element does, the book so far is fresh and legal, and a fault leaves nothing.
-use Prim.Native.Nat.{ℕ, _+_, _-_, _≤_, _<_}
+use Prim.Native.Nat.{ℕ, _+_, _-_, _≤_}
 use mathlib.Core.Path.{_≡_, refl}
 use mathlib.Core.Bool.{not, _&&_, _||_}
-use mathlib.Core.List.{List, [], _∷_}
+use mathlib.Core.List.{List}
 use native.Mathlib.Omega.{arith}
 use native.Mathlib.Nat.{lt-of-le-of-lt}
 use lib.ListN.{drop, take}
@@ -20,7 +20,7 @@ use Rattle.xml_model.specs.declared.Value.{Value}
 use Rattle.xml_model.specs.declared.Tag.{Tag}
 use Rattle.xml_model.specs.declared.State.{State}
 use Rattle.xml_model.specs.declared.Done.{Done}
-use Rattle.xml_model.specs.Bytes.{part, bare, same}
+use Rattle.xml_model.specs.Bytes.{bytes, part, bare, same}
 use Rattle.xml_model.specs.Tags.{look}
 use Rattle.xml_model.specs.Elements.{idBytes, idrefBytes, timerBytes, versionRole, objectUidRole, assetUidRole, inheritUidRole}
 use Rattle.xml_model.specs.Elements.{assetRole, keyInfoRole, skippedRole, permissionRole, referenceRole, timedCountRole}
@@ -163,7 +163,7 @@ opening-sound s t role st g =
 
 -- ## Closing
 
-number-most : (least most : ℕ) (v : List ℕ) → numberIn least most v .number ≤ most
+pub number-most : (least most : ℕ) (v : List ℕ) → numberIn least most v .number ≤ most
 unfolding numberIn valueIf
 number-most least most v =
     let good = isNumber v && between least most (numberOf v) in
@@ -172,11 +172,11 @@ number-most least most v =
     (and-right (isNumber v) (between least most (numberOf v)) q)))
     (λ q. omega arith)
 
-uid-small : (v : List ℕ) → Small (uidOf v .number)
+pub uid-small : (v : List ℕ) → Small (uidOf v .number)
 unfolding uidOf valueIf
 uid-small v =
     on-cond (λ (x : Value). Small (x .number))
-    (same (take 4 v) (99 ∷ 105 ∷ 100 ∷ 58 ∷ []) || same (take 4 v) (112 ∷ 105 ∷ 100 ∷ 58 ∷ []))
+    (same (take 4 v) (bytes "cid:") || same (take 4 v) (bytes "pid:"))
     _ _
     (λ q. lt-of-le-of-lt (number-most _ _ (drop 4 v)) (omega arith))
     (λ q. omega arith)

@@ -1,7 +1,7 @@
 -- Laws of attributes, of tags and of units: where an accepted one lies, and what a turn of each of their loops does.
-use Prim.Native.Nat.{ℕ, suc, _+_, _-_, _<_, _≤_}
+use Prim.Native.Nat.{ℕ, _+_, _-_, _<_, _≤_}
 use mathlib.Core.Path.{_≡_, refl, sym, ap, _∙_}
-use mathlib.Core.Bool.{Bool, true, false, cond, _&&_, _||_, not, false≢true}
+use mathlib.Core.Bool.{Bool, true, false, cond, _&&_, _||_, not}
 use mathlib.Core.List.{List}
 use native.Mathlib.Omega.{arith}
 use lib.ListN.{length}
@@ -13,7 +13,7 @@ use Rattle.xml_model.specs.declared.Tail.{Tail}
 use Rattle.xml_model.specs.declared.Tag.{Tag}
 use Rattle.xml_model.specs.declared.Range.{Range}
 use Rattle.xml_model.specs.Repeat.{Next, stop, more, repeat}
-use Rattle.xml_model.specs.Bytes.{byteAt, part, same, isNameStart, spaces, names, texts, runEnd, isMark, stuck, looked}
+use Rattle.xml_model.specs.Bytes.{byteAt, part, same, isNameStart, spaces, names, texts, runEnd, isMark}
 use Rattle.xml_model.specs.Tags.{stuckAttribute, valueAt, equalsAt, attributeAt, givenStep, given, tailed, stuckTail, emptyTail, attributeStep, tailStep, tailOf, lookStep, look, stuckTag, endTag, startTag, tagAt, unitAt}
 use Rattle.xml_model.proofs.Repeats.{repeat-stop, repeat-more, repeat-ind}
 use Rattle.xml_model.proofs.Runs.{inside, name-inside, quote-small, run-from, run-within, stuck-pos}

@@ -7,7 +7,7 @@
 --     Name     = N0 N*          N0 = A-Z a-z _ : and bytes from 128 on          N = N0, 0-9, - and .
 --     S        = space, tab, line feed, carriage return
 --     C        = S and bytes from 32 on, except < and &
-use Prim.Native.Nat.{ℕ, zero, suc, _+_, _-_}
+use Prim.Native.Nat.{ℕ, suc, _+_, _-_}
 use Prim.Native.String as N
 use Prim.Native.Char.{code}
 use mathlib.Core.Bool.{Bool, true, false, cond, _&&_, _||_, not}

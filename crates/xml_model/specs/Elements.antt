@@ -1,6 +1,6 @@
 -- The elements of document 004 that order 1 accepts: their names, their roles, and which may hold which, "with document 004's
 -- prefixes and child order".
-use Prim.Native.Nat.{ℕ, zero, suc, _+_, _*_}
+use Prim.Native.Nat.{ℕ, suc, _+_, _*_}
 use mathlib.Core.Bool.{Bool, cond, _&&_, _||_}
 use mathlib.Core.List.{List, [], _∷_}
 use lib.ListN.{getD}

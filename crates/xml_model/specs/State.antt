@@ -1,9 +1,9 @@
 -- What an element does to what has been read so far: order 1, where its first tag is read ("opening") and where its last tag is
 -- read ("closing"). A step gives the state after it, or the code of a fault.
 use Prim.Native.Nat.{ℕ, zero, suc, _+_, _-_, min}
-use mathlib.Core.Bool.{Bool, true, false, cond, not, _&&_, _||_}
-use mathlib.Core.List.{List, [], _∷_}
-use lib.ListN.{length, getD, set, replicate}
+use mathlib.Core.Bool.{Bool, cond, not, _&&_, _||_}
+use mathlib.Core.List.{List}
+use lib.ListN.{getD, set, replicate}
 use lib.Dec.{eqb, leb, ltb}
 use Rattle.numbers.specs.Count.{all, first}
 use Rattle.book.specs.declared.Asset.{Asset}
@@ -14,7 +14,6 @@ use Rattle.book.specs.Blank.{noAsset, noLimits, noMeters, noBook}
 use Rattle.model.specs.Book.{assetAt, assetsIn, entriesIn, inBook, flagged, assetLegal, limitsLegal, mostTimes}
 use Rattle.model.specs.Book.{countFlag, timedFlag, startFlag, endFlag, intervalFlag, accumulatedFlag}
 use Rattle.xml_model.specs.declared.Range.{Range}
-use Rattle.xml_model.specs.declared.Value.{Value}
 use Rattle.xml_model.specs.declared.Tag.{Tag}
 use Rattle.xml_model.specs.declared.Id.{Id}
 use Rattle.xml_model.specs.declared.Ids.{Ids}

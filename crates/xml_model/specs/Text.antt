@@ -1,7 +1,7 @@
 -- Order 1: what a text is answered. Units are judged from left to right, with the open elements on a stack: "the first tag at fault
 -- decides". In one unit the faults are judged "in that order": 40, then 41, then 42.
 use Prim.Native.Nat.{ℕ, _+_, _-_}
-use mathlib.Core.Bool.{Bool, true, false, cond, not, _&&_, _||_}
+use mathlib.Core.Bool.{cond, not, _||_}
 use mathlib.Core.List.{List, [], _∷_}
 use lib.ListN.{length}
 use lib.Dec.{eqb, leb, ltb}

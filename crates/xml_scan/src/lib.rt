@@ -6,7 +6,7 @@ use xml_model::Tag;
 use xml_model::Tail;
 ghost use mathlib.Core.Path.{_≡_};
 ghost use mathlib.Core.Bool.{cond};
-ghost use Prim.Native.Nat.{ℕ, _+_, _-_, _≤_, _<_};
+ghost use Prim.Native.Nat.{_+_, _-_, _≤_, _<_};
 ghost use lib.ListN.{length};
 ghost use Rattle.xml_model.specs.Bytes.{byteAt, part, same, isNameStart, inClass, runEnd, bare, isMark, stuck, looked};
 ghost use Rattle.xml_model.specs.Tags.{stuckAttribute, valueAt, equalsAt, attributeAt, given, stuckTail, emptyTail, tailOf, look};

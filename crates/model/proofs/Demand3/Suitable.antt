@@ -31,7 +31,7 @@ pub illegal-or-parent : (a : Asset) → eqb (a .key) 0 ≡ true → isIllegal a 
 unfolding isIllegal isParent
 illegal-or-parent a h = rw h
 
-first-found : (f : ℕ → Bool) (n : ℕ) → first f n < n → f (first f n) ≡ true
+pub first-found : (f : ℕ → Bool) (n : ℕ) → first f n < n → f (first f n) ≡ true
 unfolding first
 first-found f zero h = absurd (omega arith)
 first-found f (suc n) h =

@@ -26,6 +26,7 @@ use Rattle.book.specs.declared.Gate.the-variants.{Refuse, Resend, Take}
 use Rattle.book.specs.Blank.{noLimits}
 use Rattle.model.specs.Book.{assetAt, limitsAt, assetsIn, entriesIn, latestTime, assetPosition, inBook, between, flagged, momentary}
 use Rattle.model.specs.Book.{limit, assetLegal, assetsLegal, rangesLegal, limitsLegal, entriesLegal, ruleBroken, Legal}
+use Rattle.model.specs.Book.{countFlag, timedFlag, startFlag, endFlag, intervalFlag, accumulatedFlag, leastLimit, mostTimes, mostSeconds}
 use Rattle.model.specs.Record.{kindNumber}
 use Rattle.model.specs.Meters.{isOn, shut, settled}
 use Rattle.model.specs.Choice.{Catalog, catalogOf, usable, suits, asks, anyOf, Choice, nobody, chosen, choose}
@@ -49,18 +50,18 @@ limit-on : (f : Bool) (a z v : ℕ) → limit f a z v ≡ true → f ≡ true �
 unfolding limit
 limit-on f a z v e q = rw q at e
 
-ranges-tests : (l : Limits) → rangesLegal l ≡ true → (limit (flagged 1 l) 1 1000000 (l .count) ≡ true)
-    × Pass (limit (flagged 2 l) 1 1000000 (l .timed) ∷ limit (flagged 2 l) 0 1000000 (l .timer) ∷ limit (flagged 4 l) 0 latestTime
-    (l .start)
-    ∷ limit (flagged 8 l) 0 latestTime (l .end) ∷ limit (flagged 16 l) 1 100000000 (l .interval) ∷ limit (flagged 32 l) 1 100000000
-    (l .accumulated) ∷ [])
+pub ranges-tests : (l : Limits) → rangesLegal l ≡ true → (limit (flagged countFlag l) leastLimit mostTimes (l .count) ≡ true)
+    × Pass (limit (flagged timedFlag l) leastLimit mostTimes (l .timed) ∷ limit (flagged timedFlag l) 0 mostTimes (l .timer)
+    ∷ limit (flagged startFlag l) 0 latestTime (l .start) ∷ limit (flagged endFlag l) 0 latestTime (l .end)
+    ∷ limit (flagged intervalFlag l) leastLimit mostSeconds (l .interval)
+    ∷ limit (flagged accumulatedFlag l) leastLimit mostSeconds (l .accumulated) ∷ [])
 unfolding rangesLegal
 ranges-tests l e = row-passed _ (_ ∷ _ ∷ _ ∷ _ ∷ _ ∷ _ ∷ []) e
 
-limits-tests : (known : Bool) (l : Limits) → limitsLegal known l ≡ true → (between 1 65535 (l .object) ≡ true)
+pub limits-tests : (known : Bool) (l : Limits) → limitsLegal known l ≡ true → (between 1 65535 (l .object) ≡ true)
     × Pass (known ∷ between 1 5 (l .kind) ∷ leb (l .flags) 63 ∷ rangesLegal l
-    ∷ (not (flagged 4 l && flagged 8 l) || leb (l .start) (l .end)) ∷
-    (not (momentary (l .kind)) || (not (flagged 32 l) && eqb (l .timer) 0)) ∷ [])
+    ∷ (not (flagged startFlag l && flagged endFlag l) || leb (l .start) (l .end)) ∷
+    (not (momentary (l .kind)) || (not (flagged accumulatedFlag l) && eqb (l .timer) 0)) ∷ [])
 unfolding limitsLegal
 limits-tests known l e = row-passed _ (_ ∷ _ ∷ _ ∷ _ ∷ _ ∷ _ ∷ []) e
 

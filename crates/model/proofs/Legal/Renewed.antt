@@ -26,7 +26,7 @@ use Rattle.model.proofs.Demand3.Proof.{demand3}
 unused-counted : {f : Bool} {z : ℕ} → Counted f z 0 0
 unused-counted = record { within = λ q. omega arith; covers = λ q. omega arith; unused = λ q. refl }
 
-unused-meters : (T : ℕ) (l : Limits) → MeterOk T l noMeters 0 0
+pub unused-meters : (T : ℕ) (l : Limits) → MeterOk T l noMeters 0 0
 unused-meters T l = record {
   count = unused-counted;
   timed = unused-counted;

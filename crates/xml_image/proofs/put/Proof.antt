@@ -1,5 +1,5 @@
 -- `xml_image::put` meets its contract, by a law for each return.
-use mathlib.Core.Path.{_≡_, sym, ap, _∙_}
+use mathlib.Core.Path.{sym, _∙_}
 use borrow.Author.Needs.{needs}
 use Rattle.xml_image.specs.ImportLaws.{refused, refused-buffer, buffer, short, whole}
 use Rattle.xml_image.proofs.put.Statement.{statement}

@@ -1,10 +1,9 @@
 -- Accepted texts and their books.
-use Prim.Native.Nat.{ℕ, _-_}
+use Prim.Native.Nat.{ℕ}
 use mathlib.Core.Path.{_≡_, refl}
 use mathlib.Core.List.{List, [], _∷_, _++_}
 use lib.ListN.{take}
 use Rattle.book.specs.declared.Asset.{Asset}
-use Rattle.book.specs.declared.Limits.{Limits}
 use Rattle.book.specs.declared.Entry.{Entry}
 use Rattle.xml_model.specs.declared.Reading.{Reading}
 use Rattle.xml_model.specs.Bytes.{bytes}

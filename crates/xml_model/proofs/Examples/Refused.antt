@@ -3,15 +3,14 @@ use Prim.Native.Nat.{ℕ, zero, suc}
 use mathlib.Core.Path.{_≡_, refl}
 use mathlib.Core.List.{List, [], _∷_, _++_}
 use lib.ListN.{replicate}
-use Rattle.book.specs.declared.Asset.{Asset}
 use Rattle.book.specs.declared.Book.{Book}
-use Rattle.book.specs.Blank.{noAsset, noEntry, noPlayer}
+use Rattle.book.specs.Blank.{noEntry, noPlayer}
 use Rattle.numbers.specs.Count.{listed}
 use Rattle.xml_model.specs.Bytes.{bytes}
 use Rattle.xml_model.specs.Tags.{unitAt}
 use Rattle.xml_model.specs.Elements.{skippedRole}
 use Rattle.xml_model.specs.Text.{frame, opened, progressOf, readingOf}
-use Rattle.xml_model.specs.State.{blank, withElements, withAsset, withReferences, withLimits, withBook, objectAlone, counted, assetDone, kindDone}
+use Rattle.xml_model.specs.State.{blank, withElements, withAsset, withLimits, withBook, objectAlone, counted, assetDone, kindDone}
 use Rattle.xml_model.proofs.Examples.Computes.{reading-run}
 
 -- the answer to each text

@@ -1,42 +1,23 @@
 -- `xml_state::text_done` meets its contract. What a uid stands for fits its field.
-use mathlib.Core.Bool.{_&&_, _||_}
-use mathlib.Core.List.{List, [], _∷_}
-use lib.ListN.{take, drop}
-use Rattle.xml_model.specs.Bytes.{same}
+use mathlib.Core.List.{List}
 use mathlib.Core.Path.{_≡_}
 use Prim.Native.Nat.{ℕ, _≤_}
 use native.Mathlib.Omega.{arith}
-use lib.Dec.{leb}
-use borrow.Author.Tests.{leb-true}
-use Rattle.numbers.proofs.Tests.{on-test, on-same, and-right}
-use Rattle.model.specs.Book.{between}
+use Rattle.numbers.proofs.Tests.{on-same}
 use Rattle.xml_model.specs.Elements.{objectUidRole, assetUidRole, inheritUidRole}
-use Rattle.xml_model.specs.Values.{valueIf, numberOf, isNumber, numberIn, uidOf, valueOf}
+use Rattle.xml_model.specs.Values.{valueOf}
 use Rattle.xml_model.specs.State.{textDone}
 use borrow.Author.Needs.{needs}
+use Rattle.xml_model.proofs.LegalState.{number-most, uid-small}
 use Rattle.xml_state.proofs.text_done.Statement.{statement}
 use Rattle.xml_state.proofs.text_done.Tie as tie
 
-number-fits : (v : List ℕ) → numberIn 1 65535 v .number ≤ 65535
-unfolding numberIn valueIf
-number-fits v =
-    let n = numberOf v in
-    on-test (isNumber v && between 1 65535 n)
-    (λ e. rw e (leb-true n 65535 (and-right (leb 1 n) (leb n 65535) (and-right (isNumber v) (between 1 65535 n) e))))
-    (λ e. rw e (omega arith))
-
-uid-fits : (v : List ℕ) → uidOf v .number ≤ 65535
-unfolding uidOf valueIf
-uid-fits v = on-test (same (take 4 v) (99 ∷ 105 ∷ 100 ∷ 58 ∷ []) || same (take 4 v) (112 ∷ 105 ∷ 100 ∷ 58 ∷ []))
-    (λ e. rw e (number-fits (drop 4 v)))
-    (λ e. rw e (omega arith))
-
 value-fits : (role : ℕ) (v : List ℕ) → objectUidRole ≤ role → role ≤ inheritUidRole → valueOf role v .number ≤ 65535
 unfolding valueOf
-value-fits role v lo hi = on-same role objectUidRole (λ e. rw e (number-fits v)) (λ a.
-    on-same role assetUidRole (λ e. rw e (uid-fits v)) (λ b.
+value-fits role v lo hi = on-same role objectUidRole (λ e. rw e (number-most 1 65535 v)) (λ a.
+    on-same role assetUidRole (λ e. rw e (omega (arith, uid-small v))) (λ b.
     let e : role ≡ inheritUidRole = omega (arith, a, b) in
-    rw e (uid-fits v)))
+    rw e (omega (arith, uid-small v))))
 
 value-of-requires : tie.Need-value-of-requires
 value-of-requires c κs = search needs
