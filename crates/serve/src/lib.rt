@@ -42,7 +42,7 @@ fn read_behind(input: &mut [u8], kept: usize) -> isize
 fn print_first(out: &[u8], n: usize) -> bool
     requires { ⌜ n ≤ length (now out) ⌝ }
 {
-    stream::send_first(1, b"standard output", out, n)
+    stream::send(1, b"standard output", &out[..n])
 }
 
 // Answers each read until the input ends. An incomplete record is kept and completed by the next read.
