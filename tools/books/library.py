@@ -103,7 +103,7 @@ def open_records(path):
 
 def build(*programs):
     if older(LIBRARY, (ROOT / "crates").glob("*/src/*.rt")):
-        build_step("the library that answers, about 5 minutes on a fresh machine, or 2 where the run program is built",
+        build_step("the library that answers, about 6 minutes on a fresh machine, or 3 where the run program is built",
                    "the command of the Rattle kit", ["rt", "staticlib", "embed"])
     for name in programs:
         source, made = ROOT / "tools" / f"{name}.c", MADE / f"{name}.{os.getpid()}"
