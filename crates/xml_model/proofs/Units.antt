@@ -14,7 +14,8 @@ use Rattle.xml_model.specs.declared.Tag.{Tag}
 use Rattle.xml_model.specs.declared.Range.{Range}
 use Rattle.xml_model.specs.Repeat.{Next, stop, more, repeat}
 use Rattle.xml_model.specs.Bytes.{byteAt, part, same, isNameStart, spaces, names, texts, runEnd, isMark}
-use Rattle.xml_model.specs.Tags.{stuckAttribute, valueAt, equalsAt, attributeAt, givenStep, given, tailed, stuckTail, emptyTail, attributeStep, tailStep, tailOf, lookStep, look, stuckTag, endTag, startTag, tagAt, unitAt}
+use Rattle.xml_model.specs.Tags.{stuckAttribute, valueAt, equalsAt, attributeAt, givenStep, given, tailed, stuckTail, emptyTail}
+use Rattle.xml_model.specs.Tags.{attributeStep, tailStep, tailOf, lookStep, look, stuckTag, endTag, startTag, tagAt, unitAt}
 use Rattle.xml_model.proofs.Repeats.{repeat-stop, repeat-more, repeat-ind}
 use Rattle.xml_model.proofs.Runs.{inside, name-inside, quote-small, run-from, run-within, stuck-pos}
 

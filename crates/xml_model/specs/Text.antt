@@ -13,7 +13,8 @@ use Rattle.xml_model.specs.declared.Reading.{Reading}
 use Rattle.xml_model.specs.Repeat.{Next, stop, more, repeat}
 use Rattle.xml_model.specs.Bytes.{byteAt, part, spaces, runEnd, bare, stuck, looked}
 use Rattle.xml_model.specs.Tags.{unitAt}
-use Rattle.xml_model.specs.Elements.{nameOf, rightsName, rightsRole, skippedRole, rowOf, rowCount, childRole, nextState, holdsAnything}
+use Rattle.xml_model.specs.Elements.{nameOf, rightsName, rightsRole, skippedRole, rowOf, rowCount, childRole, nextState}
+use Rattle.xml_model.specs.Elements.{holdsAnything}
 use Rattle.xml_model.specs.State.{blank, ok, no, andThen, counted, sameRange, opening, closing}
 
 -- an open element: where its name stands, its role, and the state to which its children have led

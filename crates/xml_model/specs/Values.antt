@@ -8,7 +8,8 @@ use Rattle.model.specs.Book.{between, latestTime, leastLimit, mostTimes, mostSe
 use Rattle.xml_model.specs.declared.Value.{Value}
 use Rattle.xml_model.specs.declared.Piece.{Piece}
 use Rattle.xml_model.specs.Bytes.{bytes, byteAt, part, same, digits, runEnd}
-use Rattle.xml_model.specs.Elements.{versionRole, objectUidRole, assetUidRole, inheritUidRole, countRole, timedCountRole, startRole, endRole}
+use Rattle.xml_model.specs.Elements.{versionRole, objectUidRole, assetUidRole, inheritUidRole, countRole, timedCountRole}
+use Rattle.xml_model.specs.Elements.{startRole, endRole}
 use Rattle.xml_model.specs.Calendar.{inCalendar, monthDays, daysBefore}
 
 -- a value that is accepted if the test passes

@@ -26,7 +26,8 @@ use Rattle.book.specs.declared.Gate.the-variants.{Refuse, Resend, Take}
 use Rattle.book.specs.Blank.{noLimits}
 use Rattle.model.specs.Book.{assetAt, limitsAt, assetsIn, entriesIn, latestTime, assetPosition, inBook, between, flagged, momentary}
 use Rattle.model.specs.Book.{limit, assetLegal, assetsLegal, rangesLegal, limitsLegal, entriesLegal, ruleBroken, Legal}
-use Rattle.model.specs.Book.{countFlag, timedFlag, startFlag, endFlag, intervalFlag, accumulatedFlag, leastLimit, mostTimes, mostSeconds}
+use Rattle.model.specs.Book.{countFlag, timedFlag, startFlag, endFlag, intervalFlag, accumulatedFlag, leastLimit, mostTimes}
+use Rattle.model.specs.Book.{mostSeconds}
 use Rattle.model.specs.Record.{kindNumber}
 use Rattle.model.specs.Meters.{isOn, shut, settled}
 use Rattle.model.specs.Choice.{Catalog, catalogOf, usable, suits, asks, anyOf, Choice, nobody, chosen, choose}

@@ -35,7 +35,8 @@ after x = front ++ one ++ x ++ back
 unfoldable pub limited : List ℕ → List ℕ → List ℕ
 limited kind x =
     after
-    (bytes "<o-ex:permission><" ++ kind ++ bytes "><o-ex:constraint>" ++ x ++ bytes "</o-ex:constraint></" ++ kind ++ bytes "></o-ex:permission>")
+    (bytes "<o-ex:permission><" ++ kind ++ bytes "><o-ex:constraint>" ++ x
+    ++ bytes "</o-ex:constraint></" ++ kind ++ bytes "></o-ex:permission>")
 
 unfoldable pub play : List ℕ → List ℕ
 play x = limited (bytes "o-dd:play") x
@@ -97,8 +98,8 @@ pub marks :
 unfolding reading-run codes front one back after limited play
 marks = refl
 
--- "41 element": another root; an unknown child; an agreement before the context; a context without its uid, or with two; a permission before
--- the assets; no asset; an asset without context; a KeyInfo before the context; kinds in another order; a kind twice; an element in a text;
+-- "41 element": another root; an unknown child; an agreement before the context; a context without its uid, or with two; a permission
+-- before the assets; no asset; an asset without context; a KeyInfo before the context; kinds in another order; a kind twice; an element in a text;
 -- text between elements; a constraint outside a kind
 pub elements :
     codes
