@@ -34,9 +34,8 @@ after x = front ++ one ++ x ++ back
 
 unfoldable pub limited : List ℕ → List ℕ → List ℕ
 limited kind x =
-    after
-    (bytes "<o-ex:permission><" ++ kind ++ bytes "><o-ex:constraint>" ++ x
-    ++ bytes "</o-ex:constraint></" ++ kind ++ bytes "></o-ex:permission>")
+    let end = bytes "</o-ex:constraint></" ++ kind ++ bytes "></o-ex:permission>" in
+    after (bytes "<o-ex:permission><" ++ kind ++ bytes "><o-ex:constraint>" ++ x ++ end)
 
 unfoldable pub play : List ℕ → List ℕ
 play x = limited (bytes "o-dd:play") x
@@ -99,8 +98,8 @@ unfolding reading-run codes front one back after limited play
 marks = refl
 
 -- "41 element": another root; an unknown child; an agreement before the context; a context without its uid, or with two; a permission
--- before the assets; no asset; an asset without context; a KeyInfo before the context; kinds in another order; a kind twice; an element in a text;
--- text between elements; a constraint outside a kind
+-- before the assets; no asset; an asset without context; a KeyInfo before the context; kinds in another order; a kind twice; an element
+-- in a text; text between elements; a constraint outside a kind
 pub elements :
     codes
     (bytes "<rights>"
