@@ -2,3 +2,4 @@
 pub mod Computes
 pub mod Accepted
 pub mod Refused
+pub mod Values
