@@ -28,6 +28,10 @@ one = bytes "<o-ex:asset o-ex:id='a'><o-ex:context><o-dd:uid>cid:1</o-dd:uid></o
 unfoldable pub back : List ℕ
 back = bytes "</o-ex:agreement></o-ex:rights>"
 
+-- an asset of number 2 with that id
+unfoldable pub two : List ℕ → List ℕ
+two id = bytes "<o-ex:asset o-ex:id='" ++ id ++ bytes "'><o-ex:context><o-dd:uid>cid:2</o-dd:uid></o-ex:context></o-ex:asset>"
+
 -- a text with this after its asset, and one with these limits of a kind
 unfoldable pub after : List ℕ → List ℕ
 after x = front ++ one ++ x ++ back
@@ -44,14 +48,15 @@ play x = limited (bytes "o-dd:play") x
 pub good :
     codes
     (after []
+    ∷ after (two (bytes "b"))
     ∷ after (bytes "<o-ex:permission/>")
     ∷ play []
     ∷ play (bytes "<o-dd:count>1000000</o-dd:count>")
     ∷ limited (bytes "o-dd:print") (bytes "<oma-dd:timed-count>2</oma-dd:timed-count>")
     ∷ (bytes "\t\r\n" ++ after [] ++ bytes " ")
     ∷ [])
-    ≡ 0 ∷ 0 ∷ 0 ∷ 0 ∷ 0 ∷ 0 ∷ []
-unfolding reading-run codes front one back after limited play
+    ≡ replicate 7 0
+unfolding reading-run codes front one two back after limited play
 good = refl
 
 -- "40 not well formed": no element; text in front of rights; an end tag first; `<` and no name; a tag cut off; a space before a name; a
@@ -143,7 +148,7 @@ depth = refl
 -- reference without idref. A timer that is no number, or too great
 pub attributes :
     codes
-    (after one
+    (after (two (bytes "a"))
     ∷ after (bytes "<o-ex:permission><o-ex:asset o-ex:idref='b'/></o-ex:permission>")
     ∷ after (bytes "<o-ex:permission o-ex:id='p'><o-ex:asset o-ex:idref='p'/></o-ex:permission>")
     ∷ (front ++ bytes "<o-ex:asset o-ex:id='x'><o-ex:context o-ex:idref='x'>")
@@ -152,7 +157,7 @@ pub attributes :
     ∷ play (bytes "<oma-dd:timed-count oma-dd:timer='1000001'>1</oma-dd:timed-count>")
     ∷ [])
     ≡ replicate 7 41
-unfolding reading-run codes front one back after limited play
+unfolding reading-run codes front one two back after limited play
 attributes = refl
 
 -- "41 ... value": version, uid, numbers, times and durations
