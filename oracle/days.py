@@ -5,20 +5,23 @@ compete and players ask again. The same seed gives the same day on every machine
 
     python3 oracle/days.py
 
-writes the stored days: `crates/test_days/data/days.bin`, for each day the length of its image in 32 bits, big-endian, the
-image, the length of its event bytes in 32 bits, and those bytes, to the end of the file; and `crates/test_days/stdout`, for each
-day a line `day N`, N from 1, and what the run program prints for it.
+writes the stored days, random ones and then those of written_days.py: `crates/test_days/data/days.bin`, for each day the length
+of its image in 32 bits, big-endian, the image, the length of its event bytes in 32 bits, and those bytes, to the end of the file;
+and `crates/test_days/stdout`, for each day a line `day N`, N from 1, and what the run program prints for it.
 """
 
+import copy
 import random
 from pathlib import Path
 
 import rights
+import written_days
 from rights import (ACCUMULATED, BEGIN, CONTINUE, COUNT, END, INTERVAL, LAST_NUMBER, LATEST, START, STOP, TIMED, Asset,
                     Book, Entry, Event)
 
 STORED = Path(__file__).resolve().parent.parent / "crates" / "test_days"
 TOP = 4_294_967_295         # the greatest 32-bit number
+ZERO = 0.1                  # how many of the flagged counts, timed counts, intervals and accumulated are 0
 
 
 # ---- Books
@@ -38,6 +41,11 @@ def fresh_book(rng, around):
     return book
 
 
+def limit(rng, number):
+    """A limit, or 0: an entry with that is never granted."""
+    return 0 if rng.random() < ZERO else number
+
+
 def fresh_entry(rng, asset, around):
     kind = rng.choice((1, 1, 1, 2, 3, 4, 5))
     flags = sum(flag for flag in (COUNT, TIMED, START, END, INTERVAL, ACCUMULATED) if rng.random() < 0.3)
@@ -45,18 +53,18 @@ def fresh_entry(rng, asset, around):
         flags &= ~ACCUMULATED
     entry = Entry(rng.randint(1, 3), asset, kind, flags)
     if flags & COUNT:
-        entry.count = rng.randint(1, 6)
+        entry.count = limit(rng, rng.randint(1, 6))
     if flags & TIMED:
-        entry.timed = rng.randint(1, 3)
+        entry.timed = limit(rng, rng.randint(1, 3))
         entry.timer = rng.choice((0, 1, 20, 60, 61, 90)) if kind < 4 else 0
     if flags & START:
         entry.start = min(LATEST, max(0, around + rng.randint(-50, 200)))
     if flags & END:
         entry.end = min(LATEST, max(entry.start, around + rng.choice((50, 150, 150, 300, 900))))
     if flags & INTERVAL:
-        entry.interval = rng.choice((1, 30, 90, 300, 100_000_000))
+        entry.interval = limit(rng, rng.choice((1, 30, 90, 300, 100_000_000)))
     if flags & ACCUMULATED:
-        entry.accumulated = rng.choice((1, 50, 100, 250, 1000))
+        entry.accumulated = limit(rng, rng.choice((1, 50, 100, 250, 1000)))
     return entry
 
 
@@ -120,13 +128,27 @@ def subscription_book(rng, around):
         entry = fresh_entry(rng, rng.choice((9, 9, 9, 1)), around)
         entry.kind, entry.flags = 1, entry.flags | rng.choice((COUNT, TIMED, ACCUMULATED))
         if entry.has(COUNT):
-            entry.count = rng.randint(1, 40)
+            entry.count = limit(rng, rng.randint(1, 40))
         if entry.has(TIMED):
-            entry.timed, entry.timer = rng.randint(1, 8), rng.choice((0, 10, 30, 60, 120))
+            entry.timed, entry.timer = limit(rng, rng.randint(1, 8)), rng.choice((0, 10, 30, 60, 120))
         if entry.has(ACCUMULATED):
-            entry.accumulated = rng.choice((100, 500, 3000))
+            entry.accumulated = limit(rng, rng.choice((100, 500, 3000)))
         book.entries.append(entry)
     return book
+
+
+def nothing_more(rng, book):
+    """Makes some limits 0 in the middle of a day, where the image still meets the rules: those of which nothing is used, and
+    intervals in which nothing is open, started ones too."""
+    for position, entry in enumerate(book.entries):
+        if entry.used_count == 0 and rng.random() < ZERO:
+            entry.count = 0
+        if entry.used_timed == 0 and rng.random() < ZERO:
+            entry.timed = 0
+        if entry.used_seconds == 0 and rng.random() < ZERO:
+            entry.accumulated = 0
+        if not book.users(position) and rng.random() < 2 * ZERO:
+            entry.interval = 0
 
 
 def make_old(rng, book):
@@ -245,6 +267,7 @@ def make_day(seed, length, kind=None, around=None):
         greatest_limits(rng, book)
     if kind in ("going on", "old"):
         play(rng, book, around, None, rng.randint(1, 60))
+        nothing_more(rng, book)
     if kind == "old":
         make_old(rng, book)
     image = rights.write(book)
@@ -266,23 +289,36 @@ def play(rng, book, around, cabins, length):
     return records, lines
 
 
-def damaged_day(rng, around):
-    """An image with a few bytes changed, cut off or added, and a few events, whatever the answer."""
-    book = fresh_book(rng, around)
-    play(rng, book, around, None, rng.randint(1, 40))
+def damaged_limit(rng, book):
+    """The image of the book with a limit of 0, or of another number at the end of a range, whatever its flag and its meter."""
+    entry = rng.choice(book.entries)
+    field = rng.choice(("count", "timed", "timer", "start", "end", "interval", "accumulated"))
+    setattr(entry, field, rng.choice((0, 0, 0, 1, 1_000_000, 1_000_001, 100_000_000, 100_000_001, LATEST, LATEST + 1)))
+    return rights.write(book)
+
+
+def damaged_bytes(rng, book):
+    """The image of the book with a few bytes changed, cut off or added; None for a missing file."""
     image = bytearray(rights.write(book))
-    records, _ = play(rng, book, around, None, 5)
     for _ in range(rng.randint(1, 2)):
         image[rng.randrange(len(image))] = rng.choice((0, 1, 2, 255, rng.randrange(256)))
     chance = rng.random()
     if chance < 0.05:
-        return None, b"".join(records), rights.run(b"", b"")
+        return None
     if chance < 0.15:
         image = image[:rng.randrange(len(image))]
     elif chance < 0.2:
         image += rng.randbytes(rng.choice((1, 13, 4000)))
-    image, events = bytes(image), b"".join(records)
-    return image, events, rights.run(image, events)
+    return bytes(image)
+
+
+def damaged_day(rng, around):
+    """A damaged image and a few events, whatever the answer."""
+    book = fresh_book(rng, around)
+    play(rng, book, around, None, rng.randint(1, 40))
+    records, _ = play(rng, copy.deepcopy(book), around, None, 5)
+    image = (damaged_limit if book.entries and rng.random() < 0.3 else damaged_bytes)(rng, book)
+    return image, b"".join(records), rights.run(image or b"", b"".join(records))
 
 
 # ---- The stored days
@@ -296,6 +332,7 @@ def stored_days():
     for number in range(46, 60):
         image, events, text = make_day(1 + number, 5, "damaged image", 1000)
         yield image or b"", events, text
+    yield from written_days.days()
 
 
 def main():

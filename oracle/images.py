@@ -1,6 +1,6 @@
 """Makes the stored image cases: python3 oracle/images.py
 
-Each case is a base book or its image with a few small edits, and the answer that document 01 gives, which is
+Each case is a base book or its image with a few small edits, and the answer that documents 01 and 02 give, which is
 written here by hand. The reader of rights.py must agree with every one of them, or nothing is written. The script writes
 
   crates/test_images/data/cases.bin   for each case its length in 16 bits, big-endian, then its bytes, to the end of file
@@ -66,6 +66,13 @@ def showing():
     """The bare book with player 0 in the middle of a use, [90, 130)."""
     book = bare()
     book.players[0] = Player(1, 1, 1, 1, 0, 0, 130, 1, 0, 90, 130)
+    return book
+
+
+def showing_beside_zero():
+    """The same with a second entry, every flag and every limit 0."""
+    book = showing()
+    book.entries.append(Entry(1, 1, 1, 63))
     return book
 
 
@@ -151,7 +158,7 @@ def edit_book(book, word, rest):
     setattr(record, name, values[0])
 
 
-# ---- The cases: answer, name, base, edits
+# ---- The cases: answer, name, base, edits; GROUPS below has all of them
 
 CASES = []
 
@@ -242,8 +249,8 @@ def entries():
     case(25, "last of 64 entries", full, "entry 63 object 0")
     # Start is bounded by the base's end, 200, and end by its start, 50: equal is accepted, one beyond is not.
     bounds = [
-        ("count", 1, 1, 1_000_000), ("timed", 2, 1, 1_000_000), ("timer", 2, 0, 1_000_000), ("start", 4, 0, 200),
-        ("end", 8, 50, 4_000_000_000), ("interval", 16, 1, 100_000_000), ("accumulated", 32, 1, 100_000_000)]
+        ("count", 1, 0, 1_000_000), ("timed", 2, 0, 1_000_000), ("timer", 2, 0, 1_000_000), ("start", 4, 0, 200),
+        ("end", 8, 50, 4_000_000_000), ("interval", 16, 0, 100_000_000), ("accumulated", 32, 0, 100_000_000)]
     for limit, _, least, greatest in bounds:
         case(0, f"{limit} {least}", limited, f"entry 0 {limit} {least}")
         case(0, f"{limit} {greatest}", limited, f"entry 0 {limit} {greatest}")
@@ -251,6 +258,8 @@ def entries():
             case(25, f"{limit} {least - 1}", limited, f"entry 0 {limit} {least - 1}")
         case(25, f"{limit} {greatest + 1}", limited, f"entry 0 {limit} {greatest + 1}")
         case(25, f"{limit} 4,294,967,295", limited, f"entry 0 {limit} 4294967295")
+    for limit in ("count", "timed", "interval", "accumulated"):
+        case(0, f"{limit} 1", limited, f"entry 0 {limit} 1")
     for limit, flag, _, _ in bounds:
         case(25, f"{limit} without its flag, no other flagged", bare, f"entry 0 {limit} 1")
         case(25, f"{limit} without its flag, all others flagged", limited, f"entry 0 flags {63 - flag}" + (
@@ -266,6 +275,83 @@ def entries():
     case(25, "print with a timer", printing, "entry 0 timer 1")
     case(25, "export with a timer", printing, "entry 0 kind 5; entry 0 timer 1")
     case(0, "export with timed count and timer 0", printing, "entry 0 kind 5")
+
+
+# Order 2 of document 02: the four limits that may be 0, with their flags; three of them with their meters and what the open use of
+# the book `showing` has used.
+MAY_BE_ZERO = (("count", 1), ("timed", 2), ("interval", 16), ("accumulated", 32))
+METERED = (("count", 1, "used_count", 1), ("timed", 2, "used_timed", 1), ("accumulated", 32, "used_seconds", 40))
+MOST_OF = (("count", 1, 1_000_000), ("timed", 2, 1_000_000), ("timer", 2, 1_000_000), ("start", 4, 4_000_000_000),
+           ("end", 8, 4_000_000_000), ("interval", 16, 100_000_000), ("accumulated", 32, 100_000_000))
+
+
+def limits_of_zero():
+    for limit, flag in MAY_BE_ZERO:
+        case(0, f"{limit} 0, no other flagged", bare, f"entry 0 flags {flag}")
+        for kind in (2, 3):
+            case(0, f"{limit} 0, kind {kind}", bare, f"entry 0 kind {kind}; entry 0 flags {flag}")
+        for kind in (4, 5):
+            case(25 if limit == "accumulated" else 0, f"{limit} 0, kind {kind}", bare, f"entry 0 kind {kind}; entry 0 flags {flag}")
+        case(0, f"{limit} 0 in the second entry", crowded, f"entry 1 flags {flag}")
+        case(0, f"{limit} 0 of a parent", uneven, f"entry 0 asset 9; entry 0 flags {flag}")
+        case(0, f"{limit} 0 with dates", bare, f"entry 0 flags {flag + 12}; entry 0 start 50; entry 0 end 200")
+        case(0, f"{limit} 0 with dates of 0", bare, f"entry 0 flags {flag + 12}")
+        case(25, f"{limit} 0, start after end", bare, f"entry 0 flags {flag + 12}; entry 0 start 1")
+    case(0, "timed 0, timer 1,000,000", bare, "entry 0 flags 2; entry 0 timer 1000000")
+    case(25, "timed 0 with a timer, print", bare, "entry 0 kind 4; entry 0 flags 2; entry 0 timer 1")
+    case(0, "all four 0", limited, "entry 0 count 0; entry 0 timed 0; entry 0 interval 0; entry 0 accumulated 0")
+    case(0, "every flag, every limit 0", bare, "entry 0 flags 63")
+    case(0, "every flag but accumulated, every limit 0, print", bare, "entry 0 kind 4; entry 0 flags 31")
+    case(25, "every flag, every limit 0, print", bare, "entry 0 kind 4; entry 0 flags 63")
+    case(25, "flag 64 too, every limit 0", bare, "entry 0 flags 127")
+    case(0, "all four 0 in a book of the greatest size", full,
+         "entry 40 count 0; entry 40 timed 0; entry 40 interval 0; entry 40 accumulated 0; entry 40 used_count 0; "
+         "entry 40 used_timed 0; entry 40 used_seconds 0")
+    for limit, flag, greatest in MOST_OF:
+        end = "; entry 0 end 4000000000" if limit == "start" else ""
+        case(0, f"{limit} at its greatest, every other limit 0", bare, f"entry 0 flags 63; entry 0 {limit} {greatest}{end}")
+        case(25, f"{limit} above its greatest, every other limit 0", bare, f"entry 0 flags 63; entry 0 {limit} {greatest + 1}{end}")
+        case(25, f"{limit} 1 without its flag, every other limit 0", bare, f"entry 0 flags {63 - flag}; entry 0 {limit} 1{end}")
+    case(25, "timed 0, timer 1,000,001", bare, "entry 0 flags 2; entry 0 timer 1000001")
+    zero_meters()
+
+
+def all_but(meter):
+    """Edits of the book `limited`: every other meter at its limit."""
+    used = (("used_count", 10), ("used_timed", 10), ("used_seconds", 100), ("started", 1), ("first", 100))
+    return "".join(f"; entry 0 {each} {most}" for each, most in used if each != meter)
+
+
+def zero_meters():
+    for limit, flag, meter, need in METERED:
+        case(27, f"{meter} 1 of 0", bare, f"entry 0 flags {flag}; entry 0 {meter} 1")
+        case(27, f"{meter} 4,294,967,295 of 0", bare, f"entry 0 flags {flag}; entry 0 {meter} 4294967295")
+        case(27, f"{meter} 1 of 0, all others at their limits", limited, f"entry 0 {limit} 0; entry 0 {meter} 1" + all_but(meter))
+        case(27, f"an open use, {limit} 0", showing, f"entry 0 flags {flag}")
+        case(27, f"an open use, {limit} 0, {meter} {need}", showing, f"entry 0 flags {flag}; entry 0 {meter} {need}")
+        case(0, f"{limit} 0, all others at their limits", limited, f"entry 0 {limit} 0" + all_but(meter))
+    ran = "entry 0 flags 16; entry 0 started 1"
+    case(0, "interval 0, started at 0", bare, ran)
+    case(0, "interval 0, started before the book's time", bare, ran + "; entry 0 first 60")
+    case(0, "interval 0, started at the book's time", bare, ran + "; entry 0 first 100")
+    case(27, "interval 0, started after the book's time", bare, ran + "; entry 0 first 101")
+    case(27, "interval 0, started 2", bare, "entry 0 flags 16; entry 0 started 2")
+    case(27, "interval 0, first without started", bare, "entry 0 flags 16; entry 0 first 60")
+    case(0, "interval 0, started, print", bare, ran + "; entry 0 kind 4; entry 0 first 100")
+    case(0, "interval 0, started, all others at their limits", limited, "entry 0 interval 0" + all_but("interval"))
+    case(26, "open in an interval of 0 that has not started", showing, "entry 0 flags 16")
+    for first in (0, 90, 99, 100):
+        case(26, f"open in an interval of 0 that started at {first}", showing, ran + (f"; entry 0 first {first}" if first else ""))
+    case(26, "open in an interval of 0, begin and first at the book's time", showing, ran + "; entry 0 first 100; player 0 begin 100")
+    case(26, "open in an interval of 0, first at until", showing, ran + "; entry 0 first 130")
+    case(26, "open in an interval of 0, started 2", showing, "entry 0 flags 16; entry 0 started 2; entry 0 first 90")
+    case(26, "open in an interval of 0, and used_count above its limit", showing,
+         "entry 0 flags 17; entry 0 started 1; entry 0 first 90; entry 0 used_count 1")
+    case(26, "interval 0 of the last of 64 entries, which is open", full, "entry 63 interval 0")
+    case(0, "an open use of the entry beside one of every limit 0", showing_beside_zero)
+    asked = "entry 0 flags 1; player 0 number 1; player 0 operation 1; player 0 asset 1; player 0 kind 1"
+    case(0, "a stored grant of an entry with count 0", bare, asked)
+    case(0, "a stored 13 in a book of count 0", bare, asked + "; player 0 code 13; player 0 entry 255")
 
 
 def players():
@@ -452,7 +538,8 @@ def two_stages():
     case(24, "asset and meter", busy, "asset 3 key 2; entry 0 used_count 6")
     case(25, "last entry and first player", busy, "entry 3 object 0; player 0 operation 0")
     case(25, "last entry and first meter", busy, "entry 3 object 0; entry 0 used_count 6")
-    case(25, "limits and meters of one entry", limited, "entry 0 count 0; entry 0 used_count 1")
+    case(27, "a count of 0 and a meter above it", limited, "entry 0 count 0; entry 0 used_count 1")
+    case(25, "limits and meters of one entry", limited, "entry 0 count 1000001; entry 0 used_count 1000002")
     case(25, "an open use outside dates that break the rules", showing, "entry 0 flags 12; entry 0 start 150; entry 0 end 140")
     case(26, "last player and first meter", busy, "player 15 operation 1; entry 0 used_count 6")
     case(26, "an open use on an interval that has not started, with a first",
@@ -461,11 +548,24 @@ def two_stages():
          "time 4000000001; asset 0 number 0; entry 0 object 0; player 0 operation 0; entry 0 used_count 6; byte 0 0; byte 4 0")
 
 
+GROUPS = [good_books, header, assets, entries, limits_of_zero, players, meters, two_stages]
+
+
+def cases():
+    if not CASES:
+        for group in GROUPS:
+            group()
+    return CASES
+
+
+def answers():
+    """(answer, image) of every case."""
+    return ((answer, image(base, edits)) for answer, _, base, edits in cases())
+
+
 def main():
-    for group in (good_books, header, assets, entries, players, meters, two_stages):
-        group()
     data, lines, listing, seen = b"", [], [], set()
-    for number, (answer, name, base, edits) in enumerate(CASES, 1):
+    for number, (answer, name, base, edits) in enumerate(cases(), 1):
         bytes_in = image(base, edits)
         assert bytes_in not in seen, f"case {number} ({name}) is there already"
         seen.add(bytes_in)

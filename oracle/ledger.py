@@ -1,4 +1,4 @@
-"""The ledger of document 01, and demand 3 judged by it.
+"""The ledger of document 01 with the orders of document 02, and demand 3 judged by it.
 
 A ledger is built from events and answers alone. From the book it reads only what no event changes: assets, kinds, flags
 and limits. It is written separately from the rules of events in rights.py, even where the two look alike, so that a
@@ -64,10 +64,17 @@ class Ledger:
     def interval_start(self, entry):
         return min((u.begin for u in self.of_entry(entry)), default=None)
 
+    def has_nothing(self, entry):
+        """Order 2: an entry with a flagged count, timed count, interval or accumulated of 0 is spent, whatever was used."""
+        limits = self.entries[entry]
+        return (limits.flags & 1 and limits.count == 0 or limits.flags & 2 and limits.timed == 0
+                or limits.flags & 16 and limits.interval == 0 or limits.flags & 32 and limits.accumulated == 0)
+
     def is_spent(self, entry, T):
         limits = self.entries[entry]
         start = self.interval_start(entry)
-        return ((limits.flags & 1 and self.spent_count(entry) >= limits.count)
+        return (self.has_nothing(entry)
+                or (limits.flags & 1 and self.spent_count(entry) >= limits.count)
                 or (limits.flags & 2 and self.spent_timed(entry, T) >= limits.timed)
                 or (limits.flags & 16 and start is not None and T >= start + limits.interval)
                 or (limits.flags & 32 and self.spent_seconds(entry) >= limits.accumulated))

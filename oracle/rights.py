@@ -1,4 +1,4 @@
-"""The rights server a second time, in plain Python, from document 01 alone.
+"""The rights server a second time, in plain Python, from document 01 and the orders of document 02 alone.
 
 It holds the book, reads and writes its image, decodes an event record and answers one event.
 It shares nothing with the proved program, so an answer on which both agree was reached twice.
@@ -56,6 +56,11 @@ class Entry:
 
     def is_momentary(self):
         return self.kind in (PRINT, EXPORT)
+
+    def has_limit_of_zero(self):
+        """Whether a flagged count, timed count, interval or accumulated is 0 (order 2). A timer, a start or an end of 0 is none."""
+        return (self.has(COUNT) and self.count == 0 or self.has(TIMED) and self.timed == 0
+                or self.has(INTERVAL) and self.interval == 0 or self.has(ACCUMULATED) and self.accumulated == 0)
 
 
 @dataclass
@@ -193,6 +198,8 @@ def suitable_entries(book, asset, kind):
 
 
 def is_grantable(entry, t):
+    if entry.has_limit_of_zero():
+        return False
     if entry.has(COUNT) and entry.used_count >= entry.count:
         return False
     if entry.has(TIMED) and entry.used_timed >= entry.timed:
@@ -386,9 +393,9 @@ def entry_is_good(book, entry):
     if not PLAY <= entry.kind <= EXPORT or entry.flags > 63:
         return False
     limits = [
-        (COUNT, entry.count, 1, 1_000_000), (TIMED, entry.timed, 1, 1_000_000), (TIMED, entry.timer, 0, 1_000_000),
-        (START, entry.start, 0, LATEST), (END, entry.end, 0, LATEST), (INTERVAL, entry.interval, 1, 100_000_000),
-        (ACCUMULATED, entry.accumulated, 1, 100_000_000)]
+        (COUNT, entry.count, 0, 1_000_000), (TIMED, entry.timed, 0, 1_000_000), (TIMED, entry.timer, 0, 1_000_000),
+        (START, entry.start, 0, LATEST), (END, entry.end, 0, LATEST), (INTERVAL, entry.interval, 0, 100_000_000),
+        (ACCUMULATED, entry.accumulated, 0, 100_000_000)]
     if not all_within(entry, limits):
         return False
     if entry.has(START) and entry.has(END) and entry.start > entry.end:

@@ -2,18 +2,22 @@
 
 The afternoon of document 01, then random days. On each day, demand 3 is judged by the ledger; every book along
 the way is written and read back; events turned away and resends must leave the book unchanged; and the day without its
-resends is run again. Then servers with one planted fault each must be caught by the ledger. Last, the stored texts get their
-answers from the reader of XML texts, and readers with one planted fault each must be caught by them.
+resends is run again. The days written by hand are judged by the ledger too. Then servers with one planted fault each must be caught,
+by the ledger on random days or by the stored days and images. Last, the stored texts get their answers from the reader of XML texts,
+and readers with one planted fault each must be caught by them.
 """
 
 import copy
+import dataclasses
 import random
 import sys
 from contextlib import contextmanager
 
 import days
+import images
 import rights
 import text_faults
+import written_days
 from ledger import Broken, Ledger, check_run, demand
 from rights import Asset, Book, Entry, Event
 
@@ -80,6 +84,20 @@ def check_records():
         demand(rights.answer_record(book, record) == (code, 255, 0), f"record {record!r}")
     event = begin(15, 4_294_967_295, 65535, 5, 4_294_967_295)
     demand(rights.decode(rights.encode(event)) == event, "a record decodes to its event")
+
+
+def check_written_days():
+    """Those that start from a fresh book. Returns how many there are."""
+    fresh = 0
+    for name, book, events, answers in written_days.written():
+        if book == Book(assets=book.assets, entries=[fresh_entry(entry) for entry in book.entries]):
+            check_run(book.assets, book.entries, zip(events, answers))
+            fresh += 1
+    return fresh
+
+
+def fresh_entry(entry):
+    return dataclasses.replace(entry, used_count=0, used_timed=0, first=0, used_seconds=0, started=0)
 
 
 def run_day(rng, length):
@@ -187,11 +205,92 @@ def inherited_before_own(real):
     return lambda e, p, asked: real(e, p, asked)[:3] + (1 - real(e, p, asked)[3], p)
 
 
+def without(entry, *limits):
+    """The entry without those of these limits that are 0."""
+    flags = {"count": rights.COUNT, "timed": rights.TIMED, "interval": rights.INTERVAL, "accumulated": rights.ACCUMULATED}
+    off = sum(flags[limit] for limit in limits if entry.has(flags[limit]) and getattr(entry, limit) == 0)
+    return dataclasses.replace(entry, flags=entry.flags - off)
+
+
+def an_interval_of_0_is_granted_once(real):
+    return lambda entry, t: real(entry if entry.started else without(entry, "interval"), t)
+
+
+def a_limit_of_0_is_no_limit(limit):
+    def fault(real):
+        return lambda entry, t: real(without(entry, limit), t)
+    fault.__name__ = f"{limit}_of_0_is_no_limit"
+    return fault
+
+
+def a_limit_of_0_is_not_suitable(real):
+    return lambda book, asset, kind: [p for p in real(book, asset, kind) if not book.entries[p].has_limit_of_zero()]
+
+
+def a_limit_of_0_refuses_all(real):
+    def begin(book, player, number, kind, t):
+        asset = book.asset(number)
+        if not player.open and asset is not None and asset.key:
+            if any(book.entries[p].has_limit_of_zero() for p in rights.suitable_entries(book, asset, kind)):
+                return rights.refused(13)
+        return real(book, player, number, kind, t)
+    return begin
+
+
+def a_timer_a_start_and_an_end_of_0_are_never_grantable(real):
+    def grantable(entry, t):
+        return real(entry, t) and not (entry.has(rights.TIMED) and entry.timer == 0 or entry.has(rights.START) and entry.start == 0
+                                       or entry.has(rights.END) and entry.end == 0)
+    return grantable
+
+
+def no_flags_are_never_grantable(real):
+    return lambda entry, t: real(entry, t) and (entry.count, entry.timed, entry.interval, entry.accumulated, entry.end) != (0,) * 5
+
+
+def a_limit_of_0_gets_25(limit):
+    def fault(real):
+        return lambda book, entry: real(book, entry) and without(entry, limit).flags == entry.flags
+    fault.__name__ = f"{limit}_of_0_gets_25"
+    return fault
+
+
+def a_started_interval_of_0_gets_27(real):
+    return lambda book, position: real(book, position) and not (book.entries[position].started and book.entries[position].interval == 0)
+
+
+def a_meter_above_a_limit_of_0_is_accepted(real):
+    def good(book, position):
+        entry = book.entries[position]
+        book = copy.deepcopy(book)
+        for name, meter in (("count", "used_count"), ("timed", "used_timed"), ("accumulated", "used_seconds")):
+            if without(entry, name).flags != entry.flags:
+                setattr(book.entries[position], name, getattr(entry, meter))
+        return real(book, position)
+    return good
+
+
+def an_open_use_in_an_interval_of_0_is_accepted(real):
+    def good(book, player):
+        entry = book.entries[player.open_entry] if player.open_entry < len(book.entries) else None
+        return entry is not None and entry.has(rights.INTERVAL) and entry.interval == 0 or real(book, player)
+    return good
+
+
+ZERO_LIMITS = ("count", "timed", "interval", "accumulated")
 FAULTS = [
     ("step", resend_compares_time), ("step", resend_is_metered), ("stop", count_goes_back),
     ("is_grantable", end_is_excluded), ("suitable_entries", inherits_through_illegal),
     ("suitable_entries", inherits_two_levels), ("step", settles_the_asker_only),
-    ("is_grantable", always_none_grantable), ("end_use", timed_never_goes_back), ("rank", inherited_before_own)]
+    ("is_grantable", always_none_grantable), ("end_use", timed_never_goes_back), ("rank", inherited_before_own),
+    ("is_grantable", an_interval_of_0_is_granted_once), ("suitable_entries", a_limit_of_0_is_not_suitable),
+    ("begin", a_limit_of_0_refuses_all), ("is_grantable", a_timer_a_start_and_an_end_of_0_are_never_grantable),
+    ("is_grantable", no_flags_are_never_grantable),
+    *(("is_grantable", a_limit_of_0_is_no_limit(limit)) for limit in ZERO_LIMITS),
+    *(("entry_is_good", a_limit_of_0_gets_25(limit)) for limit in ZERO_LIMITS)]
+READER_FAULTS = [           # of books that no day from a fresh book leads to
+    ("meters_are_good", a_started_interval_of_0_gets_27), ("meters_are_good", a_meter_above_a_limit_of_0_is_accepted),
+    ("open_use_is_good", an_open_use_in_an_interval_of_0_is_accepted)]
 
 
 @contextmanager
@@ -205,6 +304,7 @@ def planted(name, fault):
 
 
 def is_caught(name, fault):
+    """By the ledger, on random days."""
     with planted(name, fault):
         for seed in range(300):
             try:
@@ -212,6 +312,26 @@ def is_caught(name, fault):
             except Broken:
                 return True
     return False
+
+
+def is_caught_by_stored_days(name, fault, stored):
+    with planted(name, fault):
+        return any(rights.run(image, records) != text for image, records, text in stored)
+
+
+def is_caught_by_stored_images(name, fault, stored):
+    with planted(name, fault):
+        return any(rights.read(image)[0] != answer for answer, image in stored)
+
+
+def check_faults():
+    stored_days, stored_images = list(days.stored_days()), list(images.answers())
+    for name, fault in FAULTS:
+        demand(is_caught(name, fault), f"the fault {fault.__name__} is caught")
+        demand(is_caught_by_stored_days(name, fault, stored_days), f"the fault {fault.__name__} is caught by the stored days")
+    for name, fault in READER_FAULTS + [each for each in FAULTS if each[0] == "entry_is_good"]:
+        demand(is_caught_by_stored_images(name, fault, stored_images), f"the fault {fault.__name__} is caught by the stored images")
+    return len(FAULTS + READER_FAULTS)
 
 
 def main():
@@ -223,10 +343,9 @@ def main():
         for name, times in run_day(random.Random(seed), 60).items():
             seen[name] = seen.get(name, 0) + times
         done, seed = done + 60, seed + 1
-    for name, fault in FAULTS:
-        demand(is_caught(name, fault), f"the fault {fault.__name__} is caught")
     print(f"{done} events in {seed - 1} days:", ", ".join(f"{n} {seen[n]}" for n in sorted(seen, key=str)))
-    print(f"{len(FAULTS)} planted faults caught")
+    print(f"{check_written_days()} days written by hand")
+    print(f"{check_faults()} planted faults caught")
     stored, faults = text_faults.check()
     print(f"{stored} stored texts, {faults} planted faults of their reader caught")
 

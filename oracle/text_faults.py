@@ -37,6 +37,8 @@ value("65 assets and entries accepted", "MOST", 65)
 value("64 assets and entries refused", "MOST", 63)
 value("timer 1,000,001 accepted", "GREATEST_TIMER", 1_000_001)
 value("count 1,000,000 refused", "GREATEST_COUNT", 999_999)
+value("count 1,000,001 accepted", "GREATEST_COUNT", 1_000_001)
+value("a limit of 0 refused", "LEAST_LIMIT", 1)
 value("number 65,536 accepted", "GREATEST_NUMBER", 65_536)
 value("duration 100,000,001 accepted", "GREATEST_DURATION", 100_000_001)
 value("the last second refused", "LATEST", rights.LATEST - 1)
@@ -274,9 +276,61 @@ def a_t_without_hours_minutes_and_seconds(real):
     return lambda text: real(text[:-1] if text[-1:] == b"T" else text)
 
 
+def refuses_0(limit):
+    """The reader that refuses this limit where it is 0, as before order 2."""
+    def reader(real):
+        def take_text(self, shape, text):
+            real(self, shape, text)
+            if shape == limit and 0 == {"count": self.entry.count, "timed-count": self.entry.timed, "interval": self.entry.interval,
+                                        "accumulated": self.entry.accumulated}[shape]:
+                raise Refused(41)
+        return take_text
+    FAULTS.append((f"{limit} 0 refused", "Reader.take_text", reader))
+
+
+for each in ("count", "timed-count", "interval", "accumulated"):
+    refuses_0(each)
+
+
+@fault("Reader.add_entries")
+def a_limit_of_0_is_no_limit(real):
+    def add_entries(self):
+        entry = copy.copy(self.entry)
+        for flag, name in ((1, "count"), (2, "timed"), (16, "interval"), (32, "accumulated")):
+            if getattr(entry, name) == 0:
+                entry.flags &= ~flag
+        self.entry = entry
+        return real(self)
+    return add_entries
+
+
+@fault("Reader.add_entries")
+def an_entry_with_a_limit_of_0_is_left_out(real):
+    return lambda self: "" if self.entry.has_limit_of_zero() else real(self)
+
+
 @fault("duration_in")
-def duration_of_0_accepted(real):
-    return lambda text: 0 if text in (b"PT0S", b"P0D") else real(text)
+def a_duration_of_0_in_one_part_only(real):
+    def duration_in(text):
+        seconds = real(text)
+        if seconds == 0 and text not in (b"PT0S", b"P0D", b"PT0H", b"PT0M"):
+            raise Refused(41)
+        return seconds
+    return duration_in
+
+
+@fault("number_in")
+def one_zero_only(real):
+    def number_in(text, least, greatest):
+        if text[:2] == b"00" and real(text, least, greatest) == 0:
+            raise Refused(41)
+        return real(text, least, greatest)
+    return number_in
+
+
+@fault("number_in")
+def every_number_may_be_0(real):
+    return lambda text, least, greatest: real(text, 0, greatest)
 
 
 @fault("Reader.take_attributes")

@@ -63,8 +63,13 @@ def a_time(rng):
     return f"{year}-{month:02}-{day:02}T{hour:02}:{minute:02}:{second:02}Z"
 
 
+NO_TIME = ("PT0S", "P0D", "PT0H", "PT0M", "P0DT0H0M0S", "PT00S", "P000DT0M")
+
+
 def a_duration(rng):
-    left, parts = around(rng, 1, 100_000_000), []
+    left, parts = around(rng, 0, 100_000_000), []
+    if left == 0 and some(rng, 0.7):
+        return rng.choice(NO_TIME)
     for letter, seconds in rng.choice(((("D", 86400), ("H", 3600), ("M", 60), ("S", 1)), (("S", 1),), (("M", 60), ("S", 1)),
                                        (("D", 86400), ("S", 1)), (("H", 3600), ("S", 1)))):
         parts.append((letter, left // seconds))
@@ -144,11 +149,11 @@ class Maker:
         rng, momentary = self.rng, kind in ("print", "export")
         made = []
         if some(rng, 0.3):
-            made.append(self.el("count", digits(rng, around(rng, 1, 1_000_000))))
+            made.append(self.el("count", digits(rng, around(rng, 0, 1_000_000))))
         if some(rng, 0.3):
             timer = around(rng, 0, 1_000_000) if not momentary else 0
             given = self.attribute("oma-dd:timer", digits(rng, timer)) if some(rng, 0.6) else ""
-            made.append(self.el("timed-count", digits(rng, around(rng, 1, 1_000_000)), given))
+            made.append(self.el("timed-count", digits(rng, around(rng, 0, 1_000_000)), given))
         if some(rng, 0.4):
             start, end = sorted((a_time(rng), a_time(rng)))
             dates = (self.el("start", start) if some(rng, 0.6) else "") + (self.el("end", end) if some(rng, 0.6) else "")
@@ -229,15 +234,16 @@ class Maker:
 PIECES = re.compile(r"<[^>]*>|[^<]+")
 VALUE = re.compile(r"(<(?:o-dd|oma-dd):([a-z-]+)[^>]*>)([^<]*)(</)")
 BYTES = ["<", ">", "&", '"', "'", "/", " ", "\x01", "x", "\x80", "0", "=", "!", "\0", "\n"]
-ODD_NUMBERS = ["", "0", "00", " 1", "1 ", "+1", "-1", "1.0", "x", "65535", "65536", "1000000", "1000001", "100000000", "4294967297",
-               "18446744073709551617", "9" * 40, "0" * 40 + "1", "cid:1", "pid:65535", "cid:0", "cid:65536", "gid:1", "CID:1",
-               "2.2"]
+ODD_NUMBERS = ["", "0", "00", "-0", " 0", "0.0", " 1", "1 ", "+1", "-1", "1.0", "x", "65535", "65536", "1000000", "1000001",
+               "100000000", "4294967297", "18446744073709551617", "9" * 40, "0" * 40 + "1", "cid:1", "pid:65535", "cid:0", "cid:65536",
+               "gid:1", "CID:1", "2.2"]
 ODD_TIMES = ["1970-01-01T00:00:00Z", "1969-12-31T23:59:59Z", "2096-10-02T07:06:40Z", "2096-10-02T07:06:41Z", "2096-10-03T00:00:00Z",
              "2000-02-29T00:00:00Z", "2001-02-29T00:00:00Z", "2096-02-29T23:59:59Z", "2100-02-29T00:00:00Z", "2000-02-30T00:00:00Z",
              "2000-04-31T00:00:00Z", "2000-13-01T00:00:00Z", "2000-01-01T24:00:00Z", "2000-01-01T00:60:00Z", "2000-01-01T00:00:60Z",
              "2000-01-01T00:00:00", "2000-00-01T00:00:00Z", "2000-01-00T00:00:00Z"]
-ODD_DURATIONS = ["P", "PT", "P1DT", "PT0S", "P0D", "PT100000000S", "PT100000001S", "P1157DT9H46M40S", "P1157DT9H46M41S", "P1158D",
-                 "P1M", "PT1M1H", "PT1S1M", "PT1H1S", "P1D1H", "P1DT1S", "PT27777H46M40S", "PT1666667M", "p1d", "P1Y", "PT1.5S"]
+ODD_DURATIONS = ["P", "PT", "P1DT", "PT0S", "P0D", "P0DT", "P0", "P0M", "PT0S0M", "PT0D", "-P0D",
+                 "PT100000000S", "PT100000001S", "P1157DT9H46M40S", "P1157DT9H46M41S", "P1158D", "P1M", "PT1M1H", "PT1S1M",
+                 "PT1H1S", "P1D1H", "P1DT1S", "PT27777H46M40S", "PT1666667M", "p1d", "P1Y", "PT1.5S"]
 ODD_TAGS = ["<a/>", "<a>", "</a>", "<o-ex:constraint/>", "<o-dd:play/>", "<o-dd:print/>", "<o-ex:permission/>", "<o-ex:asset/>",
             "<ds:KeyInfo/>", "<o-ex:context>", "<o-dd:version>2.2</o-dd:version>", "<o-dd:count>5</o-dd:count>", "<!-- -->",
             "<?x?>", "&amp;", "x", " ", "\n",

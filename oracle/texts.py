@@ -1,6 +1,6 @@
 """Makes the stored text cases: python3 oracle/texts.py
 
-Each case is an XML text and the answer that order 1 of document 02 gives it, written here by hand: for a refusal its
+Each case is an XML text and the answer that orders 1 and 2 of document 02 give it, written here by hand: for a refusal its
 number, for an accepted text the number of elements and the book. The reader of xml_rights.py must agree with every one of
 them, or nothing is written. The script writes
 
@@ -21,7 +21,7 @@ from rights import Asset, Book, Entry
 
 HERE = Path(__file__).resolve().parent
 CRATES = HERE.parent / "crates"
-LONGEST, ALL = 20_000, 400_000      # bytes of a text, and of all together
+LONGEST, ALL = 20_000, 450_000      # bytes of a text, and of all together
 CASES = []                          # (code, elements, name, text, book)
 
 KINDS = ["play", "display", "execute", "print", "export"]
@@ -687,9 +687,13 @@ def values():
         bad(41, f"inherit uid {text!r}", upto(agreed(asset(more=inherit(text))), "<o-ex:inherit><o-ex:context>" + el("uid", text)))
     bad(41, "inherit uid pid:0 in a whole text", agreed(asset(more=inherit("pid:0"))))
     for name, field in (("count", "count"), ("timed-count", "timed")):
-        for digits, number in (("1", 1), ("1000000", 1_000_000), ("007", 7), ("0" * 60 + "3", 3), ("0001000000", 1_000_000)):
+        for digits, number in (("1", 1), ("1000000", 1_000_000), ("007", 7), ("0" * 60 + "3", 3), ("0001000000", 1_000_000),
+                               ("0", 0), ("00", 0), ("0" * 60, 0)):
             good(11, f"{name} {digits[-10:]} of {len(digits)} digits", limited(el(name, digits)), f"1 | 1 play {field} {number}")
-        for text in ("0", "00", "1000001", "9" * 60, *WRAPS, *NO_NUMBERS[:None if name == "count" else 6]):
+        for text in ("0", "00"):
+            bad(40, f"{name} {text!r}, then cut", upto(limited(el(name, text)), f"</{FULL[name]}>"))
+        for text in ("1000001", "0001000001", "-0", "+0", " 0", "0 ", "0.0", "0x", "9" * 60, *WRAPS,
+                     *NO_NUMBERS[:None if name == "count" else 6]):
             bad(41, f"{name} {text[:40]!r}", upto(limited(el(name, text)), f"</{FULL[name]}>"))
         bad(41, f"{name}, an empty-element tag", limited(empty(name)))
         bad(41, f"{name} 1000001 in a whole text", limited(el(name, "1000001")))
@@ -748,27 +752,77 @@ def durations():
             ("PT" + "0" * 60 + "5S", 5),
             ("PT100000000S", 100_000_000), ("P1157D", 99_964_800), ("P1157DT9H46M40S", 100_000_000),
             ("PT27777H46M40S", 100_000_000),
-            ("PT1666666M40S", 100_000_000)):
+            ("PT1666666M40S", 100_000_000), ("PT0S", 0), ("P0D", 0), ("P0DT0H0M0S", 0), ("PT0H", 0), ("PT0M", 0), ("PT0H0S", 0),
+            ("P0DT0S", 0), ("P00DT00H00M00S", 0), ("P" + "0" * 60 + "D", 0)):
         good(11, f"interval {text[:20]}", limited(el("interval", text)), f"1 | 1 play interval {seconds}")
-    for text, seconds in (("PT1S", 1), ("P1D", 86_400), ("P15DT10H30M20S", 1_333_820), ("PT100000000S", 100_000_000)):
+    for text, seconds in (("PT1S", 1), ("P1D", 86_400), ("P15DT10H30M20S", 1_333_820), ("PT100000000S", 100_000_000),
+                          ("PT0S", 0), ("P0D", 0), ("P0DT0H0M0S", 0), ("PT0H", 0), ("PT00M", 0)):
         good(11, f"accumulated {text}", limited(el("accumulated", text)), f"1 | 1 play accumulated {seconds}")
     for text in (
             "", "P", "PT", "T", "P1DT", "PT1", "P1", "1D", "T1H", "1S", "P1H", "P1S", "P1M", "PT1D", "PT1S1M", "PT1M1H", "PT1S1H",
             "P1D1H",
             "P1D1D", "PT1H1H", "PT1M1M", "PT1S1S", "PT1HT1M", "P1DT1HT1M", "PP1D", "P1Y", "P1W", "P1Y1D", "PT1.5S", "P1.5D", "P-1D",
             "-P1D", "+P1D", " PT1S", "PT1S ", "PT 1S", "P 1D", "pt1s", "PT1s", "P1d", "PTS", "PD", "PTHMS", "PDTHMS", "PT1HM",
-            "P0D", "PT0S",
-            "P0DT0H0M0S", "PT0H", "PT100000001S", "P1158D", "P1157DT9H46M41S", "PT27777H46M41S", "PT1666667M", "PT27778H",
+            "P0", "PT0", "P0DT", "P0Y", "P0M", "P0W", "PT0.0S", "-PT0S", "P-0D", "0S", "0", "PT0S0M", "P0H", "PT0D",
+            "PT100000001S", "P1158D", "P1157DT9H46M41S", "PT27777H46M41S", "PT1666667M", "PT27778H",
             "PT" + "9" * 60 + "S",
             "P" + "9" * 60 + "D", "PT4294967297S", "PT18446744073709551617S", "P33554433D", "P144115188075855873D",
             "PT1152921504606846976H1S", "PT4611686018427387904M1S", "P1DT18446744073709465217S", "5", "PT1S\n", "PT\xb9S"):
         bad(41, f"interval {text[:30]!r}", upto(limited(el("interval", text)), "</o-dd:interval>"))
-    for text in ("", "P", "PT", "P1DT", "P0D", "PT0S", "PT100000001S", "P1M", "PT1S1M", " PT1S", "PT1S "):
+    for text in ("", "P", "PT", "P1DT", "P0DT", "P0", "0", "PT100000001S", "P1M", "PT1S1M", " PT1S", "PT1S "):
         bad(41, f"accumulated {text!r}", upto(limited(el("accumulated", text)), "</o-dd:accumulated>"))
-    bad(41, "an interval of 0 in a whole text", limited(el("interval", "PT0S")))
+    for name in ("interval", "accumulated"):
+        for text in ("P0D", "PT0S"):
+            bad(40, f"{name} {text!r}, then cut", upto(limited(el(name, text)), f"</{FULL[name]}>"))
     bad(41, "accumulated too long in a whole text", limited(el("accumulated", "PT100000001S")))
     bad(41, "interval, an empty-element tag", limited(empty("interval")))
     bad(41, "accumulated, an empty-element tag", limited(empty("accumulated")))
+
+
+# ---- Order 2: a limit of 0
+
+ZEROS = {"count": el("count", "0"), "timed": el("timed-count", "0"), "interval": el("interval", "PT0S"),
+         "accumulated": el("accumulated", "PT0S")}
+
+
+def limits_of_zero():
+    for limit, text in ZEROS.items():
+        for name in KINDS[1:]:
+            if limit == "accumulated" and name in KINDS[3:]:
+                bad(41, f"{limit} 0 on {name}", limited(text, name=name))
+            else:
+                good(11, f"{limit} 0 on {name}", limited(text, name=name), f"1 | 1 {name} {limit} 0")
+        dates = dated("1970-01-01T00:00:05Z", "1970-01-01T00:00:06Z")
+        good(14, f"{limit} 0 with dates", limited(*((text, dates) if limit in ("count", "timed") else (dates, text))),
+             f"1 | 1 play {limit} 0 start 5 end 6")
+        good(14, f"{limit} 0 in the first of two permissions", agreed(
+            asset(), el("permission", kind(text)), el("permission", kind(name="play"))), f"1 | 1 play {limit} 0; 1 play")
+        good(13, f"{limit} 0 does not reach the next kind", permitted(kind(text), kind(name="display")),
+             f"1 | 1 play {limit} 0; 1 display")
+    good(16, "a count of 0 for two references", agreed(ONE, TWO, el("permission", references("b", "a") + kind(ZEROS["count"]))),
+         "1; 2 | 2 play count 0; 1 play count 0")
+    good(14, "all four 0", limited(*ZEROS.values()), "1 | 1 play count 0 timed 0 interval 0 accumulated 0")
+    good(17, "all four 0 with a timer and dates", limited(
+        ZEROS["count"], el("timed-count", "0", timer("30")), dated("1970-01-01T00:00:00Z", "1970-01-01T00:00:00Z"),
+        ZEROS["interval"], ZEROS["accumulated"]), "1 | 1 play count 0 timed 0 timer 30 start 0 end 0 interval 0 accumulated 0")
+    good(13, "three of them 0 on print", limited(ZEROS["count"], ZEROS["timed"], ZEROS["interval"], name="print"),
+         "1 | 1 print count 0 timed 0 interval 0")
+    for limit, text, words in (("count", "timed-count", "count 0 timed 7"), ("timed", "interval", "timed 0 interval 7"),
+                               ("interval", "accumulated", "interval 0 accumulated 7")):
+        other = el(text, "7" if text == "timed-count" else "PT7S")
+        good(12, f"{limit} 0 beside {text} 7", limited(ZEROS[limit], other), f"1 | 1 play {words}")
+    good(12, "accumulated 0 behind a count of 7", limited(el("count", "7"), ZEROS["accumulated"]),
+         "1 | 1 play count 7 accumulated 0")
+    good(11, "timed count 0, the greatest timer", limited(el("timed-count", "0", timer("1000000"))),
+         "1 | 1 play timed 0 timer 1000000")
+    good(11, "timed count 0, timer 0, on print", limited(el("timed-count", "0", timer("0")), name="print"), "1 | 1 print timed 0")
+    bad(41, "timed count 0, a timer too great", limited(el("timed-count", "0", timer("1000001"))))
+    bad(41, "timed count 0, a timer on export", limited(el("timed-count", "0", timer("1")), name="export"))
+    bad(41, "a count of 0, start after end", limited(ZEROS["count"], dated("1970-01-01T00:00:06Z", "1970-01-01T00:00:05Z")))
+    bad(41, "a count of 0 twice", limited(ZEROS["count"], ZEROS["count"]))
+    bad(41, "a count of 0 behind an interval of 0", limited(ZEROS["interval"], ZEROS["count"]))
+    bad(41, "a count of 0, a timed count too great", limited(ZEROS["count"], el("timed-count", "1000001")))
+    bad(41, "an interval of 0, an accumulated too long", limited(ZEROS["interval"], el("accumulated", "PT100000001S")))
 
 
 # ---- Rules of the book
@@ -912,7 +966,8 @@ def many_entries():
             (41, "a timer on export", kind(el("timed-count", "5", timer("1")), name="export")),
             (41, "text in the kind", el("play", "x")), (41, "an element that is not accepted in the kind", el("play", "<a/>")),
             (41, "an id twice", empty("play", named("a"))), (41, "& in the kind", "<o-dd:play &/>"),
-            (41, "a count of 0", kind(el("count", "0"))), (40, "an attribute twice", "<o-dd:play a='' a=''/>"),
+            (42, "a count of 0", kind(el("count", "0"))), (41, "a count too great", kind(el("count", "1000001"))),
+            (40, "an attribute twice", "<o-dd:play a='' a=''/>"),
             (40, "another closing tag", "<o-dd:play></o-dd:display>"),
             (40, "start after end and another closing tag", kind(wrong).replace("</o-dd:play>", "</o-dd:display>"))):
         bad(code, f"65 entries: {name}", agreed(before, el("permission", each)))
@@ -1075,8 +1130,8 @@ def appendix():
 
 # ---- Writing
 
-GROUPS = [forms, white_space, not_well_formed, marks, elements, attributes, values, book_rules, depth, many_elements, many_assets,
-          many_entries, two_faults, appendix]
+GROUPS = [forms, white_space, not_well_formed, marks, elements, attributes, values, limits_of_zero, book_rules, depth, many_elements,
+          many_assets, many_entries, two_faults, appendix]
 
 
 def cases():

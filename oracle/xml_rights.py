@@ -1,4 +1,4 @@
-"""The reader of XML rights objects a second time, in plain Python, from order 1 of document 02 and the element lines
+"""The reader of XML rights objects a second time, in plain Python, from orders 1 and 2 of document 02 and the element lines
 of 004 alone.
 
 read(text) gives (code, elements, book): 0, the number of elements and the fresh book of an accepted text, or 40, 41 or
@@ -21,6 +21,7 @@ from rights import LATEST, MOST, Asset, Book, Entry
 DEPTH = 12                      # of rights, which is 1, and everything in it
 ELEMENTS = 256
 GREATEST_NUMBER = 65_535        # of a rights object or an asset
+LEAST_LIMIT = 0                 # of a count, a timed count, an interval and an accumulated (order 2)
 GREATEST_COUNT = 1_000_000      # also of a timed count
 GREATEST_TIMER = 1_000_000
 GREATEST_DURATION = 100_000_000
@@ -270,7 +271,7 @@ def duration_in(text):
     if (clock is None) != (rest == [None] * 3) or days is None and clock is None:
         raise not_accepted()
     parts = [value_of(part or b"0") for part in (days, *rest)]
-    return within(sum(part * seconds for part, seconds in zip(parts, PART_SECONDS)), 1, GREATEST_DURATION)
+    return within(sum(part * seconds for part, seconds in zip(parts, PART_SECONDS)), LEAST_LIMIT, GREATEST_DURATION)
 
 
 # ---- The elements
@@ -432,10 +433,10 @@ class Reader:
             else:
                 self.asset.inherit = number
         elif shape == "count":
-            entry.count = number_in(text, 1, GREATEST_COUNT)
+            entry.count = number_in(text, LEAST_LIMIT, GREATEST_COUNT)
             entry.flags |= rights.COUNT
         elif shape == "timed-count":
-            entry.timed = number_in(text, 1, GREATEST_COUNT)
+            entry.timed = number_in(text, LEAST_LIMIT, GREATEST_COUNT)
             entry.flags |= rights.TIMED
         elif shape == "start":
             entry.start = time_in(text)
@@ -476,12 +477,12 @@ def is_white(text):
 # ---- Why a text is refused, in words
 
 NUMBER, TIMES = "a number from {} to {:,}", "a time from 1970-01-01T00:00:00Z to 2096-10-02T07:06:40Z, written like these"
-DURATIONS = f"a duration from 1 to {GREATEST_DURATION:,} seconds, written like P1DT2H30M or PT90S"
+DURATIONS = f"a duration from {LEAST_LIMIT} to {GREATEST_DURATION:,} seconds, written like P1DT2H30M or PT90S"
 VALUES = {
     "version": "2.2",
     "uid": NUMBER.format(1, GREATEST_NUMBER),
-    "count": NUMBER.format(1, GREATEST_COUNT),
-    "timed-count": NUMBER.format(1, GREATEST_COUNT),
+    "count": NUMBER.format(LEAST_LIMIT, GREATEST_COUNT),
+    "timed-count": NUMBER.format(LEAST_LIMIT, GREATEST_COUNT),
     "timer": NUMBER.format(0, GREATEST_TIMER),
     "start": TIMES,
     "end": TIMES,
