@@ -307,13 +307,13 @@ impl Image {
 
     fn entry_is_good(&self, entry: &Stored) -> bool {
         let limits = [
-            (COUNT, entry.count, 1, 1_000_000),
-            (TIMED, entry.timed, 1, 1_000_000),
+            (COUNT, entry.count, 0, 1_000_000),
+            (TIMED, entry.timed, 0, 1_000_000),
             (TIMED, entry.timer, 0, 1_000_000),
             (START, entry.start, 0, LATEST),
             (END, entry.end, 0, LATEST),
-            (INTERVAL, entry.interval, 1, 100_000_000),
-            (ACCUMULATED, entry.accumulated, 1, 100_000_000),
+            (INTERVAL, entry.interval, 0, 100_000_000),
+            (ACCUMULATED, entry.accumulated, 0, 100_000_000),
         ];
         entry.object != 0
             && self.assets.iter().any(|asset| asset.number == entry.asset)
@@ -379,6 +379,13 @@ impl Image {
 impl Stored {
     fn has(&self, flag: u8) -> bool {
         self.flags & flag != 0
+    }
+
+    /// Whether a flagged count, timed count, interval or accumulated is 0: such an entry suits, and is never granted.
+    fn is_never_grantable(&self) -> bool {
+        let limits =
+            [(COUNT, self.count), (TIMED, self.timed), (INTERVAL, self.interval), (ACCUMULATED, self.accumulated)];
+        limits.iter().any(|&(flag, limit)| self.has(flag) && limit == 0)
     }
 }
 
@@ -597,8 +604,10 @@ impl Server {
                 if entry.asset == asset.number || entry.asset == parent {
                     let to = &mut server.candidates[KINDS * i + entry.kind as usize - 1];
                     to.suits = true;
-                    to.positions[to.len as usize] = position as u8;
-                    to.len += 1;
+                    if !entry.is_never_grantable() {
+                        to.positions[to.len as usize] = position as u8;
+                        to.len += 1;
+                    }
                 }
             }
         }
