@@ -172,7 +172,8 @@ enum { RIGHTS_ASSET_NUMBER, RIGHTS_ASSET_INHERIT, RIGHTS_ASSET_KEY, RIGHTS_ASSET
 uint8_t rights_asset(const uint8_t *image, size_t image_length, uint32_t position, uint32_t *out, size_t out_length);
 
 /* The entry at a position, from 0: its limits, and what the image says has been used. A limit whose flag is missing is
- * 0, and so is its meter. The seconds of an open use are counted as used up to its until. */
+ * 0, and so is its meter. A count, timed count, interval or accumulated that is flagged and 0 is never granted. The seconds of an
+ * open use are counted as used up to its until. */
 enum {
     RIGHTS_ENTRY_OBJECT,      /* number of the rights object */
     RIGHTS_ENTRY_ASSET,
@@ -215,7 +216,8 @@ uint8_t rights_left(const uint8_t *image, size_t image_length, uint32_t position
 
 /* What stands against granting the entry at a position to a player, as a begin at that time would find it (see rights_left for
  * the time): 1 for each ground that stands, otherwise 0. The entry is grantable if all are 0. Whether it is suitable, and
- * whether the player may begin at all, is not judged. */
+ * whether the player may begin at all, is not judged. A count, a timed count or an accumulated of 0 is spent from the start; an
+ * interval of 0 has a ground of its own, and is over too if it has started. */
 enum {
     RIGHTS_GROUNDS_COUNT_SPENT,
     RIGHTS_GROUNDS_TIMED_SPENT,
@@ -223,6 +225,7 @@ enum {
     RIGHTS_GROUNDS_AFTER_END,
     RIGHTS_GROUNDS_INTERVAL_OVER,
     RIGHTS_GROUNDS_SECONDS_SPENT,
+    RIGHTS_GROUNDS_INTERVAL_ZERO, /* the interval is 0: never granted */
     RIGHTS_GROUNDS_NUMBERS
 };
 

@@ -133,13 +133,15 @@ BOOK_LINES = [          # the text after BOOK, the number of the line that is na
     (f"{ENTRY}, timed 5, timed 5", 3, "`timed` is given twice"),
     (f"{ENTRY}, interval 5, first 0, first 0", 3, "`first` is given twice"),
     (f"{ENTRY}, count 5, used count 1, used count 2", 3, "`used count` is given twice"),
-    (f"{ENTRY}, count 0", 3, "1 is the least"),
+    (f"{ENTRY}, count 0, used count 1", 3, "1 is used of count, more than its limit, 0"),
+    (f"{ENTRY}, timed 0, used timed 1", 3, "1 is used of timed, more than its limit, 0"),
+    (f"{ENTRY}, accumulated 0, used accumulated 1", 3, "1 is used of accumulated, more than its limit, 0"),
     (f"{ENTRY}, count 1000001", 3, "1000000 is the greatest"),
     (f"{ENTRY}, count {NINES}", 3, "1000000 is the greatest"),
     (f"{ENTRY}, count", 3, "the line ends where the count is expected"),
     (f"{ENTRY}, count two", 3, "should be a number, not `two`"),
     (f"{ENTRY}, count 1.5", 3, "should be a number, not `1.5`"),
-    (f"{ENTRY}, interval 0", 3, "1 is the least"),
+    (f"{ENTRY}, interval 0, first 1", 3, "the first use is after the book's time (0)"),
     (f"{ENTRY}, interval 1158d", 3, "100000000 is the greatest"),
     (f"{ENTRY}, interval {NINES}d", 3, "100000000 is the greatest"),
     (f"{ENTRY}, interval week", 3, "should be seconds, or a number with s, min, h or d"),
@@ -153,6 +155,7 @@ BOOK_LINES = [          # the text after BOOK, the number of the line that is na
     (f"{ENTRY}, interval 5, first 7", 3, "the first use is after the book's time (0)"),
     (f"{ENTRY}, cont 2", 3, "`cont` is not understood in an entry"),
     ("entry 0: object 1, asset 1, print, accumulated 5", 3, "print and export take no time"),
+    ("entry 0: object 1, asset 1, print, accumulated 0", 3, "print and export take no time"),
     ("entry 0: object 1, asset 1, export, timed 5, timer 5", 3, "print and export take no time"),
     ("\n".join(["entry object 1 asset 1 play"] * 65), 67, "at most 64 entries"),
     ("player 16: number 1, stop, refused 14", 3, "15 is the greatest"),
@@ -174,6 +177,9 @@ BOOK_LINES = [          # the text after BOOK, the number of the line that is na
     (f"{ENTRY}, start 5, end 90\ntime 10\nplayer 0: number 1, stop, refused 14, open 0 4 20", 5, "outside the dates"),
     (f"{ENTRY}, interval 5\nplayer 0: number 1, stop, refused 14, open 0 0 5", 4, "`first` is missing there"),
     (f"{ENTRY}, interval 5, first 0\nplayer 0: number 1, stop, refused 14, open 0 0 6", 4, "outside the interval"),
+    (f"{ENTRY}, interval 0\nplayer 0: number 1, stop, refused 14, open 0 0 1", 4, "`first` is missing there"),
+    (f"{ENTRY}, interval 0, first 0\nplayer 0: number 1, stop, refused 14, open 0 0 1", 4, "outside the interval"),
+    (f"{ENTRY}, count 0\nplayer 0: number 1, stop, refused 14, open 0 0 6", 3, "`used count` is less than"),
     ("entry 0: object 1, asset 1, print\nplayer 0: number 1, stop, refused 14, open 0 0 6", 4, "a print is never open"),
     (f"{ENTRY}, count 5\nplayer 0: number 1, stop, refused 14, open 0 0 6", 3, "`used count` is less than"),
     (f"{ENTRY}, timed 5\nplayer 0: number 1, stop, refused 14, open 0 0 6", 3, "`used timed` is less than"),
@@ -455,21 +461,21 @@ def wild_entry(rng, asset, now):
     entry = Entry(rng.randint(1, 65_535), asset, kind, flags)
     near = lambda: max(0, min(LATEST, now + rng.choice((-1, 0, 1, -100, 100, rng.randint(-10**8, 10**8)))))
     if flags & rights.COUNT:
-        entry.count = rng.choice((1, 20, 1_000_000))
+        entry.count = rng.choice((0, 1, 20, 1_000_000))
         entry.used_count = rng.randint(0, entry.count)
     if flags & rights.TIMED:
-        entry.timed, entry.timer = rng.choice((1, 20, 1_000_000)), rng.choice((0, 1, 45, 1_000_000)) if kind < 4 else 0
+        entry.timed, entry.timer = rng.choice((0, 1, 20, 1_000_000)), rng.choice((0, 1, 45, 1_000_000)) if kind < 4 else 0
         entry.used_timed = rng.randint(0, entry.timed)
     if flags & rights.START:
         entry.start = near()
     if flags & rights.END:
         entry.end = max(entry.start, near())
     if flags & rights.INTERVAL:
-        entry.interval = rng.choice((1, 90, 100_000_000))
+        entry.interval = rng.choice((0, 1, 90, 100_000_000))
         entry.started = rng.randint(0, 1)
         entry.first = entry.started * max(0, now - rng.choice((0, 1, 89, 90, rng.randint(0, 10**8))))
     if flags & rights.ACCUMULATED:
-        entry.accumulated = rng.choice((1, 500, 100_000_000))
+        entry.accumulated = rng.choice((0, 1, 500, 100_000_000))
         entry.used_seconds = rng.randint(0, entry.accumulated)
     return entry
 
@@ -514,10 +520,11 @@ def random_books(how_many):
 
 def test_round_trips(folder, how_many):
     path, image = folder / "trip.txt", folder / "trip.rbk"
-    opened = 0
+    opened = never = 0
     for seed, rng, book in random_books(how_many):
         data = rights.write(book)
         opened += any(player.open for player in book.players)
+        never += any(entry.has_limit_of_zero() for entry in book.entries)
         text = "\n".join(texts.text_lines(book)) + "\n"
         path.write_text(text)
         again = texts.book_of_text(path)
@@ -530,6 +537,7 @@ def test_round_trips(folder, how_many):
             done = call("show", image)
             check(f"show of book {seed}", done.status == 0 and done.err == "", done)
     check("many of the books have open uses", opened > how_many / 4, str(opened))
+    check("many of the books have limits of 0", never > how_many / 4, str(never))
 
 
 # ---- diff
@@ -572,6 +580,9 @@ def test_diff(folder, how_many):
         "asset 2: key -> key, inherits 9", "asset 1: only in the first: key",
         "entry 0: only in the first: object 1, asset 1, play",
         "entry 1: only in the first: object 1, asset 2, display, count 5"], str(lines))
+    none, zero = Book(assets=[Asset(1, 0, 1)], entries=[Entry(1, 1, 1)]), Book(assets=[Asset(1, 0, 1)], entries=[Entry(1, 1, 1, 17)])
+    lines = list(state.differences(none, zero))
+    check("diff: a limit of 0 is not no limit", lines == ["entry 0: count none -> 0; interval none -> 0"], str(lines))
     first, second = AFTERNOON / "rights.rbk", folder / "second.rbk"
     second.write_bytes(rights.write(Book(time=5)))
     check("diff: the same", (lambda done: (done.status, done.out, done.err))(call("diff", first, first)) == (0, b"", ""))
@@ -636,7 +647,9 @@ def test_left(folder, how_many):
             says = "; can be granted, " in line
             seen[says] += 1
             alone = asked_alone(rng, book, position, t)
-            parts.append((says != ("; nobody can use it: " in line), f"one of two: {line}"))
+            never = "; never granted: " in line
+            parts.append(([says, never, "; nobody can use it: " in line].count(True) == 1, f"one of three: {line}"))
+            parts.append((never == book.entries[position].has_limit_of_zero(), f"never: {line}"))
             parts.append((says == granted_by_oracle(*alone), f"by the second program, at {t}: {line}"))
             if position < 3 and len(alone[1]) < 8:
                 parts.append((says == granted_by_run(folder, *alone), f"by the run program, at {t}: {line}"))
@@ -654,7 +667,7 @@ def figures(book, t, lines):
         for name, flag, used, most in (("; count", rights.COUNT, entry.used_count, entry.count),
                                        ("; timed count", rights.TIMED, entry.used_timed, entry.timed),
                                        ("; seconds", rights.ACCUMULATED, entry.used_seconds, entry.accumulated)):
-            wanted = f"{name} {used} of {most} used, {most - used} left"
+            wanted = f"{name} {used} of {most} used, {most - used} left" if most else f"{name} 0: never"
             yield (wanted in line) if entry.has(flag) else (f"{name} " not in line), f"`{wanted}`: {line}"
         users = [index for index, player in enumerate(book.players) if player.open and player.open_entry == position]
         yield users == [int(number) for number in re.findall("player ([0-9]+) until", line)], f"open by {users}: {line}"
@@ -679,6 +692,11 @@ entry 7: object 1, asset 1, play, interval 1h, first 900, end 9000
 entry 8: object 1, asset 1, play, interval 100, first 900
 entry 9: object 1, asset 1, play, accumulated 60, used accumulated 60
 entry 10: object 1, asset 1, display, timed 1, timer 30, used timed 1, count 3, used count 3
+entry 11: object 1, asset 9, play, count 0, start 2000
+entry 12: object 1, asset 1, display, timed 0, timer 30, count 3, used count 3
+entry 13: object 1, asset 1, print, interval 0
+entry 14: object 1, asset 1, play, interval 0, first 1000, count 5, used count 1
+entry 15: object 1, asset 7, play, count 0, timed 0, interval 0, accumulated 0, end 900
 player 0: number 1, begin 1 play, granted 9 1060, open 9 1000 1060
 player 3: number 1, begin 1 play, granted 0 1040, open 0 980 1040
 """)
@@ -701,6 +719,13 @@ entry 9: play of asset 1; seconds 60 of 60 used, 0 left (0 s); open: player 0 un
 nobody can use it: the seconds are used up (a stop of an open use gives some back)
 entry 10: display of asset 1; count 3 of 3 used, 0 left; timed count 1 of 1 used, 0 left (a use counts from 30 s on); open: nobody; \
 nobody can use it: the count is used up and the timed count is used up
+entry 11: play of asset 9 (for 1); count 0: never; open: nobody; never granted: the count is 0
+entry 12: display of asset 1; count 3 of 3 used, 0 left; timed count 0: never (a use counts from 30 s on); open: nobody; \
+never granted: the timed count is 0
+entry 13: print of asset 1; no count and no seconds to use up; open: nobody; never granted: the interval is 0
+entry 14: play of asset 1; count 1 of 5 used, 4 left; open: nobody; never granted: the interval is 0
+entry 15: play of asset 7; count 0: never; timed count 0: never; seconds 0: never; open: nobody; never granted: the count is 0 and \
+the timed count is 0 and the interval is 0 and the seconds are 0
 """
     check("left: a book with every case", done.out.decode() == wanted, done.out.decode())
     done = call("left", "--at", "1970-01-01", "00:16:40", "(1000)", image)
@@ -716,6 +741,25 @@ nobody can use it: the count is used up and the timed count is used up
     check("show: an entry on an illegal asset",
           "play of asset 7: nobody can use it at 1970-01-01 00:16:40: asset 7 is illegal" in out, out)
     check("show: an entry on a parent without heirs", "play of asset 8: nobody can use it at" in out, out)
+    for lines in ("""\
+     11  rights object 1, play of asset 9: never granted: the count is 0
+         count 0: never
+         from 1970-01-01 00:33:20 (2000)
+""", """\
+     13  rights object 1, print of asset 1: never granted: the interval is 0
+         interval 0: never
+     14  rights object 1, play of asset 1: never granted: the interval is 0
+         count 1 of 5 used, 4 left
+         interval 0: never, started 1970-01-01 00:16:40 (1000)
+     15  rights object 1, play of asset 7: never granted: the count is 0 and the timed count is 0 and the interval is 0 and \
+the seconds are 0
+         count 0: never
+         timed count 0: never
+         seconds 0: never
+         to 1970-01-01 00:15:00 (900)
+         interval 0: never
+"""):
+        check(f"show: limits of 0, entry {lines.split()[0]}", lines in out, out)
 
 
 # ---- why
@@ -755,15 +799,19 @@ def why_parts(book, asset, kind, t, answer, lines):
             yield said == (f"can be granted; {chosen}" if answer[0] == 0 else "nothing stands against it"), line
             continue
         wanted = [words for words, stands in (
-            (f"count: {entry.count} of {entry.count} used", entry.has(rights.COUNT) and entry.used_count == entry.count),
-            (f"timed count: {entry.timed} of {entry.timed} used", entry.has(rights.TIMED) and entry.used_timed == entry.timed),
+            (all_used("count", entry.count), entry.has(rights.COUNT) and entry.used_count == entry.count),
+            (all_used("timed count", entry.timed), entry.has(rights.TIMED) and entry.used_timed == entry.timed),
             (f"not before {words.date(entry.start)}", entry.has(rights.START) and t < entry.start),
             (f"not after {words.date(entry.end)}", entry.has(rights.END) and entry.end < t),
             (f"interval over since {words.date(entry.first + entry.interval)}",
-             entry.has(rights.INTERVAL) and entry.started and entry.first + entry.interval <= t),
-            (f"seconds: {entry.accumulated} of {entry.accumulated} used",
-             entry.has(rights.ACCUMULATED) and entry.used_seconds == entry.accumulated)) if stands]
+             entry.interval and entry.started and entry.first + entry.interval <= t),
+            (all_used("seconds", entry.accumulated), entry.has(rights.ACCUMULATED) and entry.used_seconds == entry.accumulated),
+            ("interval 0: never granted", entry.has(rights.INTERVAL) and not entry.interval)) if stands]
         yield said == "; ".join(wanted), f"wanted {wanted}: {line}"
+
+
+def all_used(name, limit):
+    return f"{name}: {limit} of {limit} used" if limit else f"{name} 0: never granted"
 
 
 def test_why_words(folder):
@@ -782,6 +830,10 @@ entry 4: object 1, asset 1, play, end 999
 entry 5: object 1, asset 1, play, interval 100, first 900
 entry 6: object 1, asset 1, play, accumulated 60, used accumulated 60
 entry 7: object 1, asset 1, display, timed 1, timer 30, used timed 1
+entry 8: object 3, asset 9, execute, count 0, start 2000
+entry 9: object 3, asset 1, execute, timed 0, timer 30, accumulated 0
+entry 10: object 3, asset 1, execute, interval 0
+entry 11: object 3, asset 1, execute, interval 0, first 1000, count 5, used count 5
 player 0: number 1, begin 1 play, granted 6 1060, open 6 1000 1060
 player 1: number 4294967295, stop, refused 14
 """)
@@ -799,8 +851,15 @@ The answer would be 0, granted by entry 2 until 1970-01-01 00:17:40 (1060).
 """), ((3, 1, "display", "--at", "5"), """\
 Player 3 asks to display asset 1 at 1970-01-01 00:16:40 (1000), UTC, the book's time (at 1970-01-01 00:00:05 (5), as asked, \
 it would be turned away with 5).
-The answer would be 13, refused: every entry for it is used up or out of its dates.
+The answer would be 13, refused: every entry for it is used up, out of its dates or never granted.
   entry 7 (its own, rights object 1): timed count: 1 of 1 used
+"""), ((3, 1, "execute", "--at=1059"), """\
+Player 3 asks to execute asset 1 at 1970-01-01 00:17:39 (1059), UTC, as asked.
+The answer would be 13, refused: every entry for it is used up, out of its dates or never granted.
+  entry 8 (inherited from 9, rights object 3): count 0: never granted; not before 1970-01-01 00:33:20
+  entry 9 (its own, rights object 3): timed count 0: never granted; seconds 0: never granted
+  entry 10 (its own, rights object 3): interval 0: never granted
+  entry 11 (its own, rights object 3): count: 5 of 5 used; interval 0: never granted
 """), ((0, 1, "display", "--at=1059"), """\
 Player 0 asks to display asset 1 at 1970-01-01 00:17:39 (1059), UTC, as asked.
 The answer would be 11, refused: the player has a use open: entry 6, since 1970-01-01 00:16:40, until 1970-01-01 00:17:40.
@@ -810,7 +869,7 @@ Player 3 asks to play asset 2 at 1970-01-01 00:17:39 (1059), UTC, as asked.
 The answer would be 12, refused: the book has no entry of this kind for the asset: it has none of any kind.
 """), ((3, 1, "print", "--at=1059"), """\
 Player 3 asks to print asset 1 at 1970-01-01 00:17:39 (1059), UTC, as asked.
-The answer would be 12, refused: the book has no entry of this kind for the asset: it has play, display.
+The answer would be 12, refused: the book has no entry of this kind for the asset: it has play, display, execute.
 """), ((1, 1, "play", "--at=9000"), """\
 Player 1 asks to play asset 1 at 1970-01-01 02:30:00 (9000), UTC, as asked.
 The answer would be 3, turned away: its number is not the player's next one: it has used all of them, up to 4294967295.
@@ -978,15 +1037,15 @@ FAULTS = [
     (41, "film", "<o-dd:uid>1<", "<o-dd:uid>@cid:1<", 'the uid "cid:1" of the rights object is not a number from 1 to 65,535'),
     (41, "film", "<o-dd:uid>cid:1<", "<o-dd:uid>@1<", 'the uid "1" of the asset is not cid: or pid: and a number from 1 to 65,535'),
     (41, "season", "<o-ex:inherit>(.*?)pid:100", r"<o-ex:inherit>\1@pid:0", 'the uid "pid:0" of the inherit is not cid: or pid: and'),
-    (41, "film", "<o-dd:count>200", "<o-dd:count>@0", 'the count "0" is not a number from 1 to 1,000,000'),
-    (41, "film", "<o-dd:count>200</o-dd:count>", "@<o-dd:count/>", 'the count "" is not a number from 1 to 1,000,000'),
-    (41, "film", "<o-dd:count>200", "<o-dd:count>@\n 200", 'the count "\\n 200" is not a number from 1 to 1,000,000'),
+    (41, "film", "<o-dd:count>200", "<o-dd:count>@-1", 'the count "-1" is not a number from 0 to 1,000,000'),
+    (41, "film", "<o-dd:count>200</o-dd:count>", "@<o-dd:count/>", 'the count "" is not a number from 0 to 1,000,000'),
+    (41, "film", "<o-dd:count>200", "<o-dd:count>@\n 200", 'the count "\\n 200" is not a number from 0 to 1,000,000'),
     (41, "film", "<o-dd:count>200", "<o-dd:count>@" + "9" * 5000, f'the count "{"9" * 57}.. (5000 bytes)" is not a number'),
-    (41, "pack", ">50<", ">@fifty<", 'the timed-count "fifty" is not a number from 1 to 1,000,000'),
+    (41, "pack", ">50<", ">@fifty<", 'the timed-count "fifty" is not a number from 0 to 1,000,000'),
     (41, "film", "2026-12-01T00:00:00Z", "@2026-12-01", 'the start "2026-12-01" is not a time from 1970-01-01T00:00:00Z'),
     (41, "film", "2027-04-30T23:59:59Z", "@2027-04-31T23:59:59Z", 'the end "2027-04-31T23:59:59Z" is not a time from 1970-01-01'),
-    (41, "pack", "P7D", "@P1W", 'the interval "P1W" is not a duration from 1 to 100,000,000 seconds, written like P1DT2H30M or PT90S'),
-    (41, "pack", "P0DT2H0M00S", "@P0DT0H0M00S", 'the accumulated "P0DT0H0M00S" is not a duration from 1 to 100,000,000 seconds'),
+    (41, "pack", "P7D", "@P1W", 'the interval "P1W" is not a duration from 0 to 100,000,000 seconds, written like P1DT2H30M or PT90S'),
+    (41, "pack", "P0DT2H0M00S", "@P0DT", 'the accumulated "P0DT" is not a duration from 0 to 100,000,000 seconds'),
     (41, "pack", "cid:12</o-dd:uid>(.*?)</o-ex:asset>", r"cid:11</o-dd:uid>\1@</o-ex:asset>", "asset 11 stands a second time"),
     (41, "film", "2026-12-01(.*?)</o-dd:play>", r"2036-12-01\1@</o-dd:play>", "the start of this play is after its end"),
     (41, "pack", "<o-dd:count>3</o-dd:count>(.*?)</o-dd:print>", r"<o-dd:accumulated>PT5S</o-dd:accumulated>\1@</o-dd:print>",
@@ -1087,6 +1146,21 @@ Entries: 3
          seconds 0 of 129600 used, 129600 left (1 d 12 h)
       2  rights object 3, display of asset 23
          no limits
+""", "promotion": """\
+Rights object 4, 38 elements
+
+Assets: 2
+     31  has a key
+     32  has a key
+
+Entries: 3
+      0  rights object 4, play of asset 31: never granted: the count is 0
+         count 0: never
+         to 2027-04-30 23:59:59 (1809129599)
+      1  rights object 4, play of asset 32
+         no limits
+      2  rights object 4, print of asset 32: never granted: the interval is 0
+         interval 0: never
 """}
     made = folder / "made.rbk"
     for name, words_made in wanted.items():

@@ -23,7 +23,7 @@ the answer that a begin would get and, for each entry that is suitable, what sta
 
 `import` reads an XML rights object as issuers send it (docs/FORMAT.md), with that library too. A text that is not accepted
 writes nothing and is told with its line and column (in bytes), the code and why: `rights.xml: line 12, column 21: 41: the
-count "0" is not a number from 1 to 1,000,000`.
+count "2000000" is not a number from 0 to 1,000,000`.
 
 Exit status: 0; 1 from `diff` if the books differ; 2 if something is wrong.
 
@@ -40,8 +40,9 @@ The text of a book, one thing a line; `#` starts a comment, commas and colons ma
     entry 3: object 2, asset 3, play, start 2026-12-01, end 2027-04-30, interval 7d
 
 Entries are numbered from 0 in order. Kinds: play, display, execute, print, export. An entry without a limit may be
-used without end. An entry that was used before goes on with `used count 1`, `used timed 1`, `used accumulated 90`
-and `first TIME` (when its interval started). A player that has asked before:
+used without end; one with a count, timed, interval or accumulated of 0 is never granted. An entry that was used before
+goes on with `used count 1`, `used timed 1`, `used accumulated 90` and `first TIME` (when its interval started). A player
+that has asked before:
 
     player 0: number 2, continue, granted 0 1119, open 0 1000 1119
     player 4: number 1, begin 1 play, refused 13

@@ -69,7 +69,8 @@ pub struct Asset {
     pub key: u32,
 }
 
-/// An entry's limits and meters. A limit whose flag is missing is 0, and so is its meter.
+/// An entry's limits and meters. A limit whose flag is missing is 0, and so is its meter. A count, timed count, interval or
+/// accumulated that is flagged and 0 is never granted.
 #[derive(Clone, Copy, Debug, PartialEq, Eq)]
 pub struct Entry {
     pub object: u32,
@@ -100,7 +101,8 @@ pub struct Left {
     pub seconds: u32,
 }
 
-/// What stands against granting an entry: 1 for each ground that stands, otherwise 0.
+/// What stands against granting an entry: 1 for each ground that stands, otherwise 0. A count, a timed count or an accumulated of 0
+/// is spent from the start.
 #[derive(Clone, Copy, Debug, PartialEq, Eq)]
 pub struct Grounds {
     pub count_spent: u32,
@@ -109,6 +111,8 @@ pub struct Grounds {
     pub after_end: u32,
     pub interval_over: u32,
     pub seconds_spent: u32,
+    /// The interval is 0: the entry is never granted. One that has started is over too.
+    pub interval_zero: u32,
 }
 
 /// The last event taken from a player with its answer (number 0: none yet), and its open use.
@@ -396,12 +400,20 @@ pub fn left(image: &[u8], position: u32, time: u32) -> Result<Left, Refused> {
 /// What stands against granting the entry at a position to a player, as a begin at that time would find it; for the time see
 /// `left`. Whether the entry is suitable, and whether the player may begin at all, is not judged.
 pub fn grounds(image: &[u8], position: u32, player: u8, time: u32) -> Result<Grounds, Refused> {
-    let mut out = [0; 6];
+    let mut out = [0; 7];
     let code = unsafe {
         library::rights_grounds(image.as_ptr(), image.len(), position, player, time, out.as_mut_ptr(), out.len())
     };
-    let [count_spent, timed_spent, before_start, after_end, interval_over, seconds_spent] = out;
-    judged(code).map(|()| Grounds { count_spent, timed_spent, before_start, after_end, interval_over, seconds_spent })
+    let [count_spent, timed_spent, before_start, after_end, interval_over, seconds_spent, interval_zero] = out;
+    judged(code).map(|()| Grounds {
+        count_spent,
+        timed_spent,
+        before_start,
+        after_end,
+        interval_over,
+        seconds_spent,
+        interval_zero,
+    })
 }
 
 /// A player, 0 to 15.

@@ -210,6 +210,20 @@ fn entry_numbers(image: &[u8], position: u32) -> Result<Vec<u32>, Refused> {
     })
 }
 
+fn ground_numbers(image: &[u8], position: u32, time: u32) -> Result<Vec<u32>, Refused> {
+    rights::grounds(image, position, (position % 16) as u8, time).map(|g| {
+        vec![
+            g.count_spent,
+            g.timed_spent,
+            g.before_start,
+            g.after_end,
+            g.interval_over,
+            g.seconds_spent,
+            g.interval_zero,
+        ]
+    })
+}
+
 fn player_numbers(image: &[u8], player: u32) -> Result<Vec<u32>, Refused> {
     rights::player(image, player).map(|p| {
         vec![
@@ -242,10 +256,7 @@ fn see(image: &[u8], print: &mut impl Write) {
             seen_line(print, "left", i, Some(time), left);
         }
         for time in [0, now, now + 1, now + 30, now + 59, now + 60, now + 86400, u32::MAX] {
-            let grounds = rights::grounds(image, i, (i % 16) as u8, time).map(|g| {
-                vec![g.count_spent, g.timed_spent, g.before_start, g.after_end, g.interval_over, g.seconds_spent]
-            });
-            seen_line(print, "grounds", i, Some(time), grounds);
+            seen_line(print, "grounds", i, Some(time), ground_numbers(image, i, time));
         }
     }
     for i in 0..=16 {

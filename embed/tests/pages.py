@@ -28,6 +28,13 @@ CODES = {
     40: "XML_FORM XML_CONTENT XML_TOO_MANY",
 }
 
+# the grounds in the order of embed/tests/seen.py
+GROUNDS = "COUNT_SPENT TIMED_SPENT BEFORE_START AFTER_END INTERVAL_OVER SECONDS_SPENT INTERVAL_ZERO NUMBERS"
+
+# the limits whose ranges the page tells, each with its flag
+RANGES = {"count": rights.COUNT, "timed": rights.TIMED, "timer": rights.TIMED, "interval": rights.INTERVAL,
+          "accumulated": rights.ACCUMULATED}
+
 # fields of the second program that have another name in the header
 RENAMED = {"answer_until": "until", "begin": "open_begin", "until": "open_until"}
 
@@ -49,6 +56,18 @@ def page_tables(page):
             expected.append((at, width, name))
             at += width
         must(found == expected, f"the fields of {title}: {found}")
+
+
+def page_ranges(page):
+    """The reader accepts what the page's ranges begin and end with, and nothing next to it."""
+    book = rights.Book(assets=[rights.Asset(1, 0, 1)])
+    for name, flag in RANGES.items():
+        row = re.search(rf"^\| \d+ \| 4 \| {name} \| ([0-9,]+) to ([0-9,]+) ", page, re.M)
+        must(row, f"no range of {name}")
+        least, greatest = (int(number.replace(",", "")) for number in row.groups())
+        for number in (least - 1, least, greatest, greatest + 1):
+            entry = rights.Entry(1, 1, rights.PLAY, flag, **{name: number})
+            must(rights.entry_is_good(book, entry) == (least <= number <= greatest), f"{name} {number}")
 
 
 def page_example(page):
@@ -113,6 +132,8 @@ def header_words(numbers):
         must(numbers[f"RIGHTS_{name}"] == getattr(rights, name), name)
     for name in ("COUNT", "TIMED", "START", "END", "INTERVAL", "ACCUMULATED"):
         must(numbers[f"RIGHTS_HAS_{name}"] == getattr(rights, name), name)
+    for position, name in enumerate(GROUNDS.split()):
+        must(numbers.get(f"RIGHTS_GROUNDS_{name}") == position, f"the ground {name} in the header")
     longest = rights.write(rights.Book(0, [rights.Asset()] * rights.MOST, [rights.Entry()] * rights.MOST))
     must(numbers["RIGHTS_LONGEST_IMAGE"] == len(longest), "the longest image")
     for first, names in CODES.items():
@@ -124,6 +145,7 @@ def main():
     page = (ROOT / "docs/FORMAT.md").read_text()
     numbers = header_numbers((ROOT / "embed/rights.h").read_text())
     page_tables(page)
+    page_ranges(page)
     page_example(page)
     page_xml(page)
     header_positions(numbers)

@@ -41,7 +41,7 @@ def grounds(entry, time):
     over = entry.started and time >= entry.first + entry.interval
     tests = ((rights.COUNT, entry.used_count >= entry.count), (rights.TIMED, entry.used_timed >= entry.timed),
              (rights.START, time < entry.start), (rights.END, time > entry.end), (rights.INTERVAL, over),
-             (rights.ACCUMULATED, entry.used_seconds >= entry.accumulated))
+             (rights.ACCUMULATED, entry.used_seconds >= entry.accumulated), (rights.INTERVAL, entry.interval == 0))
     return [int(bool(entry.has(flag) and stands)) for flag, stands in tests]
 
 

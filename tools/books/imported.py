@@ -9,7 +9,7 @@ import xml_rights
 
 from .files import keep_inputs, kind_of, read_bytes, write_bytes
 from .library import read_xml
-from .state import asset_words, limit_words, of_no_use
+from .state import asset_words, limit_words, never_words, of_no_use, zeros
 from .words import Trouble, kind_name
 
 LONGEST = 4_194_304         # bytes of a text, as for the import program
@@ -77,7 +77,8 @@ def made_lines(book, elements, number):
     yield ""
     yield f"Entries: {len(book.entries)}"
     for position, entry in enumerate(book.entries):
-        useless = "".join(f": nobody can use it: {ground}" for ground in of_no_use(book, entry))
+        useless = f": {never_words(entry)}" if zeros(entry) else "".join(
+            f": nobody can use it: {ground}" for ground in of_no_use(book, entry))
         yield f"  {position:>5}  rights object {entry.object}, {kind_name(entry.kind)} of asset {entry.asset}{useless}"
         for line in limit_words(entry):
             yield f"         {line}"

@@ -36,10 +36,17 @@ def of_no_use(book, entry):
     return []
 
 
+def zeros(entry):
+    """The limits of the entry that are 0: with one of them it is never granted."""
+    limits = [(rights.COUNT, entry.count, "the count is 0"), (rights.TIMED, entry.timed, "the timed count is 0"),
+              (rights.INTERVAL, entry.interval, "the interval is 0"), (rights.ACCUMULATED, entry.accumulated, "the seconds are 0")]
+    return [words for flag, limit, words in limits if entry.has(flag) and limit == 0]
+
+
 def grounds(book, position, t):
     """Why nobody can be granted the entry at t; empty if somebody can. The book must be settled to t."""
     entry = book.entries[position]
-    found = of_no_use(book, entry)
+    found = of_no_use(book, entry) + zeros(entry)
     if entry.has(rights.COUNT) and entry.used_count >= entry.count:
         found.append("the count is used up")
     if entry.has(rights.TIMED) and entry.used_timed >= entry.timed:
@@ -67,11 +74,18 @@ def stop_helps(book, position, t):
 
 def state_words(book, position, t, at=""):
     """Whether anybody can be granted the entry at t, and when it ends, or why not."""
+    entry = book.entries[position]
+    if zeros(entry):
+        return never_words(entry)
     found = grounds(book, position, t)
     if not found:
-        return f"can be granted{at}, {end_words(book.entries[position])}"
+        return f"can be granted{at}, {end_words(entry)}"
     back = " (a stop of an open use gives some back)" if stop_helps(book, position, t) else ""
     return f"nobody can use it{at}: {' and '.join(found)}{back}"
+
+
+def never_words(entry):
+    return f"never granted: {' and '.join(zeros(entry))}"
 
 
 def end_words(entry):
@@ -87,14 +101,18 @@ def used_words(entry):
     """What is used and what is left, for each limit."""
     words = []
     if entry.has(rights.COUNT):
-        words.append(f"count {entry.used_count} of {entry.count} used, {entry.count - entry.used_count} left")
+        words.append(left_of("count", entry.used_count, entry.count))
     if entry.has(rights.TIMED):
         least = f" (a use counts from {span(entry.timer)} on)" if entry.timer else ""
-        words.append(f"timed count {entry.used_timed} of {entry.timed} used, {entry.timed - entry.used_timed} left{least}")
+        words.append(left_of("timed count", entry.used_timed, entry.timed) + least)
     if entry.has(rights.ACCUMULATED):
-        left = entry.accumulated - entry.used_seconds
-        words.append(f"seconds {entry.used_seconds} of {entry.accumulated} used, {left} left ({span(left)})")
+        left = f" ({span(entry.accumulated - entry.used_seconds)})" if entry.accumulated else ""
+        words.append(left_of("seconds", entry.used_seconds, entry.accumulated) + left)
     return words
+
+
+def left_of(name, used, limit):
+    return f"{name} {used} of {limit} used, {limit - used} left" if limit else f"{name} 0: never"
 
 
 def date_words(entry):
@@ -103,7 +121,9 @@ def date_words(entry):
         words.append(f"from {when(entry.start)}")
     if entry.has(rights.END):
         words.append(f"to {when(entry.end)}")
-    if entry.has(rights.INTERVAL):
+    if entry.has(rights.INTERVAL) and entry.interval == 0:
+        words.append("interval 0: never" + (f", started {when(entry.first)}" if entry.started else ""))
+    elif entry.has(rights.INTERVAL):
         since = f"from {when(entry.first)} to {when(entry.first + entry.interval - 1)}" if entry.started else "not started"
         words.append(f"interval {span(entry.interval)}, {since}")
     return words

@@ -110,9 +110,9 @@ class BookText:
         elif word in ("start", "end"):
             setattr(entry, word, words.time(what, last_second=word == "end"))
         elif word in ("interval", "accumulated"):
-            setattr(entry, word, words.length(what, LENGTHS, 1))
+            setattr(entry, word, words.length(what, LENGTHS))
         elif word in ("count", "timed"):
-            setattr(entry, word, words.number(COUNTS, what, 1))
+            setattr(entry, word, words.number(COUNTS, what))
         elif word == "timer":
             entry.timer = words.length(what, COUNTS)
         elif word == "first":

@@ -76,7 +76,7 @@ def entry_words(book, position, asset):
 
 
 def verdict(book, position, grounds, answer, t):
-    stands = [words for words, against in zip(ground_words(book.entries[position]), grounds, strict=True) if against]
+    stands = [words for words, against in zip(ground_words(book.entries[position]), grounds, strict=True) if against and words]
     if stands:
         back = " (a stop of an open use gives some back)" if stop_helps(book, position, t) else ""
         return "; ".join(stands) + back
@@ -86,10 +86,16 @@ def verdict(book, position, grounds, answer, t):
 
 
 def ground_words(entry):
-    """The grounds against an entry in words, in the order of rights.h, as they would read if they stood."""
-    return [f"count: {entry.used_count} of {entry.count} used",
-            f"timed count: {entry.used_timed} of {entry.timed} used",
+    """The grounds against an entry in words, in the order of rights.h, as they would read if they stood. An interval of 0 that has
+    started is over too, of which its last ground says enough."""
+    return [spent_words("count", entry.used_count, entry.count),
+            spent_words("timed count", entry.used_timed, entry.timed),
             f"not before {date(entry.start)}",
             f"not after {date(entry.end)}",
-            f"interval over since {date(entry.first + entry.interval)}",
-            f"seconds: {entry.used_seconds} of {entry.accumulated} used"]
+            f"interval over since {date(entry.first + entry.interval)}" if entry.interval else "",
+            spent_words("seconds", entry.used_seconds, entry.accumulated),
+            "interval 0: never granted"]
+
+
+def spent_words(name, used, limit):
+    return f"{name}: {used} of {limit} used" if limit else f"{name} 0: never granted"

@@ -102,7 +102,7 @@ class Words:
             self.accept("UTC")
         return seconds
 
-    def length(self, what, greatest, least=0):
+    def length(self, what, greatest):
         """Seconds, or numbers with units: 90, 7d, 2h30m, 1 h 30 min."""
         word = self.take(what)
         if is_number(word) and self.next_is("|".join(UNITS)):
@@ -116,7 +116,7 @@ class Words:
         else:
             raise Mistake(f"{what} should be seconds, or a number with s, min, h or d, not `{short(word)}`")
         seconds = sum(number(digits, greatest, what) * UNITS[unit] for digits, unit in parts)
-        return number(str(seconds), greatest, f"{what}, in seconds,", least)
+        return number(str(seconds), greatest, f"{what}, in seconds,")
 
 
 def seconds_of(day, clock, what):
