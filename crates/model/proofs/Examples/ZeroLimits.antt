@@ -1,6 +1,6 @@
 -- A limit of zero, order 2 of document 02: computed examples of begins on such entries, alone and beside others, and a book of such
 -- entries alone, of which demand 3 says that every begin gets 13.
-use mathlib.Core.Path.{_≡_, refl}
+use mathlib.Core.Path.{_≡_, refl, ap}
 use Prim.Native.Nat.{ℕ, zero, suc, _≤_, _<_}
 use mathlib.Core.Bool.{Bool, true, false}
 use mathlib.Core.List.{List, [], _∷_, map, _++_}
@@ -16,12 +16,15 @@ use Rattle.book.specs.declared.Kind.the-variants.{Play, Display, Execute, Print
 use Rattle.book.specs.declared.Meters.{Meters}
 use Rattle.book.specs.declared.Request.the-variants.{Begin, Continue, Stop}
 use Rattle.book.specs.Blank.{noAsset, noEntry, noPlayer, noMeters}
-use Rattle.model.specs.Book.{flagged}
+use Rattle.model.specs.Book.{assetAt, limitsAt, metersAt, flagged, ruleBroken, Legal}
 use Rattle.model.specs.Choice.{groundsOf, groundList}
-use Rattle.model.specs.Step.{refusal}
+use Rattle.model.specs.Step.{refusal, step}
 use Rattle.model.specs.History.{answers}
+use Rattle.model.specs.Ledger.{latestTaken, resent, calledTaken}
+use Rattle.model.specs.Demand3.{after, own, ZeroLimit, zero-count, zero-timed, zero-interval, zero-accumulated, NeverGranted}
 use Rattle.model.proofs.Examples.Afternoon.{asset, limits, entry, event, granted}
-use Rattle.model.proofs.Examples.Computes.{events-run}
+use Rattle.model.proofs.Examples.Computes.{events-run, legal-run}
+use Rattle.model.proofs.Demand3.Proof.{demand3}
 
 -- assets 1 and 2 inherit from the parent 9
 abbrev book : List Entry → ℕ → Book
@@ -104,3 +107,76 @@ pub interval-grounds :
     ∷ [])
 unfolding flagged groundsOf
 interval-grounds = refl
+
+-- ## Demand 3 of the book with such entries alone
+
+abbrev promotional : Book
+promotional = book zeros 5
+
+assets-blank : (i : ℕ) → 3 ≤ i → assetAt (promotional .assets) i ≡ noAsset
+assets-blank zero h = absurd (omega arith)
+assets-blank (suc zero) h = absurd (omega arith)
+assets-blank (suc (suc zero)) h = absurd (omega arith)
+assets-blank (suc (suc (suc i))) h = blanks 61 i noAsset
+
+entries-blank : (i : ℕ) → 5 ≤ i → getD zeros i noEntry ≡ noEntry
+entries-blank zero h = absurd (omega arith)
+entries-blank (suc zero) h = absurd (omega arith)
+entries-blank (suc (suc zero)) h = absurd (omega arith)
+entries-blank (suc (suc (suc zero))) h = absurd (omega arith)
+entries-blank (suc (suc (suc (suc zero)))) h = absurd (omega arith)
+entries-blank (suc (suc (suc (suc (suc i))))) h = blanks 59 i noEntry
+
+rules-kept : ruleBroken promotional ≡ 0
+unfolding legal-run
+rules-kept = refl
+
+pub promotional-legal : Legal promotional
+promotional-legal = record {
+  assetSlots = refl;
+  entrySlots = refl;
+  playerSlots = refl;
+  assetCount = omega arith;
+  entryCount = omega arith;
+  time = omega arith;
+  assetsBlank = assets-blank;
+  entriesBlank = entries-blank;
+  rules = rules-kept;
+}
+
+unused : (i : ℕ) → metersAt zeros i ≡ noMeters
+unused zero = refl
+unused (suc zero) = refl
+unused (suc (suc zero)) = refl
+unused (suc (suc (suc zero))) = refl
+unused (suc (suc (suc (suc zero)))) = refl
+unused (suc (suc (suc (suc (suc i))))) = ap (λ (e : Entry). e .meters) (blanks 59 i noEntry)
+
+pub never : NeverGranted promotional
+never = demand3 promotional promotional-legal (record { time = refl; meters = unused; players = λ p. blanks 16 p noPlayer }) .never
+
+-- every entry of the book has a limit of 0
+each-zero : (i : ℕ) → i < 5 → ZeroLimit (limitsAt zeros i)
+unfolding flagged
+each-zero zero h = zero-count refl refl
+each-zero (suc zero) h = zero-timed refl refl
+each-zero (suc (suc zero)) h = zero-interval refl refl
+each-zero (suc (suc (suc zero))) h = zero-accumulated refl refl
+each-zero (suc (suc (suc (suc zero)))) h = zero-count refl refl
+each-zero (suc (suc (suc (suc (suc i))))) h = absurd (omega arith)
+
+-- the begin that an interval of 0 would be granted once
+abbrev execute : Event
+execute = record { player = 2; number = 1; request = Begin Execute 1; time = 10 }
+
+pub execute-none : step promotional execute .answer ≡ refusal 13
+unfolding events-run latestTaken resent calledTaken after
+execute-none =
+    never .only [] execute Execute 1 refl (record { new = refl; taken = refl })
+    (record {
+      idle = tt;
+      asset-in = record { position = 0; below = omega arith; number = refl; key = refl };
+      entry = 2;
+      suits = record { below = omega arith; kind-is = refl; serves = own refl };
+    })
+    (λ i z. each-zero i (z .below))
