@@ -19,12 +19,13 @@ use Rattle.choice.specs.declared.Best.{Best}
 use Rattle.choice.specs.declared.Row.{Row}
 use Rattle.choice.specs.Best.{considered}
 
--- a flagged count is used up, or the seconds are
+-- a flagged count is used up, or the seconds are, or the interval is 0
 unfoldable pub spent : Limits → Meters → Bool
 spent l m =
     (flagged countFlag l && leb (l .count) (m .count))
     || (flagged timedFlag l && leb (l .timed) (m .timed))
     || (flagged accumulatedFlag l && leb (l .accumulated) (m .seconds))
+    || (flagged intervalFlag l && leb (l .interval) 0)
 
 -- the time from which an entry is no longer grantable; `noEnd` if there is none, 0 if it is spent
 unfoldable pub windowOf : Limits → Meters → ℕ
@@ -121,19 +122,22 @@ before-due false s t d h = lt-ltb t noEnd (omega arith)
 
 -- the tests in the order of the grounds
 ordered :
-    (c d s e v a : Bool) →
-    (not s && (not (c || d || a) && (not e && not v))) ≡ (not c && not d && not s && not e && not v && not a)
-ordered true d true e v a = refl
-ordered true d false e v a = refl
-ordered false true true e v a = refl
-ordered false true false e v a = refl
-ordered false false true e v a = refl
-ordered false false false true v true = refl
-ordered false false false false true true = refl
-ordered false false false false false true = refl
-ordered false false false true v false = refl
-ordered false false false false true false = refl
-ordered false false false false false false = refl
+    (c d s e v a z : Bool) →
+    (not s && (not (c || d || a || z) && (not e && not v))) ≡ (not c && not d && not s && not e && not v && not a && not z)
+ordered true d true e v a z = refl
+ordered true d false e v a z = refl
+ordered false true true e v a z = refl
+ordered false true false e v a z = refl
+ordered false false true e v a z = refl
+ordered false false false true v true z = refl
+ordered false false false false true true z = refl
+ordered false false false false false true z = refl
+ordered false false false true v false true = refl
+ordered false false false true v false false = refl
+ordered false false false false true false true = refl
+ordered false false false false true false false = refl
+ordered false false false false false false true = refl
+ordered false false false false false false false = refl
 
 -- from the start until before the window ends, an entry is grantable
 pub window-grants : (ask : Ask) (l : Limits) (m : Meters) → ask .time < noEnd
@@ -150,8 +154,9 @@ window-grants ask l m h =
       used-up (flagged countFlag l) (l .count) (m .count),
       used-up (flagged timedFlag l) (l .timed) (m .timed),
       used-up (flagged accumulatedFlag l) (l .accumulated) (m .seconds),
+      used-up (flagged intervalFlag l) (l .interval) 0,
     )
-    (ordered (g .countspent) (g .timedspent) (g .beforestart) (g .afterend) (g .intervalover) (g .secondsspent)
+    (ordered (g .countspent) (g .timedspent) (g .beforestart) (g .afterend) (g .intervalover) (g .secondsspent) (g .intervalzero)
     ∙ none-row true (groundList g))
 
 pub row-considered :

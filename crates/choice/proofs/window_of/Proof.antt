@@ -17,6 +17,7 @@ test f l m =
     (f .count && leb (l .count) (m .count))
     || (f .timed && leb (l .timed) (m .timed))
     || (f .accumulated && leb (l .accumulated) (m .seconds))
+    || (f .interval && leb (l .interval) 0)
 
 spent-by : (f : Flags) (l : Limits) (m : Meters) (w : Bool) → f ≡ flagsOf l → test f l m ≡ w → spent l m ≡ w
 unfolding spent flagsOf
