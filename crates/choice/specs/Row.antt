@@ -4,7 +4,7 @@ use mathlib.Core.Path.{_≡_, refl, sym, _∙_}
 use mathlib.Core.Bool.{Bool, true, false, not, _&&_, _||_, cond, Bool·not-not}
 use native.Mathlib.Omega.{arith}
 use lib.Dec.{leb, ltb, eqb}
-use borrow.Author.Tests.{ltb-true, ltb-false, leb-true, leb-false, lt-ltb, le-ltb, le-leb}
+use borrow.Author.Tests.{ltb-true, ltb-false, leb-true, leb-false, lt-ltb, le-ltb, le-leb, eqb-true, eqb-false}
 use Rattle.numbers.specs.Count.{one}
 use Rattle.book.specs.declared.Ask.{Ask}
 use Rattle.book.specs.declared.Limits.{Limits}
@@ -25,7 +25,7 @@ spent l m =
     (flagged countFlag l && leb (l .count) (m .count))
     || (flagged timedFlag l && leb (l .timed) (m .timed))
     || (flagged accumulatedFlag l && leb (l .accumulated) (m .seconds))
-    || (flagged intervalFlag l && leb (l .interval) 0)
+    || (flagged intervalFlag l && eqb (l .interval) 0)
 
 -- the time from which an entry is no longer grantable; `noEnd` if there is none, 0 if it is spent
 unfoldable pub windowOf : Limits → Meters → ℕ
@@ -107,6 +107,12 @@ used-up : (f : Bool) (a b : ℕ) → (f && leb a b) ≡ fails f (ltb b a)
 used-up true a b = not-below a b
 used-up false a b = refl
 
+is-zero : (f : Bool) (n : ℕ) → (f && eqb n 0) ≡ fails f (ltb 0 n)
+is-zero true n = on-test (eqb n 0)
+    (λ p. rw (p, le-ltb 0 n (omega (arith, eqb-true n 0 p))))
+    (λ p. rw (p, lt-ltb 0 n (omega (arith, eqb-false n 0 p))))
+is-zero false n = refl
+
 from-start : (f : Bool) (t s : ℕ) → leb (where-flagged f s) t ≡ not (fails f (leb s t))
 from-start true t s = sym (Bool·not-not (leb s t))
 from-start false t s = le-leb 0 t (omega arith)
@@ -154,7 +160,7 @@ window-grants ask l m h =
       used-up (flagged countFlag l) (l .count) (m .count),
       used-up (flagged timedFlag l) (l .timed) (m .timed),
       used-up (flagged accumulatedFlag l) (l .accumulated) (m .seconds),
-      used-up (flagged intervalFlag l) (l .interval) 0,
+      is-zero (flagged intervalFlag l) (l .interval),
     )
     (ordered (g .countspent) (g .timedspent) (g .beforestart) (g .afterend) (g .intervalover) (g .secondsspent) (g .intervalzero)
     ∙ none-row true (groundList g))

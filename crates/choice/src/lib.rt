@@ -126,7 +126,7 @@ fn window_of(l: Limits, m: Meters) -> u64
     let spent = (f.count & (l.count <= m.count))
         | (f.timed & (l.timed <= m.timed))
         | (f.accumulated & (l.accumulated <= m.seconds))
-        | (f.interval & (l.interval <= 0));
+        | (f.interval & (l.interval == 0));
     let w = min_wide(bound(f.end, end), bound(f.interval & (m.started == 1), due));
     if spent { 0 } else { w }
 }

@@ -2,7 +2,7 @@
 -- No event changes any of it.
 use mathlib.Core.Path.{_≡_, refl, sym, ap, _∙_, subst}
 use Prim.Native.Nat.{ℕ, zero, suc, _≤_, _<_, min}
-use mathlib.Core.Bool.{Bool, true, not, _&&_, _||_, false≢true}
+use mathlib.Core.Bool.{Bool, true, false, not, _&&_, _||_, false≢true}
 use mathlib.Core.List.{List, [], _∷_, map}
 use lib.ListN.{length, length-set, length-map}
 use lib.Dec.{leb, ltb, eqb}
@@ -47,9 +47,11 @@ pub record WellFormed (b : Book) : Type 0 where
   pub once : (i : ℕ) → i < assetsIn b → assetPosition (b .assets) (assetsIn b) (assetAt (b .assets) i .number) ≡ i
   pub numbered : (i : ℕ) → i < assetsIn b → 0 < assetAt (b .assets) i .number
 
-limit-on : (f : Bool) (most v : ℕ) → limit f most v ≡ true → f ≡ true → v ≤ most
+-- flagged or not
+pub limit-most : (flag : Bool) (most v : ℕ) → limit flag most v ≡ true → v ≤ most
 unfolding limit
-limit-on f most v e q = leb-true v most (rw q at e)
+limit-most true most v e = leb-true v most e
+limit-most false most v e = omega (arith, eqb-true v 0 e)
 
 pub ranges-tests : (l : Limits) → rangesLegal l ≡ true → (limit (flagged countFlag l) mostTimes (l .count) ≡ true)
     × Pass (limit (flagged timedFlag l) mostTimes (l .timed) ∷ limit (flagged timedFlag l) mostTimes (l .timer)
@@ -72,7 +74,7 @@ limits-lawful known l e =
     let later = ranges-tests l (behind .0) .1 .1 .1 .1 in
     record {
       timer = λ m. eqb-true (l .timer) 0 (and-right (not (flagged 32 l)) (eqb (l .timer) 0) (rw m at (behind .1 .1 .0)));
-      end = λ f. omega (arith, limit-on (flagged 8 l) latestTime (l .end) (later .0) f);
+      end = λ f. omega (arith, limit-most (flagged 8 l) latestTime (l .end) (later .0));
     }
 
 blank-lawful : Lawful noLimits

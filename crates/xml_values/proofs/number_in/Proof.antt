@@ -31,9 +31,9 @@ returns c =
     let n = c .before .before .number-of in
     c .value-if .ensures
     ∙ ap (λ (w : Bool). valueIf (w && between (a .least) (a .most) (n .result)) (n .result)) (c .before .is-number .ensures)
-    ∙ same-value (isNumber (a .v .now)) (a .least) (a .most) (n .result) (numberOf (a .v .now))
-    (λ h. omega (arith, n .ensures))
-    (λ h. omega (arith, n .ensures))
+    ∙ same-value (isNumber (a .v .now)) (between (a .least) (a .most)) (n .result) (numberOf (a .v .now))
+    (λ h. omega (arith, n .ensures, leb-true _ (a .most) (and-right _ _ h)))
+    (λ h. omega (arith, n .ensures, leb-true _ (a .most) (and-right _ _ h)))
 
 pub number-in-spec : {M : Type 1} → statement M
 number-in-spec =
