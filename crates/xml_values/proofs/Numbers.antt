@@ -8,7 +8,7 @@ use native.Mathlib.Omega.{arith}
 use lib.ListN.{length, getD, take, drop, drop-of-length-le}
 use lib.Seq.{drop-cons}
 use lib.Dec.{leb, eqb}
-use borrow.Author.Tests.{leb-true, leb-false, lt-leb, not-false}
+use borrow.Author.Tests.{leb-true, not-false}
 use Rattle.numbers.proofs.Tests.{on-test, and-right, row-passed}
 use Rattle.numbers.proofs.TableLaws.{below-or-not}
 use Rattle.model.specs.Book.{mostSeconds}
@@ -55,18 +55,22 @@ same-value w test x y p q =
     (λ g. ap (λ (n : ℕ). valueIf (w && test n) n) (q g))
     (λ g. rw (h, g, and-false w)))
 
+same-below : (w : Bool) (most x y : ℕ) → (x ≤ most → x ≡ y) → (y ≤ most → x ≡ y)
+    → valueIf (w && leb x most) x ≡ valueIf (w && leb y most) y
+same-below w most x y p q = same-value w (λ n. leb n most) x y (λ h. p (leb-true x most h)) (λ h. q (leb-true y most h))
+
 -- the sum of a duration's parts
 pub same-duration : (w timed : Bool) (d h m s : ℕ)
     → let x = min d ceiling * 86400 + cond timed (min h ceiling * 3600 + min m ceiling * 60 + min s ceiling) 0 in
     let y = d * 86400 + cond timed (h * 3600 + m * 60 + s) 0 in
     valueIf (w && leb x mostSeconds) x ≡ valueIf (w && leb y mostSeconds) y
-same-duration w true d h m s = same-value w (λ n. leb n mostSeconds)
+same-duration w true d h m s = same-below w mostSeconds
     (min d ceiling * 86400 + (min h ceiling * 3600 + min m ceiling * 60 + min s ceiling))
     (d * 86400 + (h * 3600 + m * 60 + s))
-    (λ q. omega (arith, leb-true _ mostSeconds q)) (λ q. omega (arith, leb-true _ mostSeconds q))
-same-duration w false d h m s = same-value w (λ n. leb n mostSeconds)
+    (λ q. omega arith) (λ q. omega arith)
+same-duration w false d h m s = same-below w mostSeconds
     (min d ceiling * 86400 + 0) (d * 86400 + 0)
-    (λ q. omega (arith, leb-true _ mostSeconds q)) (λ q. omega (arith, leb-true _ mostSeconds q))
+    (λ q. omega arith) (λ q. omega arith)
 
 -- ## The number that n digits are
 

@@ -78,7 +78,7 @@ duration-formed-requires c κs = search needs
 
 value-if-requires : tie.Need-value-if-requires
 value-if-requires c κs = λ h.
-    let d = c .before .before .before .before .before .before .before .before .before .before .piece-at .result in
+    let d = c .before .before .before .before .before .before .before .before .before .before .before .piece-at .result in
     let n = d .number * 86400 + c .before .pick64 .result in
     omega (arith, leb-true n mostSeconds (and-right (c .duration-formed .result) _ h))
 

@@ -1,5 +1,6 @@
 -- `xml_values::number_in` meets its contract: saturation changes no number within a bound of 32 bits.
 use mathlib.Core.Path.{ap, _∙_}
+use Prim.Native.Nat.{_≤_}
 use mathlib.Core.Bool.{Bool, _&&_}
 use native.Mathlib.Omega.{arith}
 use lib.Dec.{leb}
@@ -32,8 +33,10 @@ returns c =
     c .value-if .ensures
     ∙ ap (λ (w : Bool). valueIf (w && between (a .least) (a .most) (n .result)) (n .result)) (c .before .is-number .ensures)
     ∙ same-value (isNumber (a .v .now)) (between (a .least) (a .most)) (n .result) (numberOf (a .v .now))
-    (λ h. omega (arith, n .ensures, leb-true _ (a .most) (and-right _ _ h)))
-    (λ h. omega (arith, n .ensures, leb-true _ (a .most) (and-right _ _ h)))
+    (λ h. let u : n .result ≤ a .most = leb-true _ _ (and-right (leb (a .least) (n .result)) _ h) in omega (arith, n .ensures))
+    (λ h.
+    let u : numberOf (a .v .now) ≤ a .most = leb-true _ _ (and-right (leb (a .least) (numberOf (a .v .now))) _ h) in
+    omega (arith, n .ensures))
 
 pub number-in-spec : {M : Type 1} → statement M
 number-in-spec =
