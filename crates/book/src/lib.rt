@@ -9,9 +9,6 @@ ghost use Rattle.book.specs.Blank.{noAsset, noEntry, noPlayer, noBook, c
 // The latest time that an event can have.
 pub const LATEST_TIME: u32 = 4000000000;
 
-// The least value of a flagged count, timed count, interval or accumulated.
-pub const LEAST_LIMIT: u32 = 1;
-
 // The greatest count, timed count and timer.
 pub const MOST_TIMES: u32 = 1000000;
 
@@ -138,6 +135,7 @@ pub struct Grounds {
     pub afterend: bool,
     pub intervalover: bool,
     pub secondsspent: bool,
+    pub intervalzero: bool,
 }
 
 // What the bytes of an event record decode to: an event, or the code that refuses them.

@@ -4,7 +4,7 @@ use mathlib.Core.Path.{_≡_, refl, sym, _∙_}
 use mathlib.Core.Bool.{Bool, true, false, not, _&&_, _||_, cond, Bool·not-not}
 use native.Mathlib.Omega.{arith}
 use lib.Dec.{leb, ltb, eqb}
-use borrow.Author.Tests.{ltb-true, ltb-false, leb-true, leb-false, lt-ltb, le-ltb, le-leb}
+use borrow.Author.Tests.{ltb-true, ltb-false, leb-true, leb-false, lt-ltb, le-ltb, le-leb, eqb-true, eqb-false}
 use Rattle.numbers.specs.Count.{one}
 use Rattle.book.specs.declared.Ask.{Ask}
 use Rattle.book.specs.declared.Limits.{Limits}
@@ -19,12 +19,13 @@ use Rattle.choice.specs.declared.Best.{Best}
 use Rattle.choice.specs.declared.Row.{Row}
 use Rattle.choice.specs.Best.{considered}
 
--- a flagged count is used up, or the seconds are
+-- a flagged count is used up, or the seconds are, or the interval is 0
 unfoldable pub spent : Limits → Meters → Bool
 spent l m =
     (flagged countFlag l && leb (l .count) (m .count))
     || (flagged timedFlag l && leb (l .timed) (m .timed))
     || (flagged accumulatedFlag l && leb (l .accumulated) (m .seconds))
+    || (flagged intervalFlag l && eqb (l .interval) 0)
 
 -- the time from which an entry is no longer grantable; `noEnd` if there is none, 0 if it is spent
 unfoldable pub windowOf : Limits → Meters → ℕ
@@ -106,6 +107,12 @@ used-up : (f : Bool) (a b : ℕ) → (f && leb a b) ≡ fails f (ltb b a)
 used-up true a b = not-below a b
 used-up false a b = refl
 
+is-zero : (f : Bool) (n : ℕ) → (f && eqb n 0) ≡ fails f (ltb 0 n)
+is-zero true n = on-test (eqb n 0)
+    (λ p. rw (p, le-ltb 0 n (omega (arith, eqb-true n 0 p))))
+    (λ p. rw (p, lt-ltb 0 n (omega (arith, eqb-false n 0 p))))
+is-zero false n = refl
+
 from-start : (f : Bool) (t s : ℕ) → leb (where-flagged f s) t ≡ not (fails f (leb s t))
 from-start true t s = sym (Bool·not-not (leb s t))
 from-start false t s = le-leb 0 t (omega arith)
@@ -121,19 +128,22 @@ before-due false s t d h = lt-ltb t noEnd (omega arith)
 
 -- the tests in the order of the grounds
 ordered :
-    (c d s e v a : Bool) →
-    (not s && (not (c || d || a) && (not e && not v))) ≡ (not c && not d && not s && not e && not v && not a)
-ordered true d true e v a = refl
-ordered true d false e v a = refl
-ordered false true true e v a = refl
-ordered false true false e v a = refl
-ordered false false true e v a = refl
-ordered false false false true v true = refl
-ordered false false false false true true = refl
-ordered false false false false false true = refl
-ordered false false false true v false = refl
-ordered false false false false true false = refl
-ordered false false false false false false = refl
+    (c d s e v a z : Bool) →
+    (not s && (not (c || d || a || z) && (not e && not v))) ≡ (not c && not d && not s && not e && not v && not a && not z)
+ordered true d true e v a z = refl
+ordered true d false e v a z = refl
+ordered false true true e v a z = refl
+ordered false true false e v a z = refl
+ordered false false true e v a z = refl
+ordered false false false true v true z = refl
+ordered false false false false true true z = refl
+ordered false false false false false true z = refl
+ordered false false false true v false true = refl
+ordered false false false true v false false = refl
+ordered false false false false true false true = refl
+ordered false false false false true false false = refl
+ordered false false false false false false true = refl
+ordered false false false false false false false = refl
 
 -- from the start until before the window ends, an entry is grantable
 pub window-grants : (ask : Ask) (l : Limits) (m : Meters) → ask .time < noEnd
@@ -150,8 +160,9 @@ window-grants ask l m h =
       used-up (flagged countFlag l) (l .count) (m .count),
       used-up (flagged timedFlag l) (l .timed) (m .timed),
       used-up (flagged accumulatedFlag l) (l .accumulated) (m .seconds),
+      is-zero (flagged intervalFlag l) (l .interval),
     )
-    (ordered (g .countspent) (g .timedspent) (g .beforestart) (g .afterend) (g .intervalover) (g .secondsspent)
+    (ordered (g .countspent) (g .timedspent) (g .beforestart) (g .afterend) (g .intervalover) (g .secondsspent) (g .intervalzero)
     ∙ none-row true (groundList g))
 
 pub row-considered :

@@ -94,7 +94,8 @@ pub struct Best {
 }
 
 // Flags, end and fresh are from the entry's rank; whether it is inherited depends on the asset asked for.
-// The entry is grantable from start (0 if none is flagged) until before window (0 if a count or the seconds are spent).
+// The entry is grantable from start (0 if none is flagged) until before window (0 if a count or the seconds are spent, or the interval
+// is 0).
 pub struct Row {
     pub asset: u16,
     pub kind: u8,
@@ -112,7 +113,7 @@ fn bound(w: bool, v: u64) -> u64
     if w { v } else { NO_END }
 }
 
-// Rules out: end taken as excluded, a limit tested without its flag, an interval that has not started.
+// Rules out: end taken as excluded, a limit tested without its flag, an interval that has not started, an interval of 0 left open.
 fn window_of(l: Limits, m: Meters) -> u64
     ensures { λ r. ⌜ r ≡ windowOf l m ⌝ }
 {
@@ -124,7 +125,8 @@ fn window_of(l: Limits, m: Meters) -> u64
     let end = last + 1;
     let spent = (f.count & (l.count <= m.count))
         | (f.timed & (l.timed <= m.timed))
-        | (f.accumulated & (l.accumulated <= m.seconds));
+        | (f.accumulated & (l.accumulated <= m.seconds))
+        | (f.interval & (l.interval == 0));
     let w = min_wide(bound(f.end, end), bound(f.interval & (m.started == 1), due));
     if spent { 0 } else { w }
 }

@@ -5,7 +5,6 @@ ghost use Rattle.model.specs.Book.{assetPosition, assetLegal, assetsLegal, limi
 use book::Asset;
 use book::Book;
 use book::LATEST_TIME;
-use book::LEAST_LIMIT;
 use book::Limits;
 use book::MOST_SECONDS;
 use book::MOST_TIMES;
@@ -60,11 +59,12 @@ pub fn assets_legal(b: Book) -> bool
     legal
 }
 
-fn limit_legal(flag: bool, least: u32, most: u32, v: u32) -> bool
-    ensures { λ r. ⌜ r ≡ limit flag least most v ⌝ }
+// Rules out: false for a flagged limit of 0, true for one that is not flagged and not 0.
+fn limit_legal(flag: bool, most: u32, v: u32) -> bool
+    ensures { λ r. ⌜ r ≡ limit flag most v ⌝ }
 {
     if flag {
-        (least <= v) & (v <= most)
+        v <= most
     } else {
         v == 0
     }
@@ -74,16 +74,16 @@ fn ranges_legal(l: Limits) -> bool
     ensures { λ r. ⌜ r ≡ rangesLegal l ⌝ }
 {
     let f = flags_of(l);
-    limit_legal(f.count, LEAST_LIMIT, MOST_TIMES, l.count)
-        & limit_legal(f.timed, LEAST_LIMIT, MOST_TIMES, l.timed)
-        & limit_legal(f.timed, 0, MOST_TIMES, l.timer)
-        & limit_legal(f.start, 0, LATEST_TIME, l.start)
-        & limit_legal(f.end, 0, LATEST_TIME, l.end)
-        & limit_legal(f.interval, LEAST_LIMIT, MOST_SECONDS, l.interval)
-        & limit_legal(f.accumulated, LEAST_LIMIT, MOST_SECONDS, l.accumulated)
+    limit_legal(f.count, MOST_TIMES, l.count)
+        & limit_legal(f.timed, MOST_TIMES, l.timed)
+        & limit_legal(f.timed, MOST_TIMES, l.timer)
+        & limit_legal(f.start, LATEST_TIME, l.start)
+        & limit_legal(f.end, LATEST_TIME, l.end)
+        & limit_legal(f.interval, MOST_SECONDS, l.interval)
+        & limit_legal(f.accumulated, MOST_SECONDS, l.accumulated)
 }
 
-// Rules out: true for a start after the end, for an accumulated of a momentary kind, for a flagged count of 0.
+// Rules out: true for a start after the end, for an accumulated of a momentary kind.
 pub fn limits_legal(known: bool, l: Limits) -> bool
     ensures { λ r. ⌜ r ≡ limitsLegal known l ⌝ }
 {

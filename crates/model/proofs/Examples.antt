@@ -4,6 +4,7 @@ pub mod Afternoon
 pub mod Cases
 pub mod BetweenRules
 pub mod BeginCodes
+pub mod ZeroLimits
 pub mod AnswerCodes
 pub mod Printed
 pub mod Account

@@ -100,10 +100,6 @@ flagged w l = eqb (l .flags / w % 2) 1
 unfoldable pub momentary : ℕ → Bool
 momentary kind = between 4 5 kind
 
--- the least value of a flagged count, timed count, interval or accumulated
-abbrev pub leastLimit : ℕ
-leastLimit = 1
-
 -- the greatest count, timed count and timer
 abbrev pub mostTimes : ℕ
 mostTimes = 1000000
@@ -112,9 +108,9 @@ mostTimes = 1000000
 abbrev pub mostSeconds : ℕ
 mostSeconds = 100000000
 
--- a flagged limit is between a and z; "An unflagged limit is 0."
-unfoldable pub limit : Bool → ℕ → ℕ → ℕ → Bool
-limit flag a z v = cond flag (between a z v) (eqb v 0)
+-- a flagged limit is at most that much; "An unflagged limit is 0."
+unfoldable pub limit : Bool → ℕ → ℕ → Bool
+limit flag most v = cond flag (leb v most) (eqb v 0)
 
 -- ## 24, asset rules
 
@@ -132,17 +128,17 @@ assetsLegal b = all (λ i. assetLegal (b .assets) (assetsIn b) i (assetAt (b .as
 
 -- ## 25, entry rules
 
--- "Count and timed count are 1 to 1,000,000; timer 0 to 1,000,000; interval and accumulated 1 to 100,000,000";
--- start and end are times
+-- "Count and timed count are 1 to 1,000,000; timer 0 to 1,000,000; interval and accumulated 1 to 100,000,000"; order 2 of document 02:
+-- "Count, timed, interval and accumulated may now be 0 when flagged", so every range starts at 0. Start and end are times.
 unfoldable pub rangesLegal : Limits → Bool
 rangesLegal l =
-    limit (flagged countFlag l) leastLimit mostTimes (l .count)
-    && limit (flagged timedFlag l) leastLimit mostTimes (l .timed)
-    && limit (flagged timedFlag l) 0 mostTimes (l .timer)
-    && limit (flagged startFlag l) 0 latestTime (l .start)
-    && limit (flagged endFlag l) 0 latestTime (l .end)
-    && limit (flagged intervalFlag l) leastLimit mostSeconds (l .interval)
-    && limit (flagged accumulatedFlag l) leastLimit mostSeconds (l .accumulated)
+    limit (flagged countFlag l) mostTimes (l .count)
+    && limit (flagged timedFlag l) mostTimes (l .timed)
+    && limit (flagged timedFlag l) mostTimes (l .timer)
+    && limit (flagged startFlag l) latestTime (l .start)
+    && limit (flagged endFlag l) latestTime (l .end)
+    && limit (flagged intervalFlag l) mostSeconds (l .interval)
+    && limit (flagged accumulatedFlag l) mostSeconds (l .accumulated)
 
 -- "rights object number (1 to 65535), asset (in the book), kind ..., flags, limits"; "start at most end where both are flagged";
 -- momentary: "no accumulated, timer 0". Whether the asset is in the book is passed in.

@@ -70,7 +70,9 @@ abbrev pub fails : Bool → Bool → Bool
 fails flag test = flag && not test
 
 -- "**Grantable** at t, all flagged limits: used count < count; used timed < timed; start ≤ t ≤ end; not started or t < first + interval;
--- used seconds < accumulated.": by name, which of these fail
+-- used seconds < accumulated.": by name, which of these fail. Order 2 of document 02, of an entry with a flagged limit of 0: "such an
+-- entry is never grantable". For a count, a timed count and the seconds that follows, since nothing is below 0. An interval of 0 is a
+-- ground by itself: not started, it would be granted once, until t.
 unfoldable pub groundsOf : Ask → Limits → Meters → Grounds
 groundsOf ask l m = record {
   countspent = fails (flagged countFlag l) (ltb (m .count) (l .count));
@@ -79,11 +81,13 @@ groundsOf ask l m = record {
   afterend = fails (flagged endFlag l) (leb (ask .time) (l .end));
   intervalover = fails (flagged intervalFlag l) (not (isStarted m) || ltb (ask .time) (m .first + l .interval));
   secondsspent = fails (flagged accumulatedFlag l) (ltb (m .seconds) (l .accumulated));
+  intervalzero = fails (flagged intervalFlag l) (ltb 0 (l .interval));
 }
 
 -- the grounds one after the other, in that order
 abbrev pub groundList : Grounds → List Bool
-groundList g = g .countspent ∷ g .timedspent ∷ g .beforestart ∷ g .afterend ∷ g .intervalover ∷ g .secondsspent ∷ []
+groundList g =
+    g .countspent ∷ g .timedspent ∷ g .beforestart ∷ g .afterend ∷ g .intervalover ∷ g .secondsspent ∷ g .intervalzero ∷ []
 
 -- no ground stands
 unfoldable pub grantable : Ask → Limits → Meters → Bool

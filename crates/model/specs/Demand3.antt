@@ -34,7 +34,8 @@ use Rattle.model.specs.Choice.{catalogOf, Choice, nobody, chosen, asks, 
 use Rattle.model.specs.Step.{done, refusal, noneGrantable, noted, step, arrive}
 use Rattle.model.specs.Gate.{gate}
 use Rattle.model.specs.Ledger.{Use, Taken, Account, empty, latestTaken, resent, calledTaken, timeOf, latest, isOpen, spentCount}
-use Rattle.model.specs.Ledger.{spentTimed, spentSeconds, countsTimed, sumOf, earliest, Ground, stands, noteArrival}
+use Rattle.model.specs.Ledger.{spentTimed, spentSeconds, countsTimed, sumOf, earliest, Ground, count-spent, timed-spent}
+use Rattle.model.specs.Ledger.{seconds-spent, interval-over, interval-zero, before-start, after-end, stands, noteArrival}
 use Rattle.model.specs.History.{answers, final, recordAnswers, recordFinal}
 
 -- ## The run
@@ -399,6 +400,42 @@ unfoldable pub predicted : Book → Account → List Decoded → List Answer
 predicted b a [] = []
 predicted b a (d ∷ ds) = predict b a d ∷ predicted b (noteArrival a d (predict b a d)) ds
 
+-- ## h. A limit of zero
+
+-- Order 2 of document 02: "Count, timed, interval and accumulated may now be 0 when flagged". One of the four is.
+pub data ZeroLimit (l : Limits) : Type 0 where
+  zero-count : flagged countFlag l ≡ true → l .count ≡ 0 → ZeroLimit l
+  zero-timed : flagged timedFlag l ≡ true → l .timed ≡ 0 → ZeroLimit l
+  zero-interval : flagged intervalFlag l ≡ true → l .interval ≡ 0 → ZeroLimit l
+  zero-accumulated : flagged accumulatedFlag l ≡ true → l .accumulated ≡ 0 → ZeroLimit l
+
+-- the grounds that make an entry spent; by the others it is out of its dates
+abbrev pub isSpent : Ground → Bool
+isSpent count-spent = true
+isSpent timed-spent = true
+isSpent seconds-spent = true
+isSpent interval-over = true
+isSpent interval-zero = true
+isSpent before-start = false
+isSpent after-end = false
+
+-- entry i is spent by the ledger
+pub record Spent (e : Event) (s : State) (i : ℕ) : Type 0 where
+  pub ground : Ground
+  pub is-spent : isSpent ground ≡ true
+  pub holds : against e s i ground ≡ true
+
+-- "such an entry is never grantable, and spent in the ledger": at every event it is spent, and no use is ever of it;
+-- "a begin with only such entries gets 13"
+pub record NeverGranted (b : Book) : Type 0 where
+  pub spent : (ds : List Decoded) (e : Event) (i : ℕ) → ZeroLimit (limitsAt (b .entries) i) → Spent e (after (starting b) ds) i
+  pub unused : (ds : List Decoded) (i : ℕ) → ZeroLimit (limitsAt (b .entries) i)
+      → Every (λ u. u .entry ≡ i → ⊥) (after (starting b) ds .account .uses)
+  pub only : (ds : List Decoded) (e : Event) (kind : Kind) (asset : ℕ) → e .request ≡ Begin kind asset → Takes (after (starting b) ds) e
+      → MayChoose (after (starting b) ds) e asset (kindNumber kind)
+      → ((i : ℕ) → Suits (after (starting b) ds .book) asset (kindNumber kind) i → ZeroLimit (limitsAt (b .entries) i))
+      → step (after (starting b) ds .book) e .answer ≡ refusal 13
+
 -- ## The demand, for a fresh book
 
 pub record Demand3 (b : Book) : Type 0 where
@@ -414,4 +451,5 @@ pub record Demand3 (b : Book) : Type 0 where
   pub struckAnswers : (ds : List Decoded) → answers b (struck (starting b) ds) ≡ kept (starting b) ds
   pub struckBook : (ds : List Decoded) → final b (struck (starting b) ds) ≡ final b ds
   pub predictable : (ds : List Decoded) → answers b ds ≡ predicted b empty ds
+  pub never : NeverGranted b
   pub records : (rs : List (List ℕ)) → (recordAnswers b rs ≡ answers b (map decoded rs)) × (recordFinal b rs ≡ final b (map decoded rs))

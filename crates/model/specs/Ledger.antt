@@ -172,16 +172,20 @@ pub data Ground : Type 0 where
   timed-spent : Ground
   seconds-spent : Ground
   interval-over : Ground
+  interval-zero : Ground
   before-start : Ground
   after-end : Ground
 
 -- at the event's time T, whether that ground stands against entry i:
 -- "An entry is *spent* at T if, of what is flagged, spent count, spent timed or spent seconds has reached its limit, or
 -- T ≥ interval start + interval. It is *out of its dates* at T if, where flagged, T < start or T > end."
+-- Order 2 of document 02: "Count, timed, interval and accumulated may now be 0 when flagged; such an entry is ... spent in the ledger".
+-- What is spent has reached 0 from the start; an interval of 0 is over though it has no start.
 unfoldable pub stands : Event → List Use → ℕ → Limits → Ground → Bool
 stands e us i l count-spent = flagged countFlag l && leb (l .count) (spentCount us i)
 stands e us i l timed-spent = flagged timedFlag l && leb (l .timed) (spentTimed (e .time) us i l)
 stands e us i l seconds-spent = flagged accumulatedFlag l && leb (l .accumulated) (spentSeconds us i)
 stands e us i l interval-over = flagged intervalFlag l && over (e .time) (l .interval) (earliest i us)
+stands e us i l interval-zero = flagged intervalFlag l && eqb (l .interval) 0
 stands e us i l before-start = flagged startFlag l && ltb (e .time) (l .start)
 stands e us i l after-end = flagged endFlag l && ltb (l .end) (e .time)

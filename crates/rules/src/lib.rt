@@ -185,7 +185,7 @@ pub fn momentary(kind: u8) -> bool
 }
 
 // What stands against granting an entry to who asks.
-// Rules out: end taken as excluded, a limit tested without its flag, a sum that wraps.
+// Rules out: end taken as excluded, a limit tested without its flag, a sum that wraps, an interval of 0 that is granted once.
 pub fn grounds_of(l: Limits, m: Meters, ask: Ask) -> Grounds
     ensures { λ r. ⌜ r ≡ groundsOf ask l m ⌝ }
 {
@@ -202,6 +202,7 @@ pub fn grounds_of(l: Limits, m: Meters, ask: Ask) -> Grounds
         afterend: f.end & !(t <= l.end),
         intervalover: f.interval & !(!(m.started == 1) | (now < due)),
         secondsspent: f.accumulated & !(m.seconds < l.accumulated),
+        intervalzero: f.interval & !(0 < l.interval),
     }
 }
 
@@ -210,7 +211,13 @@ pub fn grantable(l: Limits, m: Meters, ask: Ask) -> bool
     ensures { λ r. ⌜ r ≡ grantable ask l m ⌝ }
 {
     let g = grounds_of(l, m, ask);
-    !g.countspent & !g.timedspent & !g.beforestart & !g.afterend & !g.intervalover & !g.secondsspent
+    !g.countspent
+        & !g.timedspent
+        & !g.beforestart
+        & !g.afterend
+        & !g.intervalover
+        & !g.secondsspent
+        & !g.intervalzero
 }
 
 // Rules out: an end that is not flagged, fresh and inherited swapped.

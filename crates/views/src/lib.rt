@@ -131,7 +131,7 @@ pub fn left_values(e: Entry, time: u32) -> [u32; 4]
 // What stands against granting an entry to who asks, at a time when no use is due any more: 1 for a ground that stands, otherwise 0,
 // in the order of document 01's words.
 // Rules out: two grounds swapped, a ground that is reported only where no other stands.
-pub fn ground_values(e: Entry, ask: Ask) -> [u32; 6]
+pub fn ground_values(e: Entry, ask: Ask) -> [u32; 7]
     ensures { λ r. ⌜ r ≡ groundValues ask e ⌝ }
 {
     let l = e.limits;
@@ -144,5 +144,6 @@ pub fn ground_values(e: Entry, ask: Ask) -> [u32; 6]
         number(g.afterend),
         number(g.intervalover),
         number(g.secondsspent),
+        number(g.intervalzero),
     ]
 }

@@ -20,11 +20,11 @@ use Rattle.book.specs.declared.Entry.{Entry}
 use Rattle.book.specs.declared.Player.{Player}
 use Rattle.book.specs.declared.Book.{Book}
 use Rattle.book.specs.Blank.{noAsset, noMeters, noEntry, noPlayer}
-use Rattle.model.specs.Book.{assetAt, limitsAt, metersAt, playerAt, assetsIn, entriesIn, assetPosition, inBook, between, limit}
+use Rattle.model.specs.Book.{assetAt, limitsAt, metersAt, playerAt, assetsIn, entriesIn, assetPosition, inBook, between}
 use Rattle.model.specs.Book.{assetLegal, assetsLegal, limitsLegal, entriesLegal, playerBlank, playerLegal}
 use Rattle.model.specs.Book.{opens, lasts, openUses, openSeconds, ruleBroken, Legal, Fresh}
 use Rattle.model.specs.Image.{newest, assetWidths, assetValues, entryWidths, entryValues, playerWidths, Typed}
-use Rattle.model.proofs.Ledger.WellFormed.{ranges-tests, limits-tests}
+use Rattle.model.proofs.Ledger.WellFormed.{limit-most, ranges-tests, limits-tests}
 use Rattle.model.proofs.Demand3.Suitable.{first-found as first-holds}
 use Rattle.model.proofs.Legal.Renewed.{unused-meters}
 use Rattle.model.proofs.Legal.Facts.{all-of, sum-same}
@@ -286,11 +286,6 @@ module _ (kind : ℕ) (st : State) (h : Legal (st .book)) (f : Fresh (st .book))
 
 -- ## The numbers of a fresh and legal book fit their types
 
-limit-most : (flag : Bool) (a z v : ℕ) → limit flag a z v ≡ true → v ≤ z
-unfolding limit
-limit-most true a z v e = leb-true v z (and-right (leb a v) (leb v z) e)
-limit-most false a z v e = omega (arith, eqb-true v 0 e)
-
 between-most : (a z v : ℕ) → between a z v ≡ true → v ≤ z
 between-most a z v e = leb-true v z (and-right (leb a v) (leb v z) e)
 
@@ -305,13 +300,13 @@ limits-fit known l e a =
       between-most 1 65535 (l .object) (t .0),
       between-most 1 5 (l .kind) (t .1 .1 .0),
       leb-true (l .flags) 63 (t .1 .1 .1 .0),
-      limit-most _ _ _ (l .count) (r .0),
-      limit-most _ _ _ (l .timed) (r .1 .0),
-      limit-most _ _ _ (l .timer) (r .1 .1 .0),
-      limit-most _ _ _ (l .start) (r .1 .1 .1 .0),
-      limit-most _ _ _ (l .end) (r .1 .1 .1 .1 .0),
-      limit-most _ _ _ (l .interval) (r .1 .1 .1 .1 .1 .0),
-      limit-most _ _ _ (l .accumulated) (r .1 .1 .1 .1 .1 .1 .0),
+      limit-most _ _ (l .count) (r .0),
+      limit-most _ _ (l .timed) (r .1 .0),
+      limit-most _ _ (l .timer) (r .1 .1 .0),
+      limit-most _ _ (l .start) (r .1 .1 .1 .0),
+      limit-most _ _ (l .end) (r .1 .1 .1 .1 .0),
+      limit-most _ _ (l .interval) (r .1 .1 .1 .1 .1 .0),
+      limit-most _ _ (l .accumulated) (r .1 .1 .1 .1 .1 .1 .0),
     )
 
 module _ (b : Book) (h : Legal b) where

@@ -4,7 +4,7 @@ use mathlib.Core.Bool.{Bool, true, false, cond, _&&_, _||_}
 use mathlib.Core.List.{List, [], _∷_}
 use lib.ListN.{length, take, drop}
 use lib.Dec.{eqb, leb, ltb}
-use Rattle.model.specs.Book.{between, latestTime, leastLimit, mostTimes, mostSeconds}
+use Rattle.model.specs.Book.{between, latestTime, mostTimes, mostSeconds}
 use Rattle.xml_model.specs.declared.Value.{Value}
 use Rattle.xml_model.specs.declared.Piece.{Piece}
 use Rattle.xml_model.specs.Bytes.{bytes, byteAt, part, same, digits, runEnd}
@@ -106,7 +106,7 @@ durationFormed v d h m s =
     ((h .there || m .there || s .there) && eqb (s .next) (length v))
     (d .there && eqb (d .next) (length v))
 
--- a duration in seconds; interval and accumulated are from the least limit to 100,000,000
+-- a duration in seconds; "interval and accumulated 1 to 100,000,000", and by order 2 of document 02 they "may now be 0 when flagged"
 unfoldable pub durationOf : List ℕ → Value
 durationOf v =
     let d = pieceAt v 68 1 in
@@ -115,15 +115,16 @@ durationOf v =
     let s = pieceAt v 83 (m .next) in
     let time = cond (eqb (byteAt v (d .next)) 84) (h .number * 3600 + m .number * 60 + s .number) 0 in
     let n = d .number * 86400 + time in
-    valueIf (durationFormed v d h m s && between leastLimit mostSeconds n) n
+    valueIf (durationFormed v d h m s && leb n mostSeconds) n
 
 -- ## The value of an element that holds a text, by its role
 
+-- "Count and timed count are 1 to 1,000,000", and by order 2 of document 02 "may now be 0": "They no longer meet 25 or 41"
 unfoldable pub valueOf : ℕ → List ℕ → Value
 valueOf role v =
     cond (eqb role versionRole) (valueIf (same v (bytes "2.2")) 0)
     (cond (eqb role objectUidRole) (numberIn 1 65535 v)
     (cond (eqb role assetUidRole || eqb role inheritUidRole) (uidOf v)
-    (cond (eqb role countRole || eqb role timedCountRole) (numberIn leastLimit mostTimes v)
+    (cond (eqb role countRole || eqb role timedCountRole) (numberIn 0 mostTimes v)
     (cond (eqb role startRole || eqb role endRole) (timeOf v)
     (durationOf v)))))

@@ -8,10 +8,10 @@ use native.Mathlib.Omega.{arith}
 use lib.ListN.{length, getD, take, drop, drop-of-length-le}
 use lib.Seq.{drop-cons}
 use lib.Dec.{leb, eqb}
-use borrow.Author.Tests.{leb-true, leb-false, lt-leb, not-false}
+use borrow.Author.Tests.{leb-true, not-false}
 use Rattle.numbers.proofs.Tests.{on-test, and-right, row-passed}
 use Rattle.numbers.proofs.TableLaws.{below-or-not}
-use Rattle.model.specs.Book.{between, leastLimit, mostSeconds}
+use Rattle.model.specs.Book.{mostSeconds}
 use Rattle.xml_model.specs.Bytes.{byteAt, digits, inClass, span, runEnd}
 use Rattle.xml_model.specs.Values.{valueIf, numberFrom, numberOf, digitsAt, numberAt, timeFormed}
 use Rattle.xml_model.proofs.Runs.{run-within, run-out}
@@ -43,32 +43,32 @@ pub number-end : (x : ℕ) (l : List ℕ) (i : ℕ) → length l ≤ i → numbe
 unfolding numberFrom
 number-end x l i h = rw (drop-of-length-le l {i = i} h)
 
--- two numbers that are the same if either is within the bound give the same value
-pub same-value : (w : Bool) (least bound x y : ℕ) → (x ≤ bound → x ≡ y) → (y ≤ bound → x ≡ y)
-    → valueIf (w && between least bound x) x ≡ valueIf (w && between least bound y) y
+-- two numbers that are the same if either passes the test give the same value
+pub same-value : (w : Bool) (test : ℕ → Bool) (x y : ℕ) → (test x ≡ true → x ≡ y) → (test y ≡ true → x ≡ y)
+    → valueIf (w && test x) x ≡ valueIf (w && test y) y
 unfolding valueIf
-same-value w least bound x y p q =
-    on-test (leb x bound)
-    (λ h. let e : x ≡ y = p (leb-true x bound h) in ap (λ (n : ℕ). valueIf (w && between least bound n) n) e)
+same-value w test x y p q =
+    on-test (test x)
+    (λ h. ap (λ (n : ℕ). valueIf (w && test n) n) (p h))
     (λ h.
-    let g : leb y bound ≡ false = lt-leb y bound (above (leb-false x bound h)) in
-    rw (h, g, and-false (leb least x), and-false (leb least y), and-false w))
-  where
-    above : bound < x → bound < y
-    above l = on-test (leb y bound)
-        (λ h. absurd (omega (arith, q (leb-true y bound h), leb-true y bound h)))
-        (λ h. leb-false y bound h)
+    on-test (test y)
+    (λ g. ap (λ (n : ℕ). valueIf (w && test n) n) (q g))
+    (λ g. rw (h, g, and-false w)))
+
+same-below : (w : Bool) (most x y : ℕ) → (x ≤ most → x ≡ y) → (y ≤ most → x ≡ y)
+    → valueIf (w && leb x most) x ≡ valueIf (w && leb y most) y
+same-below w most x y p q = same-value w (λ n. leb n most) x y (λ h. p (leb-true x most h)) (λ h. q (leb-true y most h))
 
 -- the sum of a duration's parts
 pub same-duration : (w timed : Bool) (d h m s : ℕ)
     → let x = min d ceiling * 86400 + cond timed (min h ceiling * 3600 + min m ceiling * 60 + min s ceiling) 0 in
     let y = d * 86400 + cond timed (h * 3600 + m * 60 + s) 0 in
-    valueIf (w && between leastLimit mostSeconds x) x ≡ valueIf (w && between leastLimit mostSeconds y) y
-same-duration w true d h m s = same-value w leastLimit mostSeconds
+    valueIf (w && leb x mostSeconds) x ≡ valueIf (w && leb y mostSeconds) y
+same-duration w true d h m s = same-below w mostSeconds
     (min d ceiling * 86400 + (min h ceiling * 3600 + min m ceiling * 60 + min s ceiling))
     (d * 86400 + (h * 3600 + m * 60 + s))
     (λ q. omega arith) (λ q. omega arith)
-same-duration w false d h m s = same-value w leastLimit mostSeconds
+same-duration w false d h m s = same-below w mostSeconds
     (min d ceiling * 86400 + 0) (d * 86400 + 0)
     (λ q. omega arith) (λ q. omega arith)
 

@@ -7,7 +7,6 @@ ghost use Rattle.xml_model.specs.Values.{valueIf, numberOf, isNumber, numberIn,
 ghost use Rattle.xml_model.specs.Values.{timeIf, timeOf, pieceAt, durationFormed, durationOf, valueOf};
 ghost use Rattle.xml_values.specs.Saturated.{ceiling, saturated};
 use book::LATEST_TIME;
-use book::LEAST_LIMIT;
 use book::MOST_SECONDS;
 use book::MOST_TIMES;
 use calendar::days_before;
@@ -253,17 +252,16 @@ fn duration_of(v: &[u8]) -> Value
     let x = h.number * 3600 + m.number * 60 + s.number;
     let timed = byte_at(v, d.next) == 84;
     let n = d.number * 86400 + pick64(timed, x, 0);
-    let low = LEAST_LIMIT as u64;
     let high = MOST_SECONDS as u64;
     value_if(
-        duration_formed(v, d, h, m, s) & ((low <= n) & (n <= high)),
+        duration_formed(v, d, h, m, s) & (n <= high),
         n,
     )
 }
 
 // ## The value of an element that holds a text, by its role
 
-// Rules out: version 2.1 accepted, a uid without its prefix in an asset, a count of 0 or of 1,000,001.
+// Rules out: version 2.1 accepted, a uid without its prefix in an asset, a count of 0 refused, one of 1,000,001.
 pub fn value_of(role: u8, v: &[u8]) -> Value
     ensures { λ r. ⌜ r ≡ valueOf role (now (v .entry)) ⌝ }
 {
@@ -277,7 +275,7 @@ pub fn value_of(role: u8, v: &[u8]) -> Value
         return uid_of(v);
     }
     if (role == COUNT) | (role == TIMED_COUNT) {
-        return number_in(LEAST_LIMIT, MOST_TIMES, v);
+        return number_in(0, MOST_TIMES, v);
     }
     if (role == START) | (role == END) {
         return time_of(v);

@@ -6,7 +6,7 @@ use Rattle.book.specs.declared.Limits.{Limits}
 use Rattle.book.specs.declared.Meters.{Meters}
 use mathlib.Core.Path.{_≡_, sym, ap, _∙_}
 use mathlib.Core.Bool.{Bool, true, false, _&&_, _||_}
-use lib.Dec.{leb}
+use lib.Dec.{leb, eqb}
 use borrow.Author.Needs.{needs}
 use Rattle.choice.proofs.window_of.Statement.{statement}
 use Rattle.choice.proofs.window_of.Tie as tie
@@ -17,6 +17,7 @@ test f l m =
     (f .count && leb (l .count) (m .count))
     || (f .timed && leb (l .timed) (m .timed))
     || (f .accumulated && leb (l .accumulated) (m .seconds))
+    || (f .interval && eqb (l .interval) 0)
 
 spent-by : (f : Flags) (l : Limits) (m : Meters) (w : Bool) → f ≡ flagsOf l → test f l m ≡ w → spent l m ≡ w
 unfolding spent flagsOf
@@ -53,17 +54,17 @@ returns : tie.Need-returns
 unfolding windowOf
 returns c =
     let a = c .before .before .before .before .before .before .before .before .before .before .before .before .before .before .before
-    .before .before .before .before .args in
+    .before .before .before .before .before .before .args in
     rw (spent-by _ (a .l) (a .m) true (c .before .before .before .before .before .before .before .before .before .before .before .before
-    .before .before .before .before .before .before .flags-of .ensures) (c .if1 .taken))
+    .before .before .before .before .before .before .before .before .flags-of .ensures) (c .if1 .taken))
 
 returns-2 : tie.Need-returns-2
 unfolding windowOf flagsOf
 returns-2 c =
     let a = c .before .before .before .before .before .before .before .before .before .before .before .before .before .before .before
-    .before .before .before .before .args in
+    .before .before .before .before .before .before .args in
     let f = c .before .before .before .before .before .before .before .before .before .before .before .before .before .before .before
-    .before .before .before .flags-of .ensures in
+    .before .before .before .before .before .flags-of .ensures in
     rw (
       spent-by _ (a .l) (a .m) false f (c .if1 .left),
       c .before .min-wide .ensures,

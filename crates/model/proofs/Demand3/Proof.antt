@@ -7,7 +7,7 @@ use mathlib.Core.List.{List, [], _∷_, map}
 use mathlib.Core.Option.{Option, none, some}
 use lib.Dec.{leb, ltb, eqb}
 use native.Mathlib.Omega.{arith}
-use borrow.Author.Tests.{eq-eqb, ne-eqb, leb-true, leb-false, lt-ltb, le-ltb}
+use borrow.Author.Tests.{eq-eqb, ne-eqb, eqb-true, eqb-false, leb-true, leb-false, lt-ltb, le-ltb, le-leb}
 use Rattle.numbers.specs.Count.{one, howMany}
 use Rattle.numbers.proofs.Tests.{Fail, none-pass}
 use Rattle.book.specs.declared.Limits.{Limits}
@@ -28,10 +28,12 @@ use Rattle.model.specs.Choice.{Catalog, catalogOf, usable, parentOf, sui
 use Rattle.model.specs.Choice.{allowed, goesBefore, Choice, nobody, chosen, anyOf, choose}
 use Rattle.model.specs.Step.{refusal, granted, doBegin, done, step}
 use Rattle.model.specs.Ledger.{Use, empty, spentCount, spentTimed, spentSeconds, earliest, over, Ground, count-spent, timed-spent}
-use Rattle.model.specs.Ledger.{seconds-spent, interval-over, before-start, after-end, stands}
+use Rattle.model.specs.Ledger.{seconds-spent, interval-over, interval-zero, before-start, after-end, stands}
 use Rattle.model.specs.Demand3.{State, after, starting, Takes, PastChecks, InBookWithKey, Suits, OutOrSpent, Left, NoneLeft, startOr}
 use Rattle.model.specs.Demand3.{isSome, figures, filled, chosenAnswer, Granted, Chosen, Begins, heldIn, Demand3}
+use Rattle.model.specs.Demand3.{ZeroLimit, zero-count, zero-timed, zero-interval, zero-accumulated, Spent, NeverGranted}
 use Rattle.model.proofs.Ledger.Facts.{on-test, clash, and-left, and-right, and-both}
+use Rattle.model.proofs.Ledger.Sums.{all-map}
 use Rattle.model.proofs.Ledger.Concrete.{held-ext, choose-sound, choose-none, none-choose}
 use Rattle.model.proofs.Ledger.WellFormed.{legal-formed, static-self}
 use Rattle.model.proofs.Demand3.Checks.{checked}
@@ -51,6 +53,11 @@ not-ltb a b = on-test (leb b a) (λ q. rw (q, le-ltb a b (leb-true b a q))) (λ 
 not-leb : (a b : ℕ) → not (leb a b) ≡ ltb b a
 not-leb a b = on-test (leb a b) (λ q. rw (q, le-ltb b a (leb-true a b q))) (λ q. rw (q, lt-ltb b a (leb-false a b q)))
 
+not-positive : (n : ℕ) → not (ltb 0 n) ≡ eqb n 0
+not-positive n = on-test (eqb n 0)
+    (λ q. rw (q, le-ltb 0 n (omega (arith, eqb-true n 0 q))))
+    (λ q. rw (q, lt-ltb 0 n (omega (arith, eqb-false n 0 q))))
+
 meter-spent : (f : Bool) (c n : ℕ) → fails f (ltb (where-flagged f c) n) ≡ (f && leb n c)
 meter-spent true c n = not-ltb c n
 meter-spent false c n = refl
@@ -67,12 +74,13 @@ named g count-spent = g .countspent
 named g timed-spent = g .timedspent
 named g seconds-spent = g .secondsspent
 named g interval-over = g .intervalover
+named g interval-zero = g .intervalzero
 named g before-start = g .beforestart
 named g after-end = g .afterend
 
 -- the names in the order of `groundList`
 abbrev names : List Ground
-names = count-spent ∷ timed-spent ∷ before-start ∷ after-end ∷ interval-over ∷ seconds-spent ∷ []
+names = count-spent ∷ timed-spent ∷ before-start ∷ after-end ∷ interval-over ∷ seconds-spent ∷ interval-zero ∷ []
 
 some-stands : (f : Ground → Bool) (gs : List Ground) → eqb (howMany (map f gs)) 0 ≡ false → (g : Ground) × (f g ≡ true)
 some-stands f [] e = clash refl e
@@ -93,6 +101,7 @@ module _ (e : Event) (us : List Use) (i : ℕ) (l : Limits) where
   same-ground timed-spent = meter-spent (flagged 2 l) (spentTimed (e .time) us i l) (l .timed)
   same-ground seconds-spent = meter-spent (flagged 32 l) (spentSeconds us i) (l .accumulated)
   same-ground interval-over = span-over (flagged 16 l) (e .time) (l .interval) (earliest i us)
+  same-ground interval-zero = ap (λ (b : Bool). flagged 16 l && b) (not-positive (l .interval))
   same-ground before-start = ap (λ (b : Bool). flagged 4 l && b) (not-leb (l .start) (e .time))
   same-ground after-end = ap (λ (b : Bool). flagged 8 l && b) (not-leb (e .time) (l .end))
 
@@ -113,6 +122,7 @@ module _ (e : Event) (us : List Use) (i : ℕ) (l : Limits) where
       off after-end = none .1 .1 .1 .0
       off interval-over = none .1 .1 .1 .1 .0
       off seconds-spent = none .1 .1 .1 .1 .1 .0
+      off interval-zero = none .1 .1 .1 .1 .1 .1 .0
 
   unable-stands : able ≡ false → (g : Ground) × (stands e us i l g ≡ true)
   unfolding grantable
@@ -329,6 +339,37 @@ module _ (s : State) (e : Event) (h : Inv (s .book) (s .account)) (kind : Kind) 
             choice = λ n. choice (begin-is ∙ x);
           }
 
+-- ## A limit of zero
+
+zero-reached : (n m : ℕ) → n ≡ 0 → leb n m ≡ true
+zero-reached n m z = le-leb n m (omega arith)
+
+zero-spent : (e : Event) (s : State) (i : ℕ) → ZeroLimit (limitsAt (s .book .entries) i) → Spent e s i
+unfolding stands
+zero-spent e s i (zero-count f z) = record { ground = count-spent; is-spent = refl; holds = and-both f (zero-reached _ _ z) }
+zero-spent e s i (zero-timed f z) = record { ground = timed-spent; is-spent = refl; holds = and-both f (zero-reached _ _ z) }
+zero-spent e s i (zero-interval f z) = record { ground = interval-zero; is-spent = refl; holds = and-both f (eq-eqb _ 0 z) }
+zero-spent e s i (zero-accumulated f z) = record { ground = seconds-spent; is-spent = refl; holds = and-both f (zero-reached _ _ z) }
+
+module _ (b : Book) (h : (ds : List Decoded) → Inv (after (starting b) ds .book) (after (starting b) ds .account)) where
+  -- the limits of the fresh book are those of every later one
+  zero-later : (ds : List Decoded) (i : ℕ) → ZeroLimit (limitsAt (b .entries) i) → ZeroLimit (limitsAt
+      (after (starting b) ds .book .entries) i)
+  zero-later ds i = subst ZeroLimit (sym (after-static ds (starting b) .limits i))
+
+  never-granted : NeverGranted b
+  never-granted = record {
+    spent = λ ds e i z. zero-spent e (after (starting b) ds) i (zero-later ds i z);
+    unused = λ ds i z. all-map (λ u w y. w .allows (zero-later ds (u .entry) (rw y z))) (after (starting b) ds .account .uses)
+        (h ds .held .sound);
+    only = λ ds e kind asset x t m z.
+        let s = after (starting b) ds in
+        let g : Begins s e kind asset = begins s e (h ds) kind asset x t in
+        g .choice (g .reaches .1 m) .none .1 (λ i v.
+        let y = zero-spent e s i (zero-later ds i (z i v)) in
+        record { ground = y .ground; holds = y .holds });
+  }
+
 -- ## Demand 3
 
 pub demand3 : (b : Book) → Legal b → Fresh b → Demand3 b
@@ -349,5 +390,6 @@ demand3 b g f =
       struckAnswers = λ ds. struck-answers ds (starting b) start;
       struckBook = λ ds. struck-book ds (starting b) start;
       predictable = λ ds. answers-predicted b ds (starting b) start (static-self b);
+      never = never-granted b h;
       records = λ rs. (record-answers rs b, record-final rs b);
     }

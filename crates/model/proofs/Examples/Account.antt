@@ -3,14 +3,15 @@
 use mathlib.Core.Path.{_≡_, refl}
 use Prim.Native.Nat.{ℕ}
 use mathlib.Core.Bool.{Bool, true, false}
-use mathlib.Core.List.{List, [], _∷_, map}
+use mathlib.Core.List.{List, [], _∷_, map, _++_}
+use lib.ListN.{replicate}
 use Rattle.book.specs.declared.Limits.{Limits}
 use Rattle.book.specs.declared.Event.{Event}
 use Rattle.book.specs.declared.Request.the-variants.{Stop}
 use Rattle.model.specs.Book.{flagged}
 use Rattle.model.specs.Ledger.{Use, empty, latestTaken, resent, calledTaken, timeOf, latest, revise, posted, note, noteArrival}
-use Rattle.model.specs.Ledger.{isOpen, sumOf, earliest, count-spent, timed-spent, seconds-spent, interval-over, before-start}
-use Rattle.model.specs.Ledger.{after-end, stands}
+use Rattle.model.specs.Ledger.{isOpen, sumOf, earliest, count-spent, timed-spent, seconds-spent, interval-over, interval-zero}
+use Rattle.model.specs.Ledger.{before-start, after-end, stands}
 use Rattle.model.specs.Demand3.{advance, after, starting, figures, filledFrom, predictBy, predict, predicted}
 use Rattle.model.proofs.Examples.Afternoon.{start, events, expected, limits}
 use Rattle.model.proofs.Examples.Computes.{events-run}
@@ -43,7 +44,7 @@ uses = ran 0 1 100 160 false ∷ ran 0 0 10 40 true ∷ []
 abbrev at : ℕ → Event
 at t = record { player = 0; number = 1; request = Stop; time = t }
 
--- count; timed count with its timer; accumulated; interval; an entry that was not used; limits that are not flagged
+-- count; timed count with its timer; accumulated; interval; an interval of 0, of 1, and one that is not flagged
 abbrev judged : List Bool
 judged =
     stands (at 159) uses 0 (limits 1 1 1 2 0 0 0 0 0 0) count-spent
@@ -58,18 +59,23 @@ judged =
     ∷ stands (at 159) uses 0 (limits 1 1 32 0 0 0 0 0 0 91) seconds-spent
     ∷ stands (at 109) uses 0 (limits 1 1 16 0 0 0 0 0 100 0) interval-over
     ∷ stands (at 110) uses 0 (limits 1 1 16 0 0 0 0 0 100 0) interval-over
+    ∷ stands (at 159) uses 1 (limits 1 1 16 0 0 0 0 0 0 0) interval-zero
+    ∷ stands (at 159) uses 1 (limits 1 1 16 0 0 0 0 0 1 0) interval-zero
+    ∷ stands (at 159) uses 1 (limits 1 1 47 1 1 0 0 0 0 1) interval-zero
     ∷ []
 
-pub entries-spent : judged ≡ (true ∷ false ∷ true ∷ false ∷ false ∷ true ∷ false ∷ false ∷ true ∷ false ∷ false ∷ true ∷ [])
+pub entries-spent : judged ≡ (true ∷ false ∷ true ∷ false ∷ false ∷ true ∷ false ∷ false ∷ true ∷ false ∷ false ∷ true ∷ true ∷ false
+    ∷ false ∷ [])
 unfolding flagged isOpen sumOf earliest stands
 entries-spent = refl
 
 -- all grounds against an entry, in turn
 abbrev every : ℕ → ℕ → Limits → List Bool
-every t i l = map (stands (at t) uses i l) (count-spent ∷ timed-spent ∷ seconds-spent ∷ interval-over ∷ before-start ∷ after-end ∷ [])
+every t i l = map (stands (at t) uses i l)
+    (count-spent ∷ timed-spent ∷ seconds-spent ∷ interval-over ∷ interval-zero ∷ before-start ∷ after-end ∷ [])
 
 abbrev nothing : List Bool
-nothing = false ∷ false ∷ false ∷ false ∷ false ∷ false ∷ []
+nothing = replicate 7 false
 
 -- an entry that was not used, and one without a flag
 pub unused : every 159 1 (limits 1 1 51 1 1 0 0 0 1 1) ≡ nothing
@@ -83,6 +89,21 @@ unlimited = refl
 -- the seconds around start and end
 pub dates :
     map (λ (t : ℕ). every t 1 (limits 1 1 12 0 0 0 100 200 0 0)) (99 ∷ 100 ∷ 200 ∷ 201 ∷ [])
-    ≡ ((false ∷ false ∷ false ∷ false ∷ true ∷ false ∷ []) ∷ nothing ∷ nothing ∷ (false ∷ false ∷ false ∷ false ∷ false ∷ true ∷ []) ∷ [])
+    ≡ ((replicate 5 false ++ (true ∷ false ∷ [])) ∷ nothing ∷ nothing ∷ (replicate 6 false ++ (true ∷ [])) ∷ [])
 unfolding flagged isOpen sumOf earliest stands
 dates = refl
+
+-- a limit of 0 is spent though nothing was used: of the four, each by its own ground alone
+pub zero-limits :
+    every 159 1 (limits 1 1 1 0 0 0 0 0 0 0)
+    ∷ every 159 1 (limits 1 1 2 0 0 9 0 0 0 0)
+    ∷ every 159 1 (limits 1 1 32 0 0 0 0 0 0 0)
+    ∷ every 159 1 (limits 1 1 16 0 0 0 0 0 0 0)
+    ∷ []
+    ≡ ((true ∷ replicate 6 false)
+    ∷ (false ∷ true ∷ replicate 5 false)
+    ∷ (false ∷ false ∷ true ∷ replicate 4 false)
+    ∷ (false ∷ false ∷ false ∷ false ∷ true ∷ false ∷ false ∷ [])
+    ∷ [])
+unfolding flagged isOpen sumOf earliest stands
+zero-limits = refl

@@ -254,7 +254,8 @@ setEntry i k v = with (inEntry i k) v
 abbrev setPlayer : ℕ → ℕ → ℕ → ℕ
 setPlayer p k v = with (inPlayer p k) v
 
--- one group for each of 20 to 25, two for 26, one for 27; the last are accepted, most of them exactly at a bound
+-- one group for each of 20 to 25, two for 26, one for 27; the last are accepted, most of them exactly at a bound, three with a flagged
+-- limit of 0. A count or timed count set to 0 where some was used is 27, an interval set to 0 under an open use 26.
 pub damaged :
     (readCode (take 10 (image small)) ∷ readCode (take (lengthOf small - 1) (image small)) ∷ readCode (image small ++ (0 ∷ []))
     ∷ setHeader 5 1 ∷ [])
@@ -262,28 +263,28 @@ pub damaged :
     ∷ (with (inHeader 3 - 1) 1 ∷ setHeader 3 0 ∷ setHeader 3 (suc newest) ∷ [])
     ∷ (setHeader 4 65 ∷ setHeader 5 65 ∷ with (inHeader 6 - 3) 239 ∷ [])
     ∷ (setAsset 0 2 2 ∷ with (inAsset 1 0 - 1) 1 ∷ setAsset 1 0 0 ∷ [])
-    ∷ (setEntry 0 2 0 ∷ setEntry 0 2 4 ∷ setEntry 0 2 6 ∷ setEntry 0 3 64 ∷ setEntry 0 4 0 ∷ setEntry 0 5 0 ∷ setEntry 0 8 0
-    ∷ setEntry 0 9 0 ∷ setEntry 1 0 0 ∷ setEntry 1 1 9 ∷ setEntry 1 2 0 ∷ setEntry 1 3 1 ∷ setEntry 1 4 1 ∷ [])
+    ∷ (setEntry 0 2 0 ∷ setEntry 0 2 4 ∷ setEntry 0 2 6 ∷ setEntry 0 3 64 ∷ setEntry 0 8 0 ∷ setEntry 1 0 0 ∷ setEntry 1 1 9 ∷ setEntry 1 2 0 ∷ setEntry 1 4 1 ∷ setEntry 1 5 1 ∷ setEntry 1 9 1 ∷ [])
     ∷ (setPlayer 0 1 2 ∷ setPlayer 0 1 4 ∷ setPlayer 0 3 0 ∷ setPlayer 0 3 6 ∷ setPlayer 0 4 9 ∷ setPlayer 0 4 16
     ∷ setPlayer 0 4 10 ∷ setPlayer 0 5 2 ∷ setPlayer 0 7 0 ∷ setPlayer 0 7 2 ∷ setPlayer 0 8 1 ∷ setPlayer 0 8 2
     ∷ setPlayer 1 1 1 ∷ [])
     ∷ (setPlayer 0 9 14 ∷ setPlayer 0 10 13 ∷ setPlayer 0 10 74 ∷ setEntry 0 7 9 ∷ setEntry 0 8 12 ∷ setEntry 0 13 9
-    ∷ setEntry 0 9 11 ∷ setEntry 0 15 0 ∷ [])
-    ∷ (setEntry 0 11 0 ∷ setEntry 0 11 11 ∷ setEntry 0 12 0 ∷ setEntry 0 12 12 ∷ setEntry 0 14 5 ∷ with (inEntry 0 14 - 3) 1
+    ∷ setEntry 0 9 11 ∷ setEntry 0 15 0 ∷ setEntry 0 9 0 ∷ [])
+    ∷ (setEntry 0 4 0 ∷ setEntry 0 5 0 ∷ setEntry 0 11 0 ∷ setEntry 0 11 11 ∷ setEntry 0 12 0 ∷ setEntry 0 12 12 ∷ setEntry 0 14 5 ∷ with (inEntry 0 14 - 3) 1
     ∷ setEntry 1 15 1 ∷ [])
     ∷ (readCode (image small) ∷ setPlayer 0 9 13 ∷ setPlayer 0 10 73 ∷ setEntry 0 7 8 ∷ setEntry 0 8 13 ∷ setEntry 0 13 8
-    ∷ setEntry 0 9 12 ∷ setEntry 0 11 10 ∷ setEntry 0 12 11 ∷ setEntry 0 14 6 ∷ setPlayer 0 5 0 ∷ [])
+    ∷ setEntry 0 9 12 ∷ setEntry 0 11 10 ∷ setEntry 0 12 11 ∷ setEntry 0 14 6 ∷ setPlayer 0 5 0 ∷ setEntry 1 3 1
+    ∷ setEntry 1 3 2 ∷ setEntry 1 3 16 ∷ [])
     ∷ []
     ≡ replicate 4 20
     ∷ replicate 4 21
     ∷ replicate 3 22
     ∷ replicate 3 23
     ∷ replicate 3 24
-    ∷ replicate 13 25
+    ∷ replicate 11 25
     ∷ replicate 13 26
-    ∷ replicate 8 26
-    ∷ replicate 7 27
-    ∷ replicate 11 0
+    ∷ replicate 9 26
+    ∷ replicate 9 27
+    ∷ replicate 14 0
     ∷ []
 unfolding legal-run image-run small
 damaged = refl

@@ -4,6 +4,7 @@ use mathlib.Core.Path.{_≡_, refl}
 use Prim.Native.Nat.{ℕ}
 use mathlib.Core.Bool.{Bool, true, false}
 use mathlib.Core.List.{[], _∷_}
+use lib.ListN.{replicate}
 use Rattle.numbers.specs.Count.{first}
 use Rattle.book.specs.declared.Asset.{Asset}
 use Rattle.model.specs.Book.{grantLength, flagged, momentary, limit, assetPosition, assetLegal, rangesLegal, limitsLegal, takenCode}
@@ -28,20 +29,26 @@ abbrev ranges : ℕ → ℕ → ℕ → ℕ → ℕ → ℕ → ℕ → ℕ → 
 ranges flags count timed timer start end interval accumulated = rangesLegal
     (limits 1 1 flags count timed timer start end interval accumulated)
 
--- "Count and timed count are 1 to 1,000,000; timer 0 to 1,000,000; interval and accumulated 1 to 100,000,000"; times to 4,000,000,000
-pub on-bounds : ranges 63 1 1 0 0 0 1 1 ∷ ranges 63 1000000 1000000 1000000 4000000000 4000000000 100000000 100000000 ∷ ranges 0 0 0 0 0
-    0 0 0 ∷ []
-    ≡ true ∷ true ∷ true ∷ []
+-- count, timed count and timer to 1,000,000, interval and accumulated to 100,000,000, times to 4,000,000,000; each of them 0 alone
+pub on-bounds :
+    ranges 63 1000000 1000000 1000000 4000000000 4000000000 100000000 100000000
+    ∷ ranges 63 0 1 1 1 1 1 1
+    ∷ ranges 63 1 0 1 1 1 1 1
+    ∷ ranges 63 1 1 0 1 1 1 1
+    ∷ ranges 63 1 1 1 0 1 1 1
+    ∷ ranges 63 1 1 1 1 0 1 1
+    ∷ ranges 63 1 1 1 1 1 0 1
+    ∷ ranges 63 1 1 1 1 1 1 0
+    ∷ ranges 63 0 0 0 0 0 0 0
+    ∷ ranges 0 0 0 0 0 0 0 0
+    ∷ []
+    ≡ replicate 10 true
 unfolding flagged limit rangesLegal
 on-bounds = refl
 
--- one number too small or too large at a time, and one that is not flagged
+-- one number too large at a time, and one that is not flagged
 pub beside-bounds :
-    ranges 63 0 1 0 0 0 1 1
-    ∷ ranges 63 1 0 0 0 0 1 1
-    ∷ ranges 63 1 1 0 0 0 0 1
-    ∷ ranges 63 1 1 0 0 0 1 0
-    ∷ ranges 63 1000001 1 0 0 0 1 1
+    ranges 63 1000001 1 0 0 0 1 1
     ∷ ranges 63 1 1000001 0 0 0 1 1
     ∷ ranges 63 1 1 1000001 0 0 1 1
     ∷ ranges 63 1 1 0 4000000001 0 1 1
@@ -56,8 +63,7 @@ pub beside-bounds :
     ∷ ranges 47 1 1 0 0 0 1 1
     ∷ ranges 31 1 1 0 0 0 1 1
     ∷ []
-    ≡ false ∷ false ∷ false ∷ false ∷ false ∷ false ∷ false ∷ false ∷ false ∷ false ∷ false ∷ false ∷ false ∷ false ∷ false ∷ false ∷
-    false ∷ false ∷ []
+    ≡ replicate 14 false
 unfolding flagged limit rangesLegal
 beside-bounds = refl
 

@@ -160,6 +160,7 @@ sound-later S T k n lim u h w = record {
   ordered = w .ordered;
   near = omega (arith, w .near);
   dates = w .dates;
+  allows = w .allows;
 }
 
 figures-staged : (S T k n : ℕ) (lim : ℕ → Limits) (us : List Use) (i : ℕ) (l : Limits) → Every (Sound S k n lim) us → figures

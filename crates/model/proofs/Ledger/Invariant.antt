@@ -20,7 +20,8 @@ use Rattle.model.specs.Meters.{begun, continued, ended, isStarted, inter
 use Rattle.model.proofs.Ledger.Facts.{on-test, on-same, clash, and-left, and-both, passes, eqb-self, cap-le, cap-at}
 use Rattle.model.proofs.Ledger.Facts.{cap-ge, upd, upd-same, upd-other, one-is}
 use Rattle.model.specs.Ledger.{Use, isOpen, ran, latest, revise, countsTimed, earliest, sooner, stopAt, goOn}
-use Rattle.model.specs.Demand3.{Every, isSome, startOr, figures, heldBy, heldIn}
+use Rattle.model.specs.Demand3.{Every, isSome, startOr, figures, heldBy, heldIn, ZeroLimit, zero-count, zero-timed, zero-interval}
+use Rattle.model.specs.Demand3.{zero-accumulated}
 use Rattle.model.proofs.Ledger.Sums.{all-map, all-both, all-revise, latest-new, latest-new-other, all-latest, Kept, earliest-revise}
 use Rattle.model.proofs.Ledger.Sums.{latest-revise, latest-revise-other, Tidy, tidy-revise, open-falls, all-shut}
 use Rattle.model.proofs.Ledger.Figures.{stopAt-keeps, goOn-keeps, open-until, open-on, stopped-shut, figures-other, figures-ended}
@@ -48,6 +49,7 @@ pub record Sound (T k n : ℕ) (lim : ℕ → Limits) (u : Use) : Type 0 where
   pub ordered : u .begin ≤ u .until
   pub near : u .until ≤ T + grantLength (lim (u .entry) .kind)
   pub dates : Dated (lim (u .entry)) u
+  pub allows : ZeroLimit (lim (u .entry)) → ⊥
 
 -- the meters are within the limits
 pub record Within (l : Limits) (m : Meters) : Type 0 where
@@ -55,10 +57,9 @@ pub record Within (l : Limits) (m : Meters) : Type 0 where
   pub timed : flagged 2 l ≡ true → m .timed ≤ l .timed
   pub seconds : flagged 32 l ≡ true → m .seconds ≤ l .accumulated
 
--- what is needed about an entry's limits: a momentary entry has timer 0, an interval is not 0, an end is a time
+-- what is needed about an entry's limits: a momentary entry has timer 0, an end is a time
 pub record Lawful (l : Limits) : Type 0 where
   pub timer : momentary (l .kind) ≡ true → l .timer ≡ 0
-  pub interval : flagged 16 l ≡ true → 0 < l .interval
   pub end : flagged 8 l ≡ true → l .end < noEnd
 
 pub record Invariant (T k n : ℕ) (lim : ℕ → Limits) (met : ℕ → Meters) (opn : ℕ → Open) (us : List Use) : Type 0 where
@@ -279,6 +280,7 @@ module _ {T k n : ℕ} {lim : ℕ → Limits} {met : ℕ → Meters} {opn : ℕ 
           last = λ f. omega
               (arith, own-sound .dates .last f, open-until T u o);
         };
+        allows = own-sound .allows;
       })
       (record { from = own-span .from; last = λ f. omega (arith, own-span .last f, open-until T u o) })
       (within-ended (u .begin) (u .until) T (lim (u .entry)) (met (u .entry)) (h .within (u .entry)))
@@ -331,6 +333,7 @@ module _ {T k n : ℕ} {lim : ℕ → Limits} {met : ℕ → Meters} {opn : ℕ 
           ordered = omega (arith, own-sound .ordered, more-ge);
           near = more-near;
           dates = record { from = own-sound .dates .from; upto = own-sound .dates .upto; last = more-last };
+          allows = own-sound .allows;
         })
         (record { from = own-span .from; last = more-span })
         within-continued
@@ -342,7 +345,7 @@ pub length-pos : (kind : ℕ) → 0 < grantLength kind
 unfolding grantLength
 length-pos kind = omega arith
 
-module _ (ask : Ask) (l : Limits) (m : Meters) (ok : grantable ask l m ≡ true) (lawful : Lawful l) where
+module _ (ask : Ask) (l : Limits) (m : Meters) (ok : grantable ask l m ≡ true) where
   abbrev T : ℕ
   T = ask .time
 
@@ -366,17 +369,28 @@ module _ (ask : Ask) (l : Limits) (m : Meters) (ok : grantable ask l m ≡ true)
   unfolding groundsOf
   grant-end f = leb-true T (l .end) (passes (flagged 8 l) _ (tests .1 .1 .1 .0) f)
 
+  grant-span : flagged 16 l ≡ true → 0 < l .interval
+  unfolding groundsOf
+  grant-span f = ltb-true 0 (l .interval) (passes (flagged 16 l) _ (tests .1 .1 .1 .1 .1 .1 .0) f)
+
   pub grant-from : flagged 16 l ≡ true → T < intervalFrom T m + l .interval
   unfolding groundsOf
   grant-from f = go (isStarted m) (passes (flagged 16 l) _ (tests .1 .1 .1 .1 .0) f)
     where
       go : (s : Bool) → (not s || ltb T (m .first + l .interval)) ≡ true → T < cond s (m .first) T + l .interval
       go true e = ltb-true T (m .first + l .interval) e
-      go false e = omega (arith, lawful .interval f)
+      go false e = omega (arith, grant-span f)
 
   pub grant-seconds : flagged 32 l ≡ true → m .seconds < l .accumulated
   unfolding groundsOf
   grant-seconds f = ltb-true (m .seconds) (l .accumulated) (passes (flagged 32 l) _ (tests .1 .1 .1 .1 .1 .0) f)
+
+  -- a limit of 0 is never granted
+  pub grant-allows : ZeroLimit l → ⊥
+  grant-allows (zero-count f z) = absurd (omega (arith, grant-count f))
+  grant-allows (zero-timed f z) = absurd (omega (arith, grant-timed f))
+  grant-allows (zero-interval f z) = absurd (omega (arith, grant-span f))
+  grant-allows (zero-accumulated f z) = absurd (omega (arith, grant-seconds f))
 
   abbrev grantCaps : ℕ
   grantCaps = caps (flagged 8 l) (flagged 16 l) (flagged 32 l) (l .end + 1) (intervalFrom T m + l .interval)
@@ -445,8 +459,8 @@ module _ (ask : Ask) {k n : ℕ} {lim : ℕ → Limits} {met : ℕ → Meters} {
   unfolding isOpen
   new-held =
       on-test (momentary (lim i .kind))
-      (λ e. rw (e, le-ltb now (grantUntil now (lim i) (met i)) (omega (arith, until-now ask (lim i) (met i) ok lawful e))))
-      (λ e. rw (e, lt-ltb now (grantUntil now (lim i) (met i)) (until-after ask (lim i) (met i) ok lawful e)))
+      (λ e. rw (e, le-ltb now (grantUntil now (lim i) (met i)) (omega (arith, until-now ask (lim i) (met i) ok e))))
+      (λ e. rw (e, lt-ltb now (grantUntil now (lim i) (met i)) (until-after ask (lim i) (met i) ok e)))
 
   new-timed : countsTimed (λ _. now) (lim i .timer) i newUse ≡ 1
   unfolding isOpen
@@ -455,15 +469,15 @@ module _ (ask : Ask) {k n : ℕ} {lim : ℕ → Limits} {met : ℕ → Meters} {
       (λ e.
       let z : leb (lim i .timer) (ran newUse) ≡ true = le-leb (lim i .timer) (ran newUse) (omega (arith, lawful .timer e)) in
       rw (eqb-self i, z, or-true (ltb now (grantUntil now (lim i) (met i)))))
-      (λ e. rw (eqb-self i, lt-ltb now (grantUntil now (lim i) (met i)) (until-after ask (lim i) (met i) ok lawful e)))
+      (λ e. rw (eqb-self i, lt-ltb now (grantUntil now (lim i) (met i)) (until-after ask (lim i) (met i) ok e)))
 
   new-span : Spanned (earliest i (newUse ∷ us)) (lim i) newUse
   unfolding earliest
   new-span = record {
     from = λ f. rw (eqb-self i, ← from-new now (λ _. now) us i (lim i) begins f, ← h .meters i)
-        (grant-from ask (lim i) (met i) ok lawful f);
+        (grant-from ask (lim i) (met i) ok f);
     last = λ f. rw (eqb-self i, ← from-new now (λ _. now) us i (lim i) begins f, ← h .meters i)
-        (until-span ask (lim i) (met i) ok lawful f);
+        (until-span ask (lim i) (met i) ok f);
   }
 
   pub begun-held : Invariant now k n lim (upd i (begun now (grantUntil now (lim i) (met i)) (lim i) (met i)) met) (upd who newOpen opn)
@@ -486,14 +500,15 @@ module _ (ask : Ask) {k n : ℕ} {lim : ℕ → Limits} {met : ℕ → Meters} {
         entry = ni;
         player = pk;
         begun = omega arith;
-        ordered = until-from ask (lim i) (met i) ok lawful;
-        near = until-near ask (lim i) (met i) ok lawful;
+        ordered = until-from ask (lim i) (met i) ok;
+        near = until-near ask (lim i) (met i) ok;
         dates = record {
-          from = grant-start ask (lim i) (met i) ok lawful;
-          upto = grant-end ask (lim i) (met i) ok lawful;
+          from = grant-start ask (lim i) (met i) ok;
+          upto = grant-end ask (lim i) (met i) ok;
           last =
-              until-end ask (lim i) (met i) ok lawful;
+              until-end ask (lim i) (met i) ok;
         };
+        allows = grant-allows ask (lim i) (met i) ok;
       },
       h .sound,
     );
@@ -508,6 +523,6 @@ module _ (ask : Ask) {k n : ℕ} {lim : ℕ → Limits} {met : ℕ → Meters} {
     within = λ j.
         on-same j i
         (λ x. rw x (rw (upd-same i (begun now (grantUntil now (lim i) (met i)) (lim i) (met i)) met)
-        (within-begun ask (lim i) (met i) ok lawful)))
+        (within-begun ask (lim i) (met i) ok)))
         (λ x. rw (upd-other i (begun now (grantUntil now (lim i) (met i)) (lim i) (met i)) met j x) (h .within j));
   }

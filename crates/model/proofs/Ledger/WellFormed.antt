@@ -2,7 +2,7 @@
 -- No event changes any of it.
 use mathlib.Core.Path.{_≡_, refl, sym, ap, _∙_, subst}
 use Prim.Native.Nat.{ℕ, zero, suc, _≤_, _<_, min}
-use mathlib.Core.Bool.{Bool, true, not, _&&_, _||_, false≢true}
+use mathlib.Core.Bool.{Bool, true, false, not, _&&_, _||_, false≢true}
 use mathlib.Core.List.{List, [], _∷_, map}
 use lib.ListN.{length, length-set, length-map}
 use lib.Dec.{leb, ltb, eqb}
@@ -26,7 +26,7 @@ use Rattle.book.specs.declared.Gate.the-variants.{Refuse, Resend, Take}
 use Rattle.book.specs.Blank.{noLimits}
 use Rattle.model.specs.Book.{assetAt, limitsAt, assetsIn, entriesIn, latestTime, assetPosition, inBook, between, flagged, momentary}
 use Rattle.model.specs.Book.{limit, assetLegal, assetsLegal, rangesLegal, limitsLegal, entriesLegal, ruleBroken, Legal}
-use Rattle.model.specs.Book.{countFlag, timedFlag, startFlag, endFlag, intervalFlag, accumulatedFlag, leastLimit, mostTimes}
+use Rattle.model.specs.Book.{countFlag, timedFlag, startFlag, endFlag, intervalFlag, accumulatedFlag, mostTimes}
 use Rattle.model.specs.Book.{mostSeconds}
 use Rattle.model.specs.Record.{kindNumber}
 use Rattle.model.specs.Meters.{isOn, shut, settled}
@@ -47,15 +47,17 @@ pub record WellFormed (b : Book) : Type 0 where
   pub once : (i : ℕ) → i < assetsIn b → assetPosition (b .assets) (assetsIn b) (assetAt (b .assets) i .number) ≡ i
   pub numbered : (i : ℕ) → i < assetsIn b → 0 < assetAt (b .assets) i .number
 
-limit-on : (f : Bool) (a z v : ℕ) → limit f a z v ≡ true → f ≡ true → between a z v ≡ true
+-- flagged or not
+pub limit-most : (flag : Bool) (most v : ℕ) → limit flag most v ≡ true → v ≤ most
 unfolding limit
-limit-on f a z v e q = rw q at e
+limit-most true most v e = leb-true v most e
+limit-most false most v e = omega (arith, eqb-true v 0 e)
 
-pub ranges-tests : (l : Limits) → rangesLegal l ≡ true → (limit (flagged countFlag l) leastLimit mostTimes (l .count) ≡ true)
-    × Pass (limit (flagged timedFlag l) leastLimit mostTimes (l .timed) ∷ limit (flagged timedFlag l) 0 mostTimes (l .timer)
-    ∷ limit (flagged startFlag l) 0 latestTime (l .start) ∷ limit (flagged endFlag l) 0 latestTime (l .end)
-    ∷ limit (flagged intervalFlag l) leastLimit mostSeconds (l .interval)
-    ∷ limit (flagged accumulatedFlag l) leastLimit mostSeconds (l .accumulated) ∷ [])
+pub ranges-tests : (l : Limits) → rangesLegal l ≡ true → (limit (flagged countFlag l) mostTimes (l .count) ≡ true)
+    × Pass (limit (flagged timedFlag l) mostTimes (l .timed) ∷ limit (flagged timedFlag l) mostTimes (l .timer)
+    ∷ limit (flagged startFlag l) latestTime (l .start) ∷ limit (flagged endFlag l) latestTime (l .end)
+    ∷ limit (flagged intervalFlag l) mostSeconds (l .interval)
+    ∷ limit (flagged accumulatedFlag l) mostSeconds (l .accumulated) ∷ [])
 unfolding rangesLegal
 ranges-tests l e = row-passed _ (_ ∷ _ ∷ _ ∷ _ ∷ _ ∷ _ ∷ []) e
 
@@ -72,23 +74,12 @@ limits-lawful known l e =
     let later = ranges-tests l (behind .0) .1 .1 .1 .1 in
     record {
       timer = λ m. eqb-true (l .timer) 0 (and-right (not (flagged 32 l)) (eqb (l .timer) 0) (rw m at (behind .1 .1 .0)));
-      interval = λ f.
-          omega (
-            arith,
-            leb-true 1 (l .interval) (and-left (leb 1 (l .interval)) (leb (l .interval) 100000000)
-                (limit-on (flagged 16 l) 1 100000000 (l .interval) (later .1 .0) f)),
-          );
-      end = λ f.
-          omega (
-            arith,
-            leb-true (l .end) latestTime (and-right (leb 0 (l .end)) (leb (l .end) latestTime)
-                (limit-on (flagged 8 l) 0 latestTime (l .end) (later .0) f)),
-          );
+      end = λ f. omega (arith, limit-most (flagged 8 l) latestTime (l .end) (later .0));
     }
 
 blank-lawful : Lawful noLimits
 unfolding flagged momentary
-blank-lawful = record { timer = λ m. refl; interval = λ f. absurd (false≢true f); end = λ f. absurd (false≢true f) }
+blank-lawful = record { timer = λ m. refl; end = λ f. absurd (false≢true f) }
 
 broken-24 : (b : Book) → ruleBroken b ≡ 0 → assetsLegal b ≡ true
 unfolding ruleBroken

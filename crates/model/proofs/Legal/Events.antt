@@ -30,7 +30,7 @@ use Rattle.model.specs.Choice.{goesBefore, choose, leastUntil, grantUnti
 use Rattle.model.specs.Step.{Done, unchanged, granted, doBegin, more, doContinue, doStop, done, openAt}
 use Rattle.model.proofs.Ledger.Facts.{on-test, on-same, clash, and-left, and-right, cond-on, cond-off, upd, upd-same, upd-other}
 use Rattle.model.proofs.Legal.Facts.{upd-own}
-use Rattle.model.proofs.Ledger.Invariant.{Lawful, shutO}
+use Rattle.model.proofs.Ledger.Invariant.{shutO}
 use Rattle.model.proofs.Ledger.Concrete.{amend-length, amend-limits, amend-meters, shut-open, Sure, choose-sound}
 use Rattle.model.proofs.Legal.Rules.{MeterOk, UseOk, Sound, Live}
 use Rattle.model.proofs.Legal.Meters.{ended-sound, continued-sound, more-near, Grant, grant-of, momentary-sound, begun-sound}
@@ -279,61 +279,60 @@ module _ (ask : Ask) {n : ℕ} (room : n ≤ 64) (es : List Entry) {opn : ℕ �
       use₁ : isOn (opn p) ≡ true → UseOk T n (limitsAt es (opn p .entry)) (metersAt es (opn p .entry)) (opn p)
       use₁ on = h .opens p .runs on
 
-  module _ (lawful : (i : ℕ) → Lawful (limitsAt es i)) where
-    chosen-ok : (kind : Kind) (i : ℕ) → isOn (opn p) ≡ false → i < n → eqb (limitsAt es i .kind) (kindNumber kind) ≡ true → grantable
-        ask (limitsAt es i) (metersAt es i) ≡ true →
-        DoneOk T n p (limitsAt es) opn (granted T es (opn p) (chosen i))
-    unfolding grantUntil takenCode
-    chosen-ok kind i off k e g =
-        let a : AnswerOk T n (record { code = 0; entry = i; until = grantUntil T (limitsAt es i) (metersAt es i) }) =
-        record { code = refl; grants = λ q. k; refuses = λ q. clash refl q; near = grant-near T (limitsAt es i) (metersAt es i) } in
-        let grant : Grant T (limitsAt es i) (metersAt es i) = grant-of ask (limitsAt es i) (metersAt es i) g (lawful i) in
-        on-test (momentary (limitsAt es i .kind))
-        (λ q. record {
-          answer = a;
-          part = rw q (amend-part T n room (limitsAt es) es (upd p (opn p) opn) i (begun T T) k slots (λ j. refl)
-              (momentary-sound h p pl off i k grant));
-          live = rw q (running p);
-        })
-        (λ q. record {
-          answer = a;
-          part = rw q
-              (amend-part T n room (limitsAt es) es (upd p (record
-              { on = 1; entry = i; begin = T; until = leastUntil T T (limitsAt es i) (metersAt es i) }) opn) i
-              (begun T (leastUntil T T (limitsAt es i) (metersAt es i))) k slots (λ j. refl)
-              (begun-sound h p pl off i k grant (kind-runs kind (limitsAt es i .kind) e q)));
-          live = rw q (λ z. begun-live h p pl off i k grant);
-        })
+  chosen-ok : (kind : Kind) (i : ℕ) → isOn (opn p) ≡ false → i < n → eqb (limitsAt es i .kind) (kindNumber kind) ≡ true → grantable
+      ask (limitsAt es i) (metersAt es i) ≡ true →
+      DoneOk T n p (limitsAt es) opn (granted T es (opn p) (chosen i))
+  unfolding grantUntil takenCode
+  chosen-ok kind i off k e g =
+      let a : AnswerOk T n (record { code = 0; entry = i; until = grantUntil T (limitsAt es i) (metersAt es i) }) =
+      record { code = refl; grants = λ q. k; refuses = λ q. clash refl q; near = grant-near T (limitsAt es i) (metersAt es i) } in
+      let grant : Grant T (limitsAt es i) (metersAt es i) = grant-of ask (limitsAt es i) (metersAt es i) g in
+      on-test (momentary (limitsAt es i .kind))
+      (λ q. record {
+        answer = a;
+        part = rw q (amend-part T n room (limitsAt es) es (upd p (opn p) opn) i (begun T T) k slots (λ j. refl)
+            (momentary-sound h p pl off i k grant));
+        live = rw q (running p);
+      })
+      (λ q. record {
+        answer = a;
+        part = rw q
+            (amend-part T n room (limitsAt es) es (upd p (record
+            { on = 1; entry = i; begin = T; until = leastUntil T T (limitsAt es i) (metersAt es i) }) opn) i
+            (begun T (leastUntil T T (limitsAt es i) (metersAt es i))) k slots (λ j. refl)
+            (begun-sound h p pl off i k grant (kind-runs kind (limitsAt es i .kind) e q)));
+        live = rw q (λ z. begun-live h p pl off i k grant);
+      })
 
-    module _ (c : Catalog) (counted : c .entryCount ≡ n) where
-      begin-ok : (kind : Kind) (asset : ℕ) → DoneOk T n p (limitsAt es) opn (doBegin c es (opn p) ask asset (kindNumber kind))
-      unfolding doBegin choose suitable takenCode
-      begin-ok kind asset =
-          on-test (isOn (opn p))
-          (λ on. rw on (unchanged-ok 11 refl refl))
-          (λ on. rw on
-          (on-test (usable c asset)
-          (λ q. rw q
-          (on-test (anyOf (suits c es asset (kindNumber kind)) (c .entryCount))
-          (λ r. rw r (go on (choose c es ask asset (kindNumber kind)) refl))
-          (λ r. rw r (unchanged-ok 12 refl refl))))
-          (λ q. rw q (unchanged-ok 10 refl refl))))
-        where
-          go : isOn (opn p) ≡ false → (x : Choice) → choose c es ask asset (kindNumber kind) ≡ x → DoneOk T n p (limitsAt es) opn
-              (granted T es (opn p) x)
-          go off nobody e = unchanged-ok 13 refl refl
-          go off (chosen i) e =
-              let s : Sure (allowed c es ask asset (kindNumber kind)) (c .entryCount) i = choose-sound _ (goesBefore es asset)
-              (c .entryCount) i e in
-              let a : suits c es asset (kindNumber kind) i ≡ true = and-left _ (grantable ask (limitsAt es i) (metersAt es i))
-              (s .passes) in
-              let g : grantable ask (limitsAt es i) (metersAt es i) ≡ true = and-right (suits c es asset (kindNumber kind) i) _
-              (s .passes) in
-              chosen-ok kind i off (omega (arith, s .below)) (and-left (eqb (limitsAt es i .kind) (kindNumber kind))
-              (own asset (limitsAt es i) || (not (eqb (parentOf c asset) 0) && eqb (limitsAt es i .asset) (parentOf c asset))) a) g
+  module _ (c : Catalog) (counted : c .entryCount ≡ n) where
+    begin-ok : (kind : Kind) (asset : ℕ) → DoneOk T n p (limitsAt es) opn (doBegin c es (opn p) ask asset (kindNumber kind))
+    unfolding doBegin choose suitable takenCode
+    begin-ok kind asset =
+        on-test (isOn (opn p))
+        (λ on. rw on (unchanged-ok 11 refl refl))
+        (λ on. rw on
+        (on-test (usable c asset)
+        (λ q. rw q
+        (on-test (anyOf (suits c es asset (kindNumber kind)) (c .entryCount))
+        (λ r. rw r (go on (choose c es ask asset (kindNumber kind)) refl))
+        (λ r. rw r (unchanged-ok 12 refl refl))))
+        (λ q. rw q (unchanged-ok 10 refl refl))))
+      where
+        go : isOn (opn p) ≡ false → (x : Choice) → choose c es ask asset (kindNumber kind) ≡ x → DoneOk T n p (limitsAt es) opn
+            (granted T es (opn p) x)
+        go off nobody e = unchanged-ok 13 refl refl
+        go off (chosen i) e =
+            let s : Sure (allowed c es ask asset (kindNumber kind)) (c .entryCount) i = choose-sound _ (goesBefore es asset)
+            (c .entryCount) i e in
+            let a : suits c es asset (kindNumber kind) i ≡ true = and-left _ (grantable ask (limitsAt es i) (metersAt es i))
+            (s .passes) in
+            let g : grantable ask (limitsAt es i) (metersAt es i) ≡ true = and-right (suits c es asset (kindNumber kind) i) _
+            (s .passes) in
+            chosen-ok kind i off (omega (arith, s .below)) (and-left (eqb (limitsAt es i .kind) (kindNumber kind))
+            (own asset (limitsAt es i) || (not (eqb (parentOf c asset) 0) && eqb (limitsAt es i .asset) (parentOf c asset))) a) g
 
-      pub done-ok : (r : Request) → DoneOk T n p (limitsAt es) opn (done r c es (opn p) ask)
-      unfolding done
-      done-ok (Begin kind asset) = begin-ok kind asset
-      done-ok Continue = continue-ok
-      done-ok Stop = stop-ok
+    pub done-ok : (r : Request) → DoneOk T n p (limitsAt es) opn (done r c es (opn p) ask)
+    unfolding done
+    done-ok (Begin kind asset) = begin-ok kind asset
+    done-ok Continue = continue-ok
+    done-ok Stop = stop-ok

@@ -20,9 +20,9 @@ use Rattle.model.specs.Choice.{asks, catalogOf, grantable, chosen, suits
 use Rattle.model.specs.Step.{openAt}
 use Rattle.model.specs.Exact.{ExactEnd, ExactBegin, ExactContinue, Taken, atTurn, atRequest, asking, Exact}
 use Rattle.model.proofs.Ledger.Facts.{clash, and-left, and-right}
-use Rattle.model.proofs.Ledger.Invariant.{Lawful, grant-seconds, until-from}
-use Rattle.model.proofs.Ledger.Concrete.{settled-limits, choose-sound}
-use Rattle.model.proofs.Ledger.WellFormed.{all-below, legal-formed}
+use Rattle.model.proofs.Ledger.Invariant.{grant-seconds, until-from}
+use Rattle.model.proofs.Ledger.Concrete.{choose-sound}
+use Rattle.model.proofs.Ledger.WellFormed.{all-below}
 use Rattle.model.proofs.Legal.Rules.{Sound, UseOk, playerPasses, player-live, player-open, no-player, stages-from}
 use Rattle.model.proofs.Legal.Meters.{more-ge, own-timed, own-spent}
 use Rattle.model.proofs.Legal.Events.{stage, stage-own, settled-live}
@@ -91,9 +91,6 @@ module _ (b : Book) (e : Event) (h : Legal b) where
     abbrev es : List Entry
     es = atRequest b e
 
-    lawful : (i : ℕ) → Lawful (limitsAt es i)
-    lawful i = subst Lawful (sym (settled-limits T ps (b .entries) i)) (legal-formed b h .limits i)
-
     begin-exact : (asset kind i : ℕ) → choose (catalogOf b) es (asks e) asset kind ≡ chosen i → ExactBegin T es i
     unfolding choose
     begin-exact asset kind i x =
@@ -101,8 +98,8 @@ module _ (b : Book) (e : Event) (h : Legal b) where
         let ok : grantable (asks e) (limitsAt es i) (metersAt es i) ≡ true = and-right (suits (catalogOf b) es asset kind i) _
         (s .passes) in
         record {
-          unused = λ f. omega (arith, grant-seconds (asks e) (limitsAt es i) (metersAt es i) ok (lawful i) f);
-          until = until-from (asks e) (limitsAt es i) (metersAt es i) ok (lawful i);
+          unused = λ f. omega (arith, grant-seconds (asks e) (limitsAt es i) (metersAt es i) ok f);
+          until = until-from (asks e) (limitsAt es i) (metersAt es i) ok;
         }
 
     module _ (on : isOn (asking b e) ≡ true) where

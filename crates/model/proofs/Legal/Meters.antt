@@ -16,7 +16,7 @@ use Rattle.model.specs.Meters.{where-flagged, isStarted, intervalFrom, b
 use Rattle.model.specs.Choice.{grantable, leastUntil, grantUntil, moreUntil}
 use Rattle.model.proofs.Ledger.Facts.{on-test, on-same, clash, cond-on, cond-off, flag-le, upd, upd-same, upd-other}
 use Rattle.model.proofs.Legal.Facts.{sum-upd}
-use Rattle.model.proofs.Ledger.Invariant.{Lawful, length-pos, caps, caps-le, caps-first, caps-second, caps-third, caps-ge}
+use Rattle.model.proofs.Ledger.Invariant.{length-pos, caps, caps-le, caps-first, caps-second, caps-third, caps-ge}
 use Rattle.model.proofs.Ledger.Invariant.{grant-count, grant-timed, grant-start, grant-end, grant-from, grant-seconds}
 use Rattle.model.proofs.Legal.Rules.{MeterOk, UseOk, OpenOk, useIn, secondsIn, usesOf, secondsOf, Sound}
 
@@ -328,14 +328,14 @@ pub record Grant (t : ℕ) (l : Limits) (m : Meters) : Type 0 where
   pub interval : flagged 16 l ≡ true → t < intervalFrom t m + l .interval
   pub seconds : flagged 32 l ≡ true → m .seconds < l .accumulated
 
-pub grant-of : (ask : Ask) (l : Limits) (m : Meters) → grantable ask l m ≡ true → Lawful l → Grant (ask .time) l m
-grant-of ask l m e h = record {
-  count = grant-count ask l m e h;
-  timed = grant-timed ask l m e h;
-  from = grant-start ask l m e h;
-  upto = grant-end ask l m e h;
-  interval = grant-from ask l m e h;
-  seconds = grant-seconds ask l m e h;
+pub grant-of : (ask : Ask) (l : Limits) (m : Meters) → grantable ask l m ≡ true → Grant (ask .time) l m
+grant-of ask l m e = record {
+  count = grant-count ask l m e;
+  timed = grant-timed ask l m e;
+  from = grant-start ask l m e;
+  upto = grant-end ask l m e;
+  interval = grant-from ask l m e;
+  seconds = grant-seconds ask l m e;
 }
 
 from-le : (T : ℕ) (m : Meters) → m .first ≤ T → intervalFrom T m ≤ T

@@ -45,9 +45,9 @@ use Rattle.model.specs.History.{answers, final}
 use Rattle.model.specs.Saved.{Survives, Fits, FitsRead, Turn, handedOn, eventOf, savedAnswers, savedFinal, AllFit, Saved}
 use Rattle.model.proofs.Image.RoundTrip.{demand2}
 use Rattle.model.proofs.Ledger.Facts.{on-test, on-same, clash, and-right, and-both, cond-on, cond-off, upd, upd-same, upd-other}
-use Rattle.model.proofs.Ledger.Invariant.{Lawful, shutO}
+use Rattle.model.proofs.Ledger.Invariant.{shutO}
 use Rattle.model.proofs.Ledger.Concrete.{store-open, shut-at, shut-open}
-use Rattle.model.proofs.Ledger.WellFormed.{all-below, legal-formed}
+use Rattle.model.proofs.Ledger.WellFormed.{all-below}
 use Rattle.model.proofs.Legal.Facts.{all-of}
 use Rattle.model.proofs.Legal.Rules.{openPasses, playerPasses, lawfulIn, Counted, MeterOk, OpenOk, Sound, Live, open-to}
 use Rattle.model.proofs.Legal.Rules.{blank-current, unused-from, used-from, player-to, meter-to, Stages, stages-from, stages-to}
@@ -239,7 +239,6 @@ module _ (b : Book) (e : Event) (h : Legal b) (t : Passed b e) where
       done-ok (asks e) room es (before .slots)
       settled-sound
       (settled-live T (b .players)) (t .player)
-      (λ i. subst Lawful (sym (before .limits i)) (legal-formed b h .limits i))
       (catalogOf b) refl (e .request)
 
   limits-kept : (i : ℕ) → limitsAt (new .entries) i ≡ limitsAt (b .entries) i

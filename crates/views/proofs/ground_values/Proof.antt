@@ -25,17 +25,21 @@ number-requires-5 c κs = search needs
 number-requires-6 : tie.Need-number-requires-6
 number-requires-6 c κs = search needs
 
+number-requires-7 : tie.Need-number-requires-7
+number-requires-7 c κs = search needs
+
 returns : tie.Need-returns
 unfolding groundValues
 returns c =
     rw (
-      c .number6 .ensures,
-      c .before .number5 .ensures,
-      c .before .before .number4 .ensures,
-      c .before .before .before .number3 .ensures,
-      c .before .before .before .before .number2 .ensures,
-      c .before .before .before .before .before .number .ensures,
-      c .before .before .before .before .before .before .grounds-of .ensures,
+      c .number7 .ensures,
+      c .before .number6 .ensures,
+      c .before .before .number5 .ensures,
+      c .before .before .before .number4 .ensures,
+      c .before .before .before .before .number3 .ensures,
+      c .before .before .before .before .before .number2 .ensures,
+      c .before .before .before .before .before .before .number .ensures,
+      c .before .before .before .before .before .before .before .grounds-of .ensures,
     )
 
 pub ground-values-spec : {M : Type 1} → statement M
@@ -49,4 +53,5 @@ ground-values-spec =
     number-requires-4
     number-requires-5
     number-requires-6
+    number-requires-7
     returns)

@@ -76,3 +76,30 @@ pub season-told :
     ∷ []
 unfolding reading-run season told assets entries
 season-told = refl
+
+-- A promotional object, order 2 of document 02: each of the four limits as 0 by itself, then all of them in one entry.
+unfoldable pub promotional : List ℕ
+promotional =
+    bytes "<o-ex:rights><o-ex:context><o-dd:uid>5</o-dd:uid></o-ex:context><o-ex:agreement>"
+    ++ bytes "<o-ex:asset><o-ex:context><o-dd:uid>cid:1</o-dd:uid></o-ex:context><ds:KeyInfo/></o-ex:asset><o-ex:permission>"
+    ++ bytes "<o-dd:play><o-ex:constraint><o-dd:count>0</o-dd:count></o-ex:constraint></o-dd:play>"
+    ++ bytes "<o-dd:display><o-ex:constraint><oma-dd:timed-count oma-dd:timer='9'>000</oma-dd:timed-count></o-ex:constraint></o-dd:display>"
+    ++ bytes "<o-dd:execute><o-ex:constraint><o-dd:interval>PT0S</o-dd:interval></o-ex:constraint></o-dd:execute>"
+    ++ bytes "</o-ex:permission><o-ex:permission>"
+    ++ bytes "<o-dd:play><o-ex:constraint><o-dd:accumulated>P0D</o-dd:accumulated></o-ex:constraint></o-dd:play>"
+    ++ bytes "<o-dd:display><o-ex:constraint><o-dd:count>0</o-dd:count><oma-dd:timed-count>0</oma-dd:timed-count>"
+    ++ bytes "<o-dd:interval>P0DT0H0M0S</o-dd:interval><o-dd:accumulated>PT0M</o-dd:accumulated></o-ex:constraint></o-dd:display>"
+    ++ bytes "</o-ex:permission></o-ex:agreement></o-ex:rights>"
+
+pub promotional-told :
+    told (readingOf promotional)
+    ≡ (0 ∷ 28 ∷ [])
+    ∷ (1 ∷ 0 ∷ 1 ∷ [])
+    ∷ (5 ∷ 1 ∷ 1 ∷ 1 ∷ 0 ∷ 0 ∷ 0 ∷ 0 ∷ 0 ∷ 0 ∷ 0 ∷ [])
+    ∷ (5 ∷ 1 ∷ 2 ∷ 2 ∷ 0 ∷ 0 ∷ 9 ∷ 0 ∷ 0 ∷ 0 ∷ 0 ∷ [])
+    ∷ (5 ∷ 1 ∷ 3 ∷ 16 ∷ 0 ∷ 0 ∷ 0 ∷ 0 ∷ 0 ∷ 0 ∷ 0 ∷ [])
+    ∷ (5 ∷ 1 ∷ 1 ∷ 32 ∷ 0 ∷ 0 ∷ 0 ∷ 0 ∷ 0 ∷ 0 ∷ 0 ∷ [])
+    ∷ (5 ∷ 1 ∷ 2 ∷ 51 ∷ 0 ∷ 0 ∷ 0 ∷ 0 ∷ 0 ∷ 0 ∷ 0 ∷ [])
+    ∷ []
+unfolding reading-run promotional told assets entries
+promotional-told = refl

@@ -168,7 +168,6 @@ pub values :
     ∷ bytes "<o-ex:rights><o-ex:context><o-dd:uid>65536</o-dd:uid>"
     ∷ (front ++ bytes "<o-ex:asset><o-ex:context><o-dd:uid>7</o-dd:uid>")
     ∷ (front ++ bytes "<o-ex:asset><o-ex:context><o-dd:uid>CID:7</o-dd:uid>")
-    ∷ play (bytes "<o-dd:count>0</o-dd:count>")
     ∷ play (bytes "<o-dd:count>1000001</o-dd:count>")
     ∷ play (bytes "<o-dd:count> 1</o-dd:count>")
     ∷ play (bytes "<o-dd:count/>")
@@ -176,7 +175,8 @@ pub values :
     ∷ play (bytes "<o-dd:datetime><o-dd:end>2096-10-02T07:06:41Z</o-dd:end></o-dd:datetime>")
     ∷ play (bytes "<o-dd:interval>P1DT</o-dd:interval>")
     ∷ play (bytes "<o-dd:interval>P1H</o-dd:interval>")
-    ∷ play (bytes "<o-dd:accumulated>PT0S</o-dd:accumulated>")
+    ∷ play (bytes "<oma-dd:timed-count>1000001</oma-dd:timed-count>")
+    ∷ play (bytes "<o-dd:interval>PT100000001S</o-dd:interval>")
     ∷ play (bytes "<o-dd:accumulated>PT100000001S</o-dd:accumulated>")
     ∷ [])
     ≡ replicate 15 41

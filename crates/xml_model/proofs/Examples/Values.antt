@@ -83,6 +83,19 @@ pub durations :
 unfolding reading-run numbers
 durations = refl
 
+-- the least and the greatest, and one second more
+pub duration-bounds :
+    valid
+    (durationOf (bytes "PT0S")
+    ∷ durationOf (bytes "P0D")
+    ∷ durationOf (bytes "P00DT0H0M0S")
+    ∷ durationOf (bytes "PT100000000S")
+    ∷ durationOf (bytes "PT100000001S")
+    ∷ [])
+    ≡ true ∷ true ∷ true ∷ true ∷ false ∷ []
+unfolding reading-run valid
+duration-bounds = refl
+
 -- no part, an idle T, a T left out, another order, a part twice, no P, something behind
 pub no-durations :
     valid

@@ -6,7 +6,7 @@ use native.Mathlib.Omega.{arith}
 use lib.Dec.{eqb, leb}
 use borrow.Author.Tests.{leb-true}
 use Rattle.numbers.proofs.Tests.{and-right}
-use Rattle.model.specs.Book.{leastLimit, mostSeconds}
+use Rattle.model.specs.Book.{mostSeconds}
 use Rattle.xml_model.specs.Bytes.{byteAt}
 use Rattle.xml_model.specs.Values.{pieceAt, durationFormed, durationOf}
 use Rattle.xml_values.specs.Saturated.{saturated}
@@ -70,9 +70,6 @@ add-n c =
       picked (eqb (c .before .before .byte-at .result) 84) x (c .pick64 .ensures),
     )
 
-cast-low : tie.Need-cast-low
-cast-low c = search needs
-
 cast-high : tie.Need-cast-high
 cast-high c = search needs
 
@@ -83,7 +80,7 @@ value-if-requires : tie.Need-value-if-requires
 value-if-requires c κs = λ h.
     let d = c .before .before .before .before .before .before .before .before .before .before .before .piece-at .result in
     let n = d .number * 86400 + c .before .pick64 .result in
-    omega (arith, leb-true n mostSeconds (and-right (leb leastLimit n) (leb n mostSeconds) (and-right (c .duration-formed .result) _ h)))
+    omega (arith, leb-true n mostSeconds (and-right (c .duration-formed .result) _ h))
 
 returns : tie.Need-returns
 unfolding durationOf durationFormed saturated
@@ -125,7 +122,6 @@ duration-of-spec =
     mul-n
     pick64-requires
     add-n
-    cast-low
     cast-high
     duration-formed-requires
     value-if-requires

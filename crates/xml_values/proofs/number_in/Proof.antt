@@ -1,5 +1,6 @@
 -- `xml_values::number_in` meets its contract: saturation changes no number within a bound of 32 bits.
 use mathlib.Core.Path.{ap, _∙_}
+use Prim.Native.Nat.{_≤_}
 use mathlib.Core.Bool.{Bool, _&&_}
 use native.Mathlib.Omega.{arith}
 use lib.Dec.{leb}
@@ -31,9 +32,11 @@ returns c =
     let n = c .before .before .number-of in
     c .value-if .ensures
     ∙ ap (λ (w : Bool). valueIf (w && between (a .least) (a .most) (n .result)) (n .result)) (c .before .is-number .ensures)
-    ∙ same-value (isNumber (a .v .now)) (a .least) (a .most) (n .result) (numberOf (a .v .now))
-    (λ h. omega (arith, n .ensures))
-    (λ h. omega (arith, n .ensures))
+    ∙ same-value (isNumber (a .v .now)) (between (a .least) (a .most)) (n .result) (numberOf (a .v .now))
+    (λ h. let u : n .result ≤ a .most = leb-true _ _ (and-right (leb (a .least) (n .result)) _ h) in omega (arith, n .ensures))
+    (λ h.
+    let u : numberOf (a .v .now) ≤ a .most = leb-true _ _ (and-right (leb (a .least) (numberOf (a .v .now))) _ h) in
+    omega (arith, n .ensures))
 
 pub number-in-spec : {M : Type 1} → statement M
 number-in-spec =
