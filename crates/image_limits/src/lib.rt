@@ -63,11 +63,7 @@ pub fn assets_legal(b: Book) -> bool
 fn limit_legal(flag: bool, most: u32, v: u32) -> bool
     ensures { λ r. ⌜ r ≡ limit flag most v ⌝ }
 {
-    if flag {
-        v <= most
-    } else {
-        v == 0
-    }
+    if flag { v <= most } else { v == 0 }
 }
 
 fn ranges_legal(l: Limits) -> bool

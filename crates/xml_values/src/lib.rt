@@ -253,10 +253,7 @@ fn duration_of(v: &[u8]) -> Value
     let timed = byte_at(v, d.next) == 84;
     let n = d.number * 86400 + pick64(timed, x, 0);
     let high = MOST_SECONDS as u64;
-    value_if(
-        duration_formed(v, d, h, m, s) & (n <= high),
-        n,
-    )
+    value_if(duration_formed(v, d, h, m, s) & (n <= high), n)
 }
 
 // ## The value of an element that holds a text, by its role

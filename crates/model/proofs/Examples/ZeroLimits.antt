@@ -3,17 +3,14 @@
 use mathlib.Core.Path.{_≡_, refl, ap}
 use Prim.Native.Nat.{ℕ, zero, suc, _≤_, _<_}
 use mathlib.Core.Bool.{Bool, true, false}
-use mathlib.Core.List.{List, [], _∷_, map, _++_}
+use mathlib.Core.List.{List, [], _∷_, _++_}
 use lib.ListN.{getD, replicate}
 use native.Mathlib.Omega.{arith}
 use Rattle.numbers.proofs.TableLaws.{blanks}
-use Rattle.book.specs.declared.Ask.{Ask}
 use Rattle.book.specs.declared.Book.{Book}
 use Rattle.book.specs.declared.Entry.{Entry}
 use Rattle.book.specs.declared.Event.{Event}
-use Rattle.book.specs.declared.Kind.{Kind}
-use Rattle.book.specs.declared.Kind.the-variants.{Play, Display, Execute, Print, Export}
-use Rattle.book.specs.declared.Meters.{Meters}
+use Rattle.book.specs.declared.Kind.the-variants.{Play, Display, Execute, Print}
 use Rattle.book.specs.declared.Request.the-variants.{Begin, Continue, Stop}
 use Rattle.book.specs.Blank.{noAsset, noEntry, noPlayer, noMeters}
 use Rattle.model.specs.Book.{assetAt, limitsAt, metersAt, flagged, ruleBroken, Legal}

@@ -1,14 +1,13 @@
 -- What the proofs use of a legal book: lengths, lawful limits, and each asset number once.
 -- No event changes any of it.
 use mathlib.Core.Path.{_≡_, refl, sym, ap, _∙_, subst}
-use Prim.Native.Nat.{ℕ, zero, suc, _≤_, _<_, min}
+use Prim.Native.Nat.{ℕ, _≤_, _<_, min}
 use mathlib.Core.Bool.{Bool, true, false, not, _&&_, _||_, false≢true}
 use mathlib.Core.List.{List, [], _∷_, map}
 use lib.ListN.{length, length-set, length-map}
 use lib.Dec.{leb, ltb, eqb}
 use native.Mathlib.Omega.{arith}
 use borrow.Author.Tests.{eqb-true, ltb-true, ltb-false, leb-true, not-false}
-use Rattle.numbers.specs.Count.{all}
 use Rattle.numbers.proofs.Tests.{Pass, row-passed, passed}
 pub use Rattle.numbers.proofs.Tests.{all-below}
 use Rattle.book.specs.declared.Limits.{Limits}
@@ -34,7 +33,7 @@ use Rattle.model.specs.Choice.{Catalog, catalogOf, usable, suits, asks, 
 use Rattle.model.specs.Step.{Done, unchanged, granted, doBegin, more, doContinue, doStop, done, openAt, takenStep, lastAt, stepBy}
 use Rattle.model.specs.Step.{step, arrive}
 use Rattle.model.specs.Gate.{gate}
-use Rattle.model.proofs.Ledger.Facts.{on-test, on-same, and-left, and-right}
+use Rattle.model.proofs.Ledger.Facts.{on-test, and-left, and-right}
 use Rattle.model.proofs.Ledger.Invariant.{Lawful}
 use Rattle.model.proofs.Ledger.Concrete.{amend-limits, amend-length, settled-limits, settled-size}
 
