@@ -263,13 +263,15 @@ pub damaged :
     ∷ (with (inHeader 3 - 1) 1 ∷ setHeader 3 0 ∷ setHeader 3 (suc newest) ∷ [])
     ∷ (setHeader 4 65 ∷ setHeader 5 65 ∷ with (inHeader 6 - 3) 239 ∷ [])
     ∷ (setAsset 0 2 2 ∷ with (inAsset 1 0 - 1) 1 ∷ setAsset 1 0 0 ∷ [])
-    ∷ (setEntry 0 2 0 ∷ setEntry 0 2 4 ∷ setEntry 0 2 6 ∷ setEntry 0 3 64 ∷ setEntry 0 8 0 ∷ setEntry 1 0 0 ∷ setEntry 1 1 9 ∷ setEntry 1 2 0 ∷ setEntry 1 4 1 ∷ setEntry 1 5 1 ∷ setEntry 1 9 1 ∷ [])
+    ∷ (setEntry 0 2 0 ∷ setEntry 0 2 4 ∷ setEntry 0 2 6 ∷ setEntry 0 3 64 ∷ setEntry 0 8 0 ∷ setEntry 1 0 0
+    ∷ setEntry 1 1 9 ∷ setEntry 1 2 0 ∷ setEntry 1 4 1 ∷ setEntry 1 5 1 ∷ setEntry 1 9 1 ∷ [])
     ∷ (setPlayer 0 1 2 ∷ setPlayer 0 1 4 ∷ setPlayer 0 3 0 ∷ setPlayer 0 3 6 ∷ setPlayer 0 4 9 ∷ setPlayer 0 4 16
     ∷ setPlayer 0 4 10 ∷ setPlayer 0 5 2 ∷ setPlayer 0 7 0 ∷ setPlayer 0 7 2 ∷ setPlayer 0 8 1 ∷ setPlayer 0 8 2
     ∷ setPlayer 1 1 1 ∷ [])
     ∷ (setPlayer 0 9 14 ∷ setPlayer 0 10 13 ∷ setPlayer 0 10 74 ∷ setEntry 0 7 9 ∷ setEntry 0 8 12 ∷ setEntry 0 13 9
     ∷ setEntry 0 9 11 ∷ setEntry 0 15 0 ∷ setEntry 0 9 0 ∷ [])
-    ∷ (setEntry 0 4 0 ∷ setEntry 0 5 0 ∷ setEntry 0 11 0 ∷ setEntry 0 11 11 ∷ setEntry 0 12 0 ∷ setEntry 0 12 12 ∷ setEntry 0 14 5 ∷ with (inEntry 0 14 - 3) 1
+    ∷ (setEntry 0 4 0 ∷ setEntry 0 5 0 ∷ setEntry 0 11 0 ∷ setEntry 0 11 11 ∷ setEntry 0 12 0 ∷ setEntry 0 12 12
+    ∷ setEntry 0 14 5 ∷ with (inEntry 0 14 - 3) 1
     ∷ setEntry 1 15 1 ∷ [])
     ∷ (readCode (image small) ∷ setPlayer 0 9 13 ∷ setPlayer 0 10 73 ∷ setEntry 0 7 8 ∷ setEntry 0 8 13 ∷ setEntry 0 13 8
     ∷ setEntry 0 9 12 ∷ setEntry 0 11 10 ∷ setEntry 0 12 11 ∷ setEntry 0 14 6 ∷ setPlayer 0 5 0 ∷ setEntry 1 3 1
