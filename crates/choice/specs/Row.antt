@@ -4,7 +4,7 @@ use mathlib.Core.Path.{_≡_, refl, sym, _∙_}
 use mathlib.Core.Bool.{Bool, true, false, not, _&&_, _||_, cond, Bool·not-not}
 use native.Mathlib.Omega.{arith}
 use lib.Dec.{leb, ltb, eqb}
-use borrow.Author.Tests.{ltb-true, ltb-false, leb-true, leb-false, lt-ltb, le-ltb, le-leb, eqb-true, eqb-false}
+use borrow.Author.Tests.{ltb-true, ltb-false, leb-true, leb-false, lt-ltb, le-ltb, le-leb}
 use Rattle.numbers.specs.Count.{one}
 use Rattle.book.specs.declared.Ask.{Ask}
 use Rattle.book.specs.declared.Limits.{Limits}
@@ -13,6 +13,7 @@ use Rattle.model.specs.Book.{flagged}
 use Rattle.model.specs.Book.{countFlag, timedFlag, startFlag, endFlag, intervalFlag, accumulatedFlag}
 use Rattle.model.specs.Meters.{where-flagged, isStarted}
 use Rattle.model.specs.Choice.{noEnd, own, suitable, fails, groundsOf, groundList, grantable, rankOf, ranksBefore}
+use Rattle.model.proofs.Ledger.Facts.{not-positive}
 use Rattle.numbers.proofs.Tests.{on-test, none-row}
 use Rattle.book.specs.declared.Rank.{Rank}
 use Rattle.choice.specs.declared.Best.{Best}
@@ -108,9 +109,7 @@ used-up true a b = not-below a b
 used-up false a b = refl
 
 is-zero : (f : Bool) (n : ℕ) → (f && eqb n 0) ≡ fails f (ltb 0 n)
-is-zero true n = on-test (eqb n 0)
-    (λ p. rw (p, le-ltb 0 n (omega (arith, eqb-true n 0 p))))
-    (λ p. rw (p, lt-ltb 0 n (omega (arith, eqb-false n 0 p))))
+is-zero true n = sym (not-positive n)
 is-zero false n = refl
 
 from-start : (f : Bool) (t s : ℕ) → leb (where-flagged f s) t ≡ not (fails f (leb s t))

@@ -7,7 +7,7 @@ use mathlib.Core.List.{List, [], _∷_, map}
 use mathlib.Core.Option.{Option, none, some}
 use lib.Dec.{leb, ltb, eqb}
 use native.Mathlib.Omega.{arith}
-use borrow.Author.Tests.{eq-eqb, ne-eqb, eqb-true, eqb-false, leb-true, leb-false, lt-ltb, le-ltb, le-leb}
+use borrow.Author.Tests.{eq-eqb, ne-eqb, leb-true, leb-false, lt-ltb, le-ltb, le-leb}
 use Rattle.numbers.specs.Count.{one, howMany}
 use Rattle.numbers.proofs.Tests.{Fail, none-pass}
 use Rattle.book.specs.declared.Limits.{Limits}
@@ -32,7 +32,7 @@ use Rattle.model.specs.Ledger.{seconds-spent, interval-over, interval-ze
 use Rattle.model.specs.Demand3.{State, after, starting, Takes, PastChecks, InBookWithKey, Suits, OutOrSpent, Left, NoneLeft, startOr}
 use Rattle.model.specs.Demand3.{isSome, figures, filled, chosenAnswer, Granted, Chosen, Begins, heldIn, Demand3}
 use Rattle.model.specs.Demand3.{ZeroLimit, zero-count, zero-timed, zero-interval, zero-accumulated, Spent, NeverGranted}
-use Rattle.model.proofs.Ledger.Facts.{on-test, clash, and-left, and-right, and-both}
+use Rattle.model.proofs.Ledger.Facts.{on-test, clash, and-left, and-right, and-both, not-positive}
 use Rattle.model.proofs.Ledger.Sums.{all-map}
 use Rattle.model.proofs.Ledger.Concrete.{held-ext, choose-sound, choose-none, none-choose}
 use Rattle.model.proofs.Ledger.WellFormed.{legal-formed, static-self}
@@ -52,11 +52,6 @@ not-ltb a b = on-test (leb b a) (λ q. rw (q, le-ltb a b (leb-true b a q))) (λ 
 
 not-leb : (a b : ℕ) → not (leb a b) ≡ ltb b a
 not-leb a b = on-test (leb a b) (λ q. rw (q, le-ltb b a (leb-true a b q))) (λ q. rw (q, lt-ltb b a (leb-false a b q)))
-
-not-positive : (n : ℕ) → not (ltb 0 n) ≡ eqb n 0
-not-positive n = on-test (eqb n 0)
-    (λ q. rw (q, le-ltb 0 n (omega (arith, eqb-true n 0 q))))
-    (λ q. rw (q, lt-ltb 0 n (omega (arith, eqb-false n 0 q))))
 
 meter-spent : (f : Bool) (c n : ℕ) → fails f (ltb (where-flagged f c) n) ≡ (f && leb n c)
 meter-spent true c n = not-ltb c n

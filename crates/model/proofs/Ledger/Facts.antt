@@ -1,10 +1,10 @@
 -- Flags, caps and updates by position: small facts that the other files cite. The laws of tests are re-exported from crate `numbers`.
 use mathlib.Core.Path.{_≡_, refl}
 use Prim.Native.Nat.{ℕ, _+_, _≤_}
-use mathlib.Core.Bool.{Bool, true, false, cond, false≢true}
-use lib.Dec.{eqb}
+use mathlib.Core.Bool.{Bool, true, false, not, cond, false≢true}
+use lib.Dec.{ltb, eqb}
 use native.Mathlib.Omega.{arith}
-use borrow.Author.Tests.{ne-eqb, not-false}
+use borrow.Author.Tests.{eqb-true, eqb-false, ne-eqb, lt-ltb, le-ltb, not-false}
 use Rattle.numbers.specs.Count.{one}
 pub use Rattle.numbers.proofs.Tests.{on-test, on-same, eqb-self, clash, cond-on, cond-off, and-left, and-right, and-both}
 use Rattle.book.specs.declared.Meters.{Meters}
@@ -15,6 +15,12 @@ use Rattle.model.specs.Choice.{cap, fails}
 pub passes : (f b : Bool) → fails f b ≡ false → f ≡ true → b ≡ true
 passes true b e h = not-false b e
 passes false b e h = absurd (false≢true h)
+
+-- not above 0
+pub not-positive : (n : ℕ) → not (ltb 0 n) ≡ eqb n 0
+not-positive n = on-test (eqb n 0)
+    (λ q. rw (q, le-ltb 0 n (omega (arith, eqb-true n 0 q))))
+    (λ q. rw (q, lt-ltb 0 n (omega (arith, eqb-false n 0 q))))
 
 -- where-flagged
 pub flag-on : (f : Bool) (v : ℕ) → f ≡ true → where-flagged f v ≡ v
