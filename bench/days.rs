@@ -1,6 +1,6 @@
 //! Makes a day for the bench: a fresh book and any number of events.
 //!
-//!     days KIND EVENTS SEED FOLDER [ENTRIES]
+//!     days KIND EVENTS SEED FOLDER [ENTRIES [METERING]]
 //!
 //! writes FOLDER/rights.rbk and FOLDER/events.bin. The same arguments give the same bytes. The kinds of days:
 //!
@@ -8,6 +8,12 @@
 //!   full     64 assets and 64 entries over four parents, all kinds and flags, most begins granted
 //!   worst    64 entries (or ENTRIES), all suitable for every begin, and only begins
 //!   expire   the book of small, with times that jump so that most uses lapse
+//!
+//! METERING says how the book is metered:
+//!
+//!   none     nothing is tracked and the switch is off; the image is of version 1, for programs that know no other
+//!   off      every entry is tracked, every other one has the mark, and the switch is off: some begins get 43, nothing is recorded
+//!   on       every entry is tracked, a time from 30 seconds on, and the switch is on: every use is recorded
 
 use std::fs::File;
 use std::io::{BufWriter, Result, Write};
@@ -54,6 +60,13 @@ struct Entry {
     end: u32,
     interval: u32,
     accumulated: u32,
+}
+
+#[derive(Clone, Copy, PartialEq)]
+enum Metering {
+    None,
+    Off,
+    On,
 }
 
 struct Book {
@@ -124,23 +137,31 @@ fn worst_book(entries: u32) -> Book {
     Book { assets: vec![(9, 0, 0), (1, 9, 1)], entries: (0..entries).map(entry).collect() }
 }
 
-fn image_of(book: &Book) -> Vec<u8> {
-    let mut data = b"RBK\0\x01".to_vec();
-    data.extend([book.assets.len() as u8, book.entries.len() as u8, 0, 0, 0, 0]);
+fn image_of(book: &Book, metering: Metering) -> Vec<u8> {
+    let metered = metering != Metering::None;
+    let mut data = b"RBK\0".to_vec();
+    data.extend([1 + metered as u8, book.assets.len() as u8, book.entries.len() as u8, 0, 0, 0, 0]);
+    if metered {
+        data.extend(((metering == Metering::On) as u32).to_be_bytes());
+    }
     for &(number, inherit, key) in &book.assets {
         data.extend(number.to_be_bytes());
         data.extend(inherit.to_be_bytes());
         data.push(key);
     }
-    for entry in &book.entries {
+    for (position, entry) in book.entries.iter().enumerate() {
         data.extend([0, 1]);
         data.extend(entry.asset.to_be_bytes());
         data.extend([entry.kind, entry.flags]);
         let limits = [entry.count, entry.timed, entry.timer, entry.start, entry.end, entry.interval, entry.accumulated];
         data.extend(limits.iter().flat_map(|limit| limit.to_be_bytes()));
         data.extend([0; 17]); // nothing used
+        if metered {
+            let mark = metering == Metering::Off && position % 2 == 1;
+            data.extend([1, 30, mark as u32].iter().flat_map(|field: &u32| field.to_be_bytes()));
+        }
     }
-    data.extend([0; 16 * 24]);
+    data.extend(vec![0; 16 * if metered { 28 } else { 24 }]);
     data
 }
 
@@ -253,7 +274,7 @@ impl Day {
 fn main() -> Result<()> {
     let words: Vec<String> = std::env::args().collect();
     if words.len() < 5 {
-        eprintln!("days KIND EVENTS SEED FOLDER [ENTRIES], KIND one of small, full, worst, expire");
+        eprintln!("days KIND EVENTS SEED FOLDER [ENTRIES [METERING]], KIND one of small, full, worst, expire; METERING of none, off, on");
         std::process::exit(2);
     }
     let number = |word: &String| word.parse::<u64>().expect("a number");
@@ -265,8 +286,14 @@ fn main() -> Result<()> {
         "worst" => worst_book(words.get(5).map_or(64, |word| number(word) as u32)),
         _ => panic!("no such kind of day: {kind}"),
     };
+    let metering = match words.get(6).map(String::as_str) {
+        None | Some("none") => Metering::None,
+        Some("off") => Metering::Off,
+        Some("on") => Metering::On,
+        Some(other) => panic!("no such metering: {other}"),
+    };
     std::fs::create_dir_all(folder)?;
-    std::fs::write(folder.join("rights.rbk"), image_of(&book))?;
+    std::fs::write(folder.join("rights.rbk"), image_of(&book, metering))?;
     let mut out = BufWriter::new(File::create(folder.join("events.bin"))?);
     for _ in 0..events {
         out.write_all(&match kind {

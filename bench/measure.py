@@ -1,6 +1,6 @@
 """Makes the days, compares the answers of the programs byte for byte, then times them: see bench/run.sh.
 
-    python3 bench/measure.py FOLDER [--more] NAME=PROGRAM ...
+    python3 bench/measure.py FOLDER [--more] [--metered] NAME=PROGRAM ...
 
 FOLDER holds the program `days`. Ratios are of the first program's median to each other's. Two times are given, of the clock and of
 the processor (user and system); on a busy machine the second is more stable.
@@ -45,9 +45,9 @@ def compare(programs, folder):
         output.unlink()
 
 
-def measure(programs, bench, label, kind, events, *entries):
+def measure(programs, bench, label, kind, events, entries=64, metering="none"):
     folder = bench / kind
-    subprocess.run([bench / "days", kind, str(events), SEED, folder, *map(str, entries)], check=True)
+    subprocess.run([bench / "days", kind, str(events), SEED, folder, str(entries), metering], check=True)
     compare(programs, folder)
     times = [[] for _ in programs]
     for _ in range(RUNS):
@@ -68,7 +68,7 @@ def heading(programs, text):
 
 
 def main():
-    words = [word for word in sys.argv[1:] if word != "--more"]
+    words = [word for word in sys.argv[1:] if not word.startswith("--")]
     bench, programs = Path(words[0]).resolve(), [word.split("=", 1) for word in words[1:]]
     heading(programs, "Four kinds of days")
     for kind in ("small", "full", "worst", "expire"):
@@ -81,6 +81,12 @@ def main():
         for entries in (4, 8, 16, 32, 64):
             measure(programs, bench, f"{entries} entries", "worst", EVENTS // 4, entries)
 
+    if "--metered" in sys.argv:
+        able = [each for each in programs if each[0] != "before"]
+        for metering in ("off", "on"):
+            heading(able, f"Every entry tracked, the switch {metering}")
+            for kind in ("small", "full", "worst", "expire"):
+                measure(able, bench, kind, kind, EVENTS, metering=metering)
 
 if __name__ == "__main__":
     main()

@@ -9,6 +9,7 @@
 //! - for each asset and kind the suitable entries, sorted in the order of the choice; an entry that is over leaves its lists;
 //! - the rank of an entry in one word; the lists are sorted again only when an interval starts;
 //! - uses are settled only when the earliest until has come;
+//! - the usage report is kept by the positions of the assets, from zeros; it is not printed, as by the run program;
 //! - one read and one write for some eight thousand events, lines put together from prepared text.
 //!
 //! An order of document 02 changes `Formats` (bytes of records and images), `Legal` (what an image must meet) or `Rules` (what an
@@ -34,10 +35,18 @@ const ACCUMULATED: u8 = 32;
 // ---- Formats: event records, images, lines of answers
 
 const RECORD: usize = 13;
-const HEADER: usize = 11;
+const HEADER: usize = 11; // mark, version, numbers and time, in every version
 const ASSET: usize = 5;
-const ENTRY: usize = 51;
-const PLAYER: usize = 24;
+
+/// The bytes of a header, an entry and a player in an image.
+struct Widths {
+    header: usize,
+    entry: usize,
+    player: usize,
+}
+
+const VERSIONS: [Widths; 2] =
+    [Widths { header: HEADER, entry: 51, player: 24 }, Widths { header: HEADER + 4, entry: 51 + 12, player: 24 + 4 }];
 
 /// An event record's numbers. Operation, asset and kind stay together as they are: the *request*.
 struct Event {
@@ -81,6 +90,10 @@ impl Fields<'_> {
     fn u32(&mut self) -> u32 {
         self.number(4)
     }
+    /// A field that a later version added: 0 in an image that lacks it.
+    fn added(&mut self) -> u32 {
+        if self.0.is_empty() { 0 } else { self.u32() }
+    }
 }
 
 struct Asset {
@@ -107,6 +120,9 @@ struct Stored {
     first: u32,
     used_seconds: u32,
     started: u8,
+    tracked: u32,
+    timed_value: u32,
+    mark: u32,
 }
 
 struct StoredPlayer {
@@ -118,10 +134,12 @@ struct StoredPlayer {
     open_entry: u8,
     begin: u32,
     until: u32,
+    content: u32,
 }
 
 struct Image {
     time: u32,
+    switch: u32,
     assets: Vec<Asset>,
     entries: Vec<Stored>,
     players: Vec<StoredPlayer>,
@@ -152,6 +170,9 @@ fn entry_of(data: &[u8]) -> Stored {
         first: f.u32(),
         used_seconds: f.u32(),
         started: f.u8(),
+        tracked: f.added(),
+        timed_value: f.added(),
+        mark: f.added(),
     }
 }
 
@@ -166,6 +187,7 @@ fn player_of(data: &[u8]) -> StoredPlayer {
         open_entry: f.u8(),
         begin: f.u32(),
         until: f.u32(),
+        content: f.added(),
     }
 }
 
@@ -178,23 +200,24 @@ fn read_image(data: &[u8]) -> Result<Image, u8> {
         return Err(21);
     }
     let mut f = Fields(&data[3..]);
-    if f.u16() != 1 {
+    let Some(widths) = VERSIONS.get((f.u16() as usize).wrapping_sub(1)) else {
         return Err(22);
-    }
+    };
     let (assets, entries, time) = (f.u8() as usize, f.u8() as usize, f.u32());
     if assets > MOST || entries > MOST || time > LATEST {
         return Err(23);
     }
-    let entries_at = HEADER + ASSET * assets;
-    let players_at = entries_at + ENTRY * entries;
-    if data.len() != players_at + PLAYER * PLAYERS {
+    let entries_at = widths.header + ASSET * assets;
+    let players_at = entries_at + widths.entry * entries;
+    if data.len() != players_at + widths.player * PLAYERS {
         return Err(20);
     }
     let image = Image {
         time,
-        assets: data[HEADER..entries_at].chunks(ASSET).map(asset_of).collect(),
-        entries: data[entries_at..players_at].chunks(ENTRY).map(entry_of).collect(),
-        players: data[players_at..].chunks(PLAYER).map(player_of).collect(),
+        switch: Fields(&data[HEADER..widths.header]).added(),
+        assets: data[widths.header..entries_at].chunks(ASSET).map(asset_of).collect(),
+        entries: data[entries_at..players_at].chunks(widths.entry).map(entry_of).collect(),
+        players: data[players_at..].chunks(widths.player).map(player_of).collect(),
     };
     match image.refusal() {
         Some(number) => Err(number),
@@ -206,7 +229,7 @@ const LINE: usize = 16; // the longest line, `0 63 4294967295` and its end
 
 /// Writes lines into a buffer. The digits before the last four seldom change from one until to the next and are kept.
 struct Lines {
-    refusals: [[u8; LINE]; 16],
+    refusals: [[u8; LINE]; 64],
     grants: [([u8; LINE], usize); 256],
     upper: u32,
     upper_digits: [u8; 8],
@@ -234,7 +257,7 @@ impl Lines {
     #[inline(always)]
     fn put(&mut self, out: &mut [u8; 2 * LINE], answer: Answer) -> usize {
         if answer.code != 0 {
-            let code = answer.code as usize % 16;
+            let code = answer.code as usize % 64;
             out[..LINE].copy_from_slice(&self.refusals[code]);
             return 8 + (code >= 10) as usize;
         }
@@ -291,7 +314,7 @@ impl Image {
             Some(24)
         } else if !self.entries.iter().all(|entry| self.entry_is_good(entry)) {
             Some(25)
-        } else if !self.players.iter().all(|player| self.player_is_good(player)) {
+        } else if self.switch > 1 || !self.players.iter().all(|player| self.player_is_good(player)) {
             Some(26)
         } else if !(0..self.entries.len()).all(|position| self.meters_are_good(position)) {
             Some(27)
@@ -322,6 +345,9 @@ impl Image {
             && limits.iter().all(|&(flag, limit, least, greatest)| within(entry.has(flag), limit, least, greatest))
             && !(entry.has(START) && entry.has(END) && entry.start > entry.end)
             && !(is_momentary(entry.kind) && (entry.has(ACCUMULATED) || entry.timer != 0))
+            && entry.tracked <= 1
+            && entry.mark <= entry.tracked
+            && (entry.tracked == 1 || entry.timed_value == 0)
     }
 
     fn player_is_good(&self, player: &StoredPlayer) -> bool {
@@ -331,11 +357,11 @@ impl Image {
         let answer = player.answer;
         let answered = match answer.code {
             0 => (answer.entry as usize) < self.entries.len(),
-            10..=15 => answer.entry == 255 && answer.until == 0,
+            10..=15 | 43 => answer.entry == 255 && answer.until == 0,
             _ => false,
         };
         let use_is_good = match player.open {
-            0 => player.open_entry == 0 && player.begin == 0 && player.until == 0,
+            0 => player.open_entry == 0 && player.begin == 0 && player.until == 0 && player.content == 0,
             1 => self.open_use_is_good(player),
             _ => false,
         };
@@ -355,6 +381,12 @@ impl Image {
             && !(entry.has(END) && until > entry.end + 1)
             && (!entry.has(INTERVAL)
                 || (entry.started == 1 && entry.first <= begin && until as u64 <= entry.first as u64 + entry.interval as u64))
+            && (self.position_of(player.content).is_some() || (player.content == 0 && entry.tracked == 0))
+    }
+
+    /// Where this asset stands in the book.
+    fn position_of(&self, number: u32) -> Option<usize> {
+        self.assets.iter().position(|asset| asset.number as u32 == number)
     }
 
     fn meters_are_good(&self, position: usize) -> bool {
@@ -386,6 +418,11 @@ impl Stored {
         let limits =
             [(COUNT, self.count), (TIMED, self.timed), (INTERVAL, self.interval), (ACCUMULATED, self.accumulated)];
         limits.iter().any(|&(flag, limit)| self.has(flag) && limit == 0)
+    }
+
+    /// Whether the switch alone keeps it from being granted, all day long: no event changes the switch.
+    fn is_switched_off(&self, switch: u32) -> bool {
+        switch == 0 && self.tracked == 1 && self.mark == 0
     }
 }
 
@@ -445,9 +482,11 @@ struct Entry {
     accumulated: u32,
     timer: u32,
     interval: u32,
+    timed_value: u32,
     asset: u16,
     flags: u8,
     kind: u8,
+    recorded: bool, // tracked, and the switch is on
 }
 
 impl Entry {
@@ -463,12 +502,14 @@ impl Entry {
         accumulated: 0,
         timer: 0,
         interval: 0,
+        timed_value: 0,
         asset: 0,
         flags: 0,
         kind: 1,
+        recorded: false,
     };
 
-    fn new(from: &Stored) -> Entry {
+    fn new(from: &Stored, switch: u32) -> Entry {
         let or = |flag: u8, limit: u32, without: u32| if from.has(flag) { limit } else { without };
         Entry {
             used_count: from.used_count,
@@ -482,9 +523,11 @@ impl Entry {
             accumulated: or(ACCUMULATED, from.accumulated, NEVER),
             timer: from.timer,
             interval: from.interval,
+            timed_value: from.timed_value,
             asset: from.asset,
             flags: from.flags,
             kind: from.kind,
+            recorded: switch == 1 && from.tracked == 1,
         }
     }
 
@@ -549,15 +592,18 @@ struct Player {
     request: u32,
     answer: Answer,
     open_entry: u8,
+    content: u8, // the position of the asset that it shows; 255 for none, where nothing is recorded
     begin: u32,
     until: u32,
 }
 
-/// The suitable entries of one asset and kind that can still be granted, in the order of the choice.
+/// The suitable entries of one asset and kind that can still be granted, in the order of the choice; behind them, from the end of the
+/// table on, those that are switched off.
 #[derive(Clone, Copy)]
 struct Candidates {
-    suits: bool, // whether there ever was one: 13 if so, otherwise 12
+    suits: bool, // whether there ever was one: 13 or 43 if so, otherwise 12
     len: u8,
+    off: u8,
     positions: [u8; MOST],
 }
 
@@ -565,6 +611,17 @@ impl Candidates {
     fn list(&self) -> &[u8] {
         &self.positions[..self.len as usize]
     }
+
+    fn switched_off(&self) -> &[u8] {
+        &self.positions[MOST - self.off as usize..]
+    }
+}
+
+/// A line of the usage report; its content is the asset at its position.
+#[derive(Clone, Copy)]
+struct Line {
+    times: u64,
+    seconds: u64,
 }
 
 struct Server {
@@ -573,6 +630,7 @@ struct Server {
     open: u16,     // one bit for each player with a use open
     players: [Player; PLAYERS],
     entries: [Entry; MOST],
+    report: [Line; MOST],
     candidates: Vec<Candidates>, // of asset i and kind k at KINDS * i + k - 1
     usable: Vec<u8>,             // the asset's position by its number, 255 for none or no key
     numbers: Vec<u16>,           // of the assets
@@ -585,11 +643,13 @@ impl Server {
             next_end: NEVER,
             open: 0,
             players: std::array::from_fn(|p| {
-                let StoredPlayer { number, request, answer, open_entry, begin, until, .. } = image.players[p];
-                Player { number, request, answer, open_entry, begin, until }
+                let StoredPlayer { number, request, answer, open_entry, begin, until, content, .. } = image.players[p];
+                let content = image.position_of(content).map_or(255, |position| position as u8);
+                Player { number, request, answer, open_entry, content, begin, until }
             }),
-            entries: std::array::from_fn(|i| image.entries.get(i).map_or(Entry::BLANK, Entry::new)),
-            candidates: vec![Candidates { suits: false, len: 0, positions: [0; MOST] }; KINDS * image.assets.len()],
+            entries: std::array::from_fn(|i| image.entries.get(i).map_or(Entry::BLANK, |entry| Entry::new(entry, image.switch))),
+            report: [Line { times: 0, seconds: 0 }; MOST],
+            candidates: vec![Candidates { suits: false, len: 0, off: 0, positions: [0; MOST] }; KINDS * image.assets.len()],
             usable: vec![255; 1 << 16],
             numbers: image.assets.iter().map(|asset| asset.number).collect(),
         };
@@ -604,7 +664,13 @@ impl Server {
                 if entry.asset == asset.number || entry.asset == parent {
                     let to = &mut server.candidates[KINDS * i + entry.kind as usize - 1];
                     to.suits = true;
-                    if !entry.is_never_grantable() {
+                    if entry.is_never_grantable() {
+                        continue;
+                    }
+                    if entry.is_switched_off(image.switch) {
+                        to.off += 1;
+                        to.positions[MOST - to.off as usize] = position as u8;
+                    } else {
                         to.positions[to.len as usize] = position as u8;
                         to.len += 1;
                     }
@@ -700,8 +766,25 @@ impl Server {
     #[inline(always)]
     fn close(&mut self, p: usize, end: u32) {
         let player = &self.players[p];
-        self.entries[player.open_entry as usize % MOST].end(end - player.begin);
+        let entry = &mut self.entries[player.open_entry as usize % MOST];
+        let ran = end - player.begin;
+        entry.end(ran);
+        if entry.recorded {
+            let line = &mut self.report[player.content as usize % MOST];
+            line.seconds += ran as u64;
+            line.times += (ran >= entry.timed_value) as u64;
+        }
         self.open &= !(1 << p);
+    }
+
+    /// 12, 13 or 43: nothing could be granted at t.
+    #[inline(never)]
+    fn none_grantable(&mut self, which: usize, t: u32) -> Answer {
+        let candidates = &self.candidates[which];
+        let suits = candidates.suits;
+        let for_switch = candidates.switched_off().iter().any(|&position| self.entries[position as usize % MOST].is_grantable(t));
+        self.passed_over(which, t);
+        refused(if for_switch { 43 } else if suits { 13 } else { 12 })
     }
 
     #[inline(always)]
@@ -715,9 +798,7 @@ impl Server {
         let candidates = &self.candidates[which];
         let at = candidates.list().iter().position(|&position| self.entries[position as usize % MOST].is_grantable(t));
         let Some(at) = at else {
-            let suits = candidates.suits;
-            self.passed_over(which, t);
-            return refused(if suits { 13 } else { 12 });
+            return self.none_grantable(which, t);
         };
         let position = candidates.positions[at % MOST];
         if at != 0 {
@@ -731,10 +812,13 @@ impl Server {
             entry.add_seconds(until - t);
             let player = &mut self.players[p];
             player.open_entry = position;
+            player.content = i;
             player.begin = t;
             player.until = until;
             self.open |= 1 << p;
             self.next_end = self.next_end.min(until);
+        } else if entry.recorded {
+            self.report[i as usize % MOST].times += (entry.timed_value == 0) as u64;
         }
         if starts {
             self.interval_started(position);
@@ -799,6 +883,7 @@ fn main() -> io::Result<()> {
         }
         output.write_all(&text[..len])?;
         if got == 0 {
+            std::hint::black_box(&server.report); // kept, though nobody asks for it here
             return Ok(());
         }
         block.copy_within(end - rest..end, 0);

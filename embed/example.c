@@ -135,8 +135,12 @@ int main(int count, char **words)
     size_t room = RIGHTS_ROOM(records_length);
     uint8_t *out = allocate(room);
     uint64_t image_length = book_length, written = 0;
+    struct rights_line lines[RIGHTS_LINES]; /* the usage of this file's events: a server keeps it, and bills from it */
+    size_t line_count;
 
-    uint8_t code = rights_answer(image, image_room, &image_length, records, records_length, out, room, &written);
+    uint8_t code = rights_zeros(image, book_length, lines, &line_count);
+    if (code == RIGHTS_OK)
+        code = rights_answer(image, image_room, &image_length, records, records_length, out, room, &written, lines, line_count);
     if (code != RIGHTS_OK) {
         fprintf(stderr, "example: %s: the image is refused: %d\n", words[1], code);
         return 1;

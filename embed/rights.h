@@ -2,7 +2,8 @@
  *
  * The library keeps no state between calls. The book is passed as its image, the bytes of rights.rbk: the caller keeps them,
  * lends them for the length of a call, and saves them when it likes. The calls that answer put the next image in place of the
- * one before; a later library may write one that is longer, so the buffer's room is passed apart from the image's length.
+ * one before. It may be longer, if that was written by an older server, so the buffer's room is passed apart from the image's length.
+ * They are lent the list of lines of the usage report too, which the caller keeps, hands on from call to call, and bills from.
  * What the functions return and leave in the buffers is proved for every input; this header is not checked against that
  * proof, so it changes only with crates/embed/src/lib.rt. docs/EMBEDDING.md shows how to use it, docs/FORMAT.md has the
  * bytes of records and images.
@@ -31,7 +32,7 @@ enum {
     RIGHTS_OK = 0,
     RIGHTS_IMAGE_LENGTH = 20,  /* the image is too short, its length is not what its header says, or it is more than the room */
     RIGHTS_IMAGE_MARK = 21,    /* it does not begin with RBK */
-    RIGHTS_IMAGE_VERSION = 22, /* its version is not 1 */
+    RIGHTS_IMAGE_VERSION = 22, /* its version is not 1 or 2 */
     RIGHTS_IMAGE_HEADER = 23,  /* more than 64 assets or entries, or a time that is too late */
     RIGHTS_IMAGE_ASSETS = 24,  /* a rule on assets is broken */
     RIGHTS_IMAGE_ENTRIES = 25, /* a rule on entries is broken */
@@ -54,13 +55,15 @@ enum {
     RIGHTS_NUMBER_USED = 4,    /* the player's last number, with another request */
     RIGHTS_BAD_TIME = 5,       /* before the book's time, or after 4,000,000,000 */
     RIGHTS_CUT_SHORT = 6,      /* fewer than 13 bytes */
+    RIGHTS_BAD_LIST = 30,      /* the list of lines that is lent is not good: judged before all else */
     /* taken and refused: the book has changed, and the number is used up */
     RIGHTS_NO_ASSET = 10,      /* the asset is not in the book, or has key 0 */
     RIGHTS_ALREADY_OPEN = 11,  /* a begin while the player has a use open */
     RIGHTS_NONE_SUITABLE = 12, /* no entry of that kind for the asset */
     RIGHTS_NONE_GRANTABLE = 13, /* there are some, but none can be used now */
     RIGHTS_NOTHING_OPEN = 14,  /* a continue or stop while nothing is open */
-    RIGHTS_NO_MORE_TIME = 15   /* a continue that would add no second */
+    RIGHTS_NO_MORE_TIME = 15,  /* a continue that would add no second */
+    RIGHTS_SWITCHED_OFF = 43   /* none can be used now, but one could with the book's switch on */
 };
 
 /* An event. */
@@ -81,10 +84,11 @@ enum {
     RIGHTS_RECORD = 13,          /* bytes of an event record */
     RIGHTS_LINE = 19,            /* the longest line of an answer, including its line feed */
     RIGHTS_NO_ENTRY = 255,       /* the entry in an answer that is no grant */
-    RIGHTS_LONGEST_IMAGE = 3979, /* bytes of an image with 64 assets and 64 entries: room for any next image */
+    RIGHTS_LONGEST_IMAGE = 4815, /* bytes of an image with 64 assets and 64 entries: room for any next image */
+    RIGHTS_LINES = 64,           /* the most lines of a list */
     RIGHTS_PLAYERS = 16,
-    RIGHTS_STACK = 262144,       /* bytes of stack that are enough for any call but rights_from_xml (docs/EMBEDDING.md) */
-    RIGHTS_XML_STACK = 2097152   /* bytes of stack that are enough for rights_from_xml, whatever the text */
+    RIGHTS_STACK = 524288,       /* bytes of stack that are enough for any call but rights_from_xml (docs/EMBEDDING.md) */
+    RIGHTS_XML_STACK = 3145728   /* bytes of stack that are enough for rights_from_xml, whatever the text */
 };
 
 /* An event record, big-endian, at these offsets. */
@@ -100,6 +104,19 @@ enum {
 /* The bytes that out needs for that many bytes of records. A last record that is cut short counts as one. */
 #define RIGHTS_ROOM(records_length) (((size_t)(records_length) + RIGHTS_RECORD - 1) / RIGHTS_RECORD * RIGHTS_LINE)
 
+/* A line of the usage report: how often and for how many seconds a content, the number of an asset, was used.
+ *
+ * The calls that answer are lent a list of lines. It is good if it has at least as many lines as the book has assets and at most
+ * RIGHTS_LINES, its first lines name the book's assets in their order, and every number in it is below 2 to the 62. An event with
+ * another list is answered 30 255 0 and changes nothing. With a good list, when a use of a tracked entry ends and the book's switch is
+ * on, the line of its content gains the seconds of the use, and a time if they are at least the entry's timed value. rights_zeros, at
+ * the end, makes the list to begin with. */
+struct rights_line {
+    uint64_t content;
+    uint64_t times;
+    uint64_t seconds;
+};
+
 /* Whether the bytes are the image of a legal book: 0, or 20 to 27. The image is only read. */
 uint8_t rights_check(const uint8_t *image, size_t image_length);
 
@@ -112,28 +129,33 @@ uint8_t rights_check(const uint8_t *image, size_t image_length);
  * out           out: a line "code entry until" for each record, with a line feed and no 0 at the end. Bytes after the
  *               text are unchanged.
  * written       out: the length of the text.
+ * report        the list of report_length lines. In: what the first record is lent. Out: what the last record left; each is lent what
+ *               the one before it left.
  *
  * Returns 0, or 20 to 27 if the image is refused (20 too if *image_length is above image_room), or 30 if out is shorter than
  * RIGHTS_ROOM(records_length) or image_room is less than the next image needs. RIGHTS_LONGEST_IMAGE bytes are always enough. */
 uint8_t rights_answer(uint8_t *image, size_t image_room, uint64_t *image_length,
                       const uint8_t *records, size_t records_length,
                       uint8_t *out, size_t out_length,
-                      uint64_t *written);
+                      uint64_t *written,
+                      struct rights_line *report, size_t report_length);
 
 /* Answers one event, given and answered as numbers. It does the same step as rights_answer for the record of these
- * numbers: the same next image, and the numbers that its line would have.
+ * numbers: the same next image and list, and the numbers that its line would have.
  *
  * image, image_length  the buffer and the image's length, as for rights_answer.
  * player .. time       the event: operation RIGHTS_BEGIN, asset and kind as asked; or RIGHTS_CONTINUE or RIGHTS_STOP
  *                      with asset 0 and kind 0. Time is in seconds since 1970-01-01 UTC.
  * code, entry, until   out: the answer. A code other than 0 comes with entry 255 and until 0.
+ * report               the list of lines, as for rights_answer.
  *
  * Returns 0 if the event was answered, whatever the answer, or 20 to 27 if the image is refused (20 too if *image_length is
  * above image_room), or 30 if image_room is less than the next image needs. */
 uint8_t rights_answer_one(uint8_t *image, size_t image_room, uint64_t *image_length,
                           uint8_t player, uint32_t number, uint8_t operation,
                           uint16_t asset, uint8_t kind, uint32_t time,
-                          uint8_t *code, uint8_t *entry, uint32_t *until);
+                          uint8_t *code, uint8_t *entry, uint32_t *until,
+                          struct rights_line *report, size_t report_length);
 
 /* Puts the 13 bytes of the record that holds these numbers at the start of out, whether or not they make a legal event.
  * Returns 0, or 30 if out is shorter than RIGHTS_RECORD. */
@@ -161,8 +183,8 @@ uint8_t rights_from_xml(const uint8_t *text, size_t text_length,
  * or 20 to 27 if the image is refused, or 31 if the book has nothing at that position, or 30 if out has fewer
  * elements than the call has numbers. The image is only read. Later versions may add numbers at the end. */
 
-/* The book: how many assets and entries, and the time of the latest event taken. */
-enum { RIGHTS_BOOK_ASSETS, RIGHTS_BOOK_ENTRIES, RIGHTS_BOOK_TIME, RIGHTS_BOOK_NUMBERS };
+/* The book: how many assets and entries, the time of the latest event taken, and whether usage is recorded (1 or 0). */
+enum { RIGHTS_BOOK_ASSETS, RIGHTS_BOOK_ENTRIES, RIGHTS_BOOK_TIME, RIGHTS_BOOK_SWITCH, RIGHTS_BOOK_NUMBERS };
 
 uint8_t rights_book(const uint8_t *image, size_t image_length, uint32_t *out, size_t out_length);
 
@@ -191,6 +213,9 @@ enum {
     RIGHTS_ENTRY_FIRST,       /* when the interval started */
     RIGHTS_ENTRY_USED_SECONDS,
     RIGHTS_ENTRY_STARTED,     /* 1: the interval has started */
+    RIGHTS_ENTRY_TRACKED,     /* 1: its uses are recorded */
+    RIGHTS_ENTRY_TIMED_VALUE, /* a recorded use of at least so many seconds counts as a time */
+    RIGHTS_ENTRY_MARK,        /* 1: tracked, and granted with the switch off too */
     RIGHTS_ENTRY_NUMBERS
 };
 
@@ -198,7 +223,7 @@ uint8_t rights_entry(const uint8_t *image, size_t image_length, uint32_t positio
 
 /* What is left of the entry at a position, as an event at that time would find it: uses that are over by then have
  * ended, and any timed count that this gives back is back. A time before the book's counts as the book's, so 0 asks for
- * what is left in the image as it is. Grantable is 1 if the entry's own limits allow a grant at that time; whether
+ * what is left in the image as it is. Grantable is 1 if the entry's own limits and the book's switch allow a grant at that time; whether
  * an asset can use the entry is not judged. */
 enum {
     RIGHTS_LEFT_GRANTABLE,
@@ -226,6 +251,7 @@ enum {
     RIGHTS_GROUNDS_INTERVAL_OVER,
     RIGHTS_GROUNDS_SECONDS_SPENT,
     RIGHTS_GROUNDS_INTERVAL_ZERO, /* the interval is 0: never granted */
+    RIGHTS_GROUNDS_SWITCH_OFF,    /* the entry is tracked and has no mark, and the book's switch is off */
     RIGHTS_GROUNDS_NUMBERS
 };
 
@@ -245,10 +271,28 @@ enum {
     RIGHTS_PLAYER_OPEN_ENTRY,
     RIGHTS_PLAYER_OPEN_BEGIN,
     RIGHTS_PLAYER_OPEN_UNTIL,
+    RIGHTS_PLAYER_CONTENT,    /* the asset that the open use shows */
     RIGHTS_PLAYER_NUMBERS
 };
 
 uint8_t rights_player(const uint8_t *image, size_t image_length, uint32_t player, uint32_t *out, size_t out_length);
+
+/* The list to begin with: a line for each asset of the book in the image, in its order, with no times and no seconds. It is put at the
+ * start of lines, which has RIGHTS_LINES elements, and its length into count. Returns 0, or 20 to 27 if the image is refused. */
+static inline uint8_t rights_zeros(const uint8_t *image, size_t image_length, struct rights_line *lines, size_t *count)
+{
+    uint32_t book[RIGHTS_BOOK_NUMBERS], asset[RIGHTS_ASSET_NUMBERS];
+    uint8_t code = rights_book(image, image_length, book, RIGHTS_BOOK_NUMBERS);
+    if (code != RIGHTS_OK)
+        return code;
+    for (uint32_t i = 0; i < book[RIGHTS_BOOK_ASSETS]; i++) {
+        rights_asset(image, image_length, i, asset, RIGHTS_ASSET_NUMBERS);
+        lines[i].content = asset[RIGHTS_ASSET_NUMBER];
+        lines[i].times = lines[i].seconds = 0;
+    }
+    *count = book[RIGHTS_BOOK_ASSETS];
+    return RIGHTS_OK;
+}
 
 #ifdef __cplusplus
 }

@@ -1,5 +1,5 @@
 #!/bin/sh
-# Builds the static library, links C and Rust programs against it, and compares what they print with the stored days, images and
+# Builds the static library, links C and Rust programs against it, and compares what they print with the stored days, lists, images and
 # texts, the second program (oracle/rights.py) and the pages. Needs rt, a C compiler (CC, default cc), rustc and python3.
 # The last line is 'embed: N passed, 0 failed'.
 set -u
@@ -8,6 +8,7 @@ work=target/embed
 days=crates/test_days/data/days.bin
 images=crates/test_images/data/cases.bin
 texts=crates/test_texts/data/cases.bin
+lists=crates/test_lists/data/lists.bin
 afternoon=examples/afternoon
 passed=0 failed=0
 
@@ -75,7 +76,10 @@ for language in c rs; do
     holds "$language, texts" crates/test_texts/stdout with_stack $xml_stack_kb $calls texts $texts
 done
 
-# What is in an image, according to the second program.
+# The stored lists, and what is in an image, according to the second program.
+python3 embed/tests/seen.py lists $lists >$work/seen_lists || exit 1
+holds "c, lists" $work/seen_lists small $work/calls_c lists $lists
+holds "rs, lists" $work/seen_lists small $work/calls_rs lists $lists
 python3 embed/tests/seen.py seen $days >$work/seen_days || exit 1
 python3 embed/tests/seen.py seen-images $images >$work/seen_images || exit 1
 holds "c, what is in the books of the days" $work/seen_days small $work/calls_c seen $days
@@ -95,7 +99,7 @@ page=$work/page
 rm -rf $page && mkdir -p $page/empty && cp embed/rights.h embed/rust/rights.rs $lib $afternoon/rights.rbk $page || exit 2
 cp examples/rights/season.xml $page/rights.xml || exit 2
 printf '0 0 1060\n1 more\n' >$work/page_server
-printf '60 elements, a book of 568 bytes\n' >$work/page_from_xml
+printf '60 elements, a book of 672 bytes\n' >$work/page_from_xml
 # built PROGRAM FENCE FILE WHICH: the page's program of that name, the WHICH-th of its language
 built() {
     awk -v from="\`\`\`$2" -v which="$4" '$0 == from { on = ++n == which; next } /^```/ { on = 0 } on' docs/EMBEDDING.md >$page/$3

@@ -7,7 +7,8 @@ compete and players ask again. The same seed gives the same day on every machine
 
 writes the stored days, random ones and then those of written_days.py: `crates/test_days/data/days.bin`, for each day the length
 of its image in 32 bits, big-endian, the image, the length of its event bytes in 32 bits, and those bytes, to the end of the file;
-and `crates/test_days/stdout`, for each day a line `day N`, N from 1, and what the run program prints for it.
+and `crates/test_days/stdout`, for each day a line `day N`, N from 1, what the run program prints for it, and `used CONTENT TIMES
+SECONDS` for each line of its report that is no longer zeros.
 """
 
 import copy
@@ -22,6 +23,7 @@ from rights import (ACCUMULATED, BEGIN, CONTINUE, COUNT, END, INTERVAL, LAST_NUM
 STORED = Path(__file__).resolve().parent.parent / "crates" / "test_days"
 TOP = 4_294_967_295         # the greatest 32-bit number
 ZERO = 0.1                  # how many of the flagged counts, timed counts, intervals and accumulated are 0
+OLD = 0.2                   # how many of the images are of an older version
 
 
 # ---- Books
@@ -38,7 +40,18 @@ def fresh_book(rng, around):
         book.assets.append(Asset(9, 0, 0))
     for _ in range(rng.choice((0, 1, 2, 4, 6, 8, 8))):
         book.entries.append(fresh_entry(rng, rng.choice(book.assets).number, around))
+    track(rng, book)
     return book
+
+
+def track(rng, book):
+    """Switch, tracks and marks: on some days none or few of the entries are tracked, on some nearly all."""
+    book.switch = rng.choice((0, 1, 1))
+    share = rng.choice((0, 0.3, 0.7, 1))
+    for entry in book.entries:
+        if rng.random() < share:
+            entry.tracked, entry.mark = 1, rng.choice((0, 0, 1))
+            entry.timed_value = rng.choice((0, 0, 1, 2, 5, 20, 59, 60, 61, 90, 120, TOP))
 
 
 def limit(rng, number):
@@ -89,6 +102,7 @@ def wide_book(rng, around):
             entry.count = 1_000_000
         entry.object = rng.choice((1, 2, 65_535))
         book.entries.append(entry)
+    track(rng, book)
     return book
 
 
@@ -134,6 +148,7 @@ def subscription_book(rng, around):
         if entry.has(ACCUMULATED):
             entry.accumulated = limit(rng, rng.choice((100, 500, 3000)))
         book.entries.append(entry)
+    track(rng, book)
     return book
 
 
@@ -161,8 +176,10 @@ def make_old(rng, book):
 # ---- Events
 
 def edges(book, t):
-    """Times in the near future at which some rule's result changes: dates, ends of intervals, ends of open uses."""
+    """Times in the near future at which some rule's result changes: dates, ends of intervals, ends of open uses, timed values."""
     found = [player.until for player in book.players if player.open]
+    found += [player.begin + book.entries[player.open_entry].timed_value - less
+              for player in book.players if player.open for less in (0, 1)]
     for entry in book.entries:
         if entry.has(START):
             found += [entry.start - 1, entry.start]
@@ -270,7 +287,7 @@ def make_day(seed, length, kind=None, around=None):
         nothing_more(rng, book)
     if kind == "old":
         make_old(rng, book)
-    image = rights.write(book)
+    image, book = stored(rng, book)
     cabins = Cabins(rng, book) if kind == "cabins" else None
     records, lines = play(rng, book, around, cabins, length)
     if rng.random() < 0.3:
@@ -279,14 +296,22 @@ def make_day(seed, length, kind=None, around=None):
     return image, b"".join(records), "".join(lines)
 
 
+def stored(rng, book):
+    """An image of the book and the book that it is read as. An older version has lost what it has no field for."""
+    image = rights.write(book, 1 if rng.random() < OLD else rights.NEWEST)
+    code, book = rights.read(image)
+    assert code == 0
+    return image, book
+
+
 def play(rng, book, around, cabins, length):
-    records, lines = [], []
+    records, texts, report = [], [], rights.zeros(book)
     for _ in range(length):
         event = cabins.next_event(book, around) if cabins else next_event(rng, book, around)
         record = damaged(rng, rights.encode(event))
         records.append(record)
-        lines.append("%d %d %d\n" % rights.answer_record(book, record))
-    return records, lines
+        texts.append("%d %d %d\n" % rights.answer_record(book, record, report))
+    return records, texts
 
 
 def damaged_limit(rng, book):
@@ -297,9 +322,20 @@ def damaged_limit(rng, book):
     return rights.write(book)
 
 
+def damaged_track(rng, book):
+    """The image of the book with another switch, track or content, whether or not that meets the rules."""
+    entry, player = rng.choice(book.entries), rng.choice([each for each in book.players if each.open] or book.players)
+    thing, field = rng.choice(((book, "switch"), (entry, "tracked"), (entry, "timed_value"), (entry, "mark"), (player, "content")))
+    contents = [asset.number for asset in book.assets]
+    setattr(thing, field, rng.choice((0, 1, 2, 256, 65_536, 16_777_216, TOP, rng.choice(contents), rng.choice(contents))))
+    return rights.write(book)
+
+
 def damaged_bytes(rng, book):
     """The image of the book with a few bytes changed, cut off or added; None for a missing file."""
-    image = bytearray(rights.write(book))
+    image = bytearray(stored(rng, book)[0])
+    if rng.random() < 0.05:
+        image[4] = rng.choice((0, 1, 2, 3, 255))        # another version, the length as it was
     for _ in range(rng.randint(1, 2)):
         image[rng.randrange(len(image))] = rng.choice((0, 1, 2, 255, rng.randrange(256)))
     chance = rng.random()
@@ -317,7 +353,8 @@ def damaged_day(rng, around):
     book = fresh_book(rng, around)
     play(rng, book, around, None, rng.randint(1, 40))
     records, _ = play(rng, copy.deepcopy(book), around, None, 5)
-    image = (damaged_limit if book.entries and rng.random() < 0.3 else damaged_bytes)(rng, book)
+    damage = rng.choice((damaged_limit, damaged_track, damaged_bytes, damaged_bytes)) if book.entries else damaged_bytes
+    image = damage(rng, book)
     return image, b"".join(records), rights.run(image or b"", b"".join(records))
 
 
@@ -339,7 +376,8 @@ def main():
     data, text, events = b"", "", 0
     for number, (image, records, lines) in enumerate(stored_days(), 1):
         data += len(image).to_bytes(4, "big") + image + len(records).to_bytes(4, "big") + records
-        text += f"day {number}\n" + lines
+        text += f"day {number}\n" + lines + "".join(
+            f"used {line.content} {line.times} {line.seconds}\n" for line in rights.report_of(image, records) if line.times or line.seconds)
         events += lines.count(" ") // 2
     (STORED / "data").mkdir(parents=True, exist_ok=True)
     (STORED / "data" / "days.bin").write_bytes(data)

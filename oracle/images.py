@@ -1,15 +1,17 @@
 """Makes the stored image cases: python3 oracle/images.py
 
 Each case is a base book or its image with a few small edits, and the answer that documents 01 and 02 give, which is
-written here by hand. The reader of rights.py must agree with every one of them, or nothing is written. The script writes
+written here by hand. The reader of rights.py must agree with every one of them, or nothing is written. A case that speaks of no field
+that version 2 adds is made of both versions; an older image that is accepted is written back as the newest, widened with zeros. The
+script writes
 
   crates/test_images/data/cases.bin   for each case its length in 16 bits, big-endian, then its bytes, to the end of file
   crates/test_images/stdout           for each case one line: the number of a refusal, or 0, a space, and the bytes that
                                  the book read from it is written back as, in hexadecimal
   crates/bench_image/data/full.rbk  one image of the greatest size
-  oracle/images.txt              for each case its answer, its length, its name, its base and its edits
+  oracle/images.txt              for each case its answer, its length, its version, its name, its base and its edits
 
-Edits are words: `time N`; `asset I FIELD N`, `entry I FIELD N` and `player I FIELD N` set a field of a record;
+Edits are words: `time N`; `switch N`; `asset I FIELD N`, `entry I FIELD N` and `player I FIELD N` set a field of a record;
 `entry I limits ..` and `use ..` set several (see below); `drop asset I` removes an asset; `byte I N` and `length N`
 (cut, or padded with 0) change the image made so far.
 """
@@ -65,7 +67,7 @@ def printing():
 def showing():
     """The bare book with player 0 in the middle of a use, [90, 130)."""
     book = bare()
-    book.players[0] = Player(1, 1, 1, 1, 0, 0, 130, 1, 0, 90, 130)
+    book.players[0] = Player(1, 1, 1, 1, 0, 0, 130, 1, 0, 90, 130, 1)
     return book
 
 
@@ -86,10 +88,10 @@ def busy():
         Entry(2, 1, 4, 31, 5, 4, 0, 5_000, 20_000, 3_000, 0, 1, 1, 9_500, 0, 1),
         Entry(3, 2, 3)]
     book.players[0] = Player(3, 3, 0, 0, 0, 0, 9_990)
-    book.players[1] = Player(1, 1, 1, 1, 0, 0, 10_040, 1, 0, 9_980, 10_040)
-    book.players[2] = Player(7, 2, 0, 0, 0, 0, 10_050, 1, 0, 9_950, 10_050)
+    book.players[1] = Player(1, 1, 1, 1, 0, 0, 10_040, 1, 0, 9_980, 10_040, 1)
+    book.players[2] = Player(7, 2, 0, 0, 0, 0, 10_050, 1, 0, 9_950, 10_050, 2)
     book.players[3] = Player(2, 1, 7, 1, 10, 255, 0)
-    book.players[4] = Player(1, 1, 1, 2, 0, 1, 10_059, 1, 1, 9_999, 10_059)
+    book.players[4] = Player(1, 1, 1, 2, 0, 1, 10_059, 1, 1, 9_999, 10_059, 1)
     return book
 
 
@@ -104,7 +106,24 @@ def full():
     for i in range(16):
         begin = 3_999_999_990 + i % 10
         book.players[i] = Player(4_294_967_295 - i, 1, 1001, 1 + i % 3, 0, 63 - i, 4_000_000_001,
-                                 1, 63 - i, begin, 4_000_000_001)
+                                 1, 63 - i, begin, 4_000_000_001, 1001 + 2 * i)
+    return book
+
+
+def watching():
+    """The book `showing` with two more assets; its entry is tracked and the switch is on."""
+    book = showing()
+    book.assets += [Asset(9, 0, 0), Asset(300, 9, 0)]
+    book.switch, book.entries[0].tracked, book.entries[0].timed_value = 1, 1, 30
+    return book
+
+
+def full_and_tracked():
+    """The book `full` with every added field as great as may be."""
+    book = full()
+    book.switch = 1
+    for entry in book.entries:
+        entry.tracked, entry.timed_value, entry.mark = 1, 4_294_967_295, 1
     return book
 
 
@@ -113,18 +132,28 @@ def full():
 ENTRY_LIMITS = ("count", "timed", "timer", "start", "end", "interval", "accumulated")
 
 
-def image(base, edits):
+def image(version, base, edits):
     """The image of a base book after its edits; edits of bytes come last."""
     book, data = base(), None
     for edit in filter(None, (part.strip() for part in edits.split(";"))):
         word, *rest = edit.split()
         if word in ("byte", "length"):
-            data = rights.write(book) if data is None else data
+            data = rights.write(book, version) if data is None else data
             data = edited_bytes(data, word, [int(n) for n in rest])
         else:
             assert data is None, "edits of bytes come last"
             edit_book(book, word, rest)
-    return rights.write(book) if data is None else data
+    return rights.write(book, version) if data is None else data
+
+
+def widened(data):
+    """An image of version 1 as one of version 2, without a look at the book: the added fields are 0."""
+    assets, entries, at, parts = data[5], data[6], 11, []
+    for how_many, size, more in ((assets, 5, 0), (entries, 51, 12), (16, 24, 4)):
+        for _ in range(how_many):
+            parts.append(data[at:at + size] + bytes(more))
+            at += size
+    return data[:4] + b"\2" + data[5:11] + bytes(4) + b"".join(parts)
 
 
 def edited_bytes(data, word, numbers):
@@ -136,8 +165,9 @@ def edited_bytes(data, word, numbers):
 
 
 def edit_book(book, word, rest):
-    if word == "time":
-        book.time = int(rest[0])
+    if word in ("time", "switch"):
+        assert getattr(book, word) != int(rest[0]), f"{word} {rest}: an edit changes something"
+        setattr(book, word, int(rest[0]))
         return
     if word == "drop":
         del book.assets[int(rest[1])]
@@ -158,13 +188,14 @@ def edit_book(book, word, rest):
     setattr(record, name, values[0])
 
 
-# ---- The cases: answer, name, base, edits; GROUPS below has all of them
+# ---- The cases: answer, name, version, base, edits; GROUPS below has all of them
 
 CASES = []
+BOTH, NEWEST = (2, 1), (2,)
 
 
-def case(answer, name, base, edits=""):
-    CASES.append((answer, name, base, edits))
+def case(answer, name, base, edits="", versions=BOTH):
+    CASES.extend((answer, name, version, base, edits) for version in versions)
 
 
 def good_books():
@@ -179,18 +210,23 @@ def good_books():
     case(0, "64 assets, 64 entries, 16 open uses", full)
 
 
+# The length of an image of `empty`, of `busy` and of the greatest size; with 65 assets alone, with 65 entries alone.
+SIZES = {1: (395, 619, 3979, 720, 3710), 2: (463, 735, 4815, 788, 4558)}
+
+
 def header():
-    for length in (0, 1, 10):
-        case(20, f"{length} bytes", empty, f"length {length}")
-    case(20, "the header alone", empty, "length 11")
-    case(20, "the header alone, with counts", busy, "length 11")
-    for base in (empty, busy):
-        size = len(rights.write(base()))
-        case(20, f"{base.__name__}, one byte short", base, f"length {size - 1}")
-        case(20, f"{base.__name__}, one byte long", base, f"length {size + 1}")
-        case(20, f"{base.__name__}, 10,000 bytes", base, "length 10000")
-    case(20, "the greatest image, one byte long", full, "length 3980")
-    case(20, "the greatest image, one byte short", full, "length 3978")
+    for length in (0, 1):
+        case(20, f"{length} bytes", empty, f"length {length}", NEWEST)
+    case(20, "10 bytes", empty, "length 10")
+    case(20, "the header's first 11 bytes alone", empty, "length 11")
+    case(20, "the header's first 11 bytes alone, with counts", busy, "length 11")
+    case(20, "the header alone", empty, "length 15", NEWEST)
+    for version, (least, middle, most, _, _) in SIZES.items():
+        for base, size in ((empty, least), (busy, middle), (full, most)):
+            case(20, f"{base.__name__}, one byte short", base, f"length {size - 1}", (version,))
+            case(20, f"{base.__name__}, one byte long", base, f"length {size + 1}", (version,))
+            case(20, f"{base.__name__}, 10,000 bytes", base, "length 10000", (version,))
+            case(20, f"{base.__name__}, the length of the other version", base, f"byte 4 {3 - version}", (version,))
     case(20, "an asset too few for its count", bare, "byte 5 2")
     case(20, "an asset too many for its count", bare, "byte 5 0")
     case(20, "an entry too few for its count", bare, "byte 6 2")
@@ -201,12 +237,15 @@ def header():
     case(21, "mark of an image of 11 bytes", empty, "byte 0 0; length 11")
     case(21, "mark of 10,000 bytes", empty, "byte 2 0; length 10000")
     case(22, "version 0", empty, "byte 4 0")
-    case(22, "version 2", empty, "byte 4 2")
-    case(22, "version 257", empty, "byte 3 1")
+    case(22, "version 3", empty, "byte 4 3")
+    case(22, "version 255", empty, "byte 4 255")
+    case(22, "version 257 or 258", empty, "byte 3 1")
     case(22, "version 256", empty, "byte 3 1; byte 4 0")
+    case(22, "version 512", empty, "byte 3 2; byte 4 0", NEWEST)
     case(23, "65 assets, header alone", empty, "byte 5 65; length 11")
-    case(23, "65 assets, of the fitting length", empty, "byte 5 65; length 720")
-    case(23, "65 entries, of the fitting length", empty, "byte 6 65; length 3710")
+    for version, (_, _, _, many_assets, many_entries) in SIZES.items():
+        case(23, "65 assets, of the fitting length", empty, f"byte 5 65; length {many_assets}", (version,))
+        case(23, "65 entries, of the fitting length", empty, f"byte 6 65; length {many_entries}", (version,))
     case(23, "255 assets", empty, "byte 5 255")
     case(23, "255 entries", empty, "byte 6 255")
     case(23, "time 4,000,000,001", empty, "time 4000000001")
@@ -375,10 +414,12 @@ def players():
     case(26, "kind in a stop", busy, "player 0 kind 1")
     case(0, "begin for asset 0", busy, "player 3 asset 0")
     case(0, "begin for asset 65,535", busy, "player 3 asset 65535")
-    for code in (1, 6, 9, 16, 255):
+    for code in (1, 6, 9, 16, 30, 42, 44, 255):
         case(26, f"code {code}", busy, f"player 3 code {code}")
-    for code in (11, 12, 13, 14, 15):
+    for code in (11, 12, 13, 14, 15, 43):
         case(0, f"code {code}", busy, f"player 3 code {code}")
+    case(26, "code 43 with entry 0", busy, "player 3 code 43; player 3 entry 0")
+    case(26, "code 43 with until 1", busy, "player 3 code 43; player 3 answer_until 1")
     case(0, "granted entry is the last position", busy, "player 0 entry 3")
     case(26, "granted entry one past the last", busy, "player 0 entry 4")
     case(26, "granted entry 255", busy, "player 0 entry 255")
@@ -548,7 +589,100 @@ def two_stages():
          "time 4000000001; asset 0 number 0; entry 0 object 0; player 0 operation 0; entry 0 used_count 6; byte 0 0; byte 4 0")
 
 
-GROUPS = [good_books, header, assets, entries, limits_of_zero, players, meters, two_stages]
+# Order 3 of document 02: switch, tracks and contents; numbers that are not 0 and 1, some with a last byte that is.
+ABOVE = (2, 3, 255, 256, 257, 65_536, 65_537, 16_777_216, 16_777_217, 2_147_483_648, 4_294_967_295)
+
+
+def switches():
+    for base in (empty, bare, busy, full):
+        case(0, f"{base.__name__}, switch 1", base, "switch 1", NEWEST)
+    for number in ABOVE:
+        case(26, f"switch {number}", bare, f"switch {number}", NEWEST)
+    case(26, "switch 2, no assets and no entries", empty, "switch 2", NEWEST)
+    case(26, "switch 2 where it was on", watching, "switch 2", NEWEST)
+
+
+def tracks():
+    on = "entry 0 tracked 1"
+    for switch in ("", "switch 1; "):
+        told = "switch on" if switch else "switch off"
+        case(0, f"tracked, {told}", bare, switch + on, NEWEST)
+        case(0, f"tracked with a mark, {told}", bare, switch + on + "; entry 0 mark 1", NEWEST)
+        for value in (1, 60, 4_294_967_295):
+            case(0, f"tracked, timed value {value}, {told}", bare, switch + on + f"; entry 0 timed_value {value}", NEWEST)
+            case(25, f"untracked, timed value {value}, {told}", bare, switch + f"entry 0 timed_value {value}", NEWEST)
+        case(0, f"tracked, timed value and mark, {told}", bare, switch + on + "; entry 0 timed_value 30; entry 0 mark 1", NEWEST)
+        case(25, f"untracked with a mark, {told}", bare, switch + "entry 0 mark 1", NEWEST)
+        case(25, f"untracked, timed value and mark, {told}", bare, switch + "entry 0 timed_value 30; entry 0 mark 1", NEWEST)
+        for number in ABOVE:
+            case(25, f"tracked {number}, {told}", bare, switch + f"entry 0 tracked {number}", NEWEST)
+            case(25, f"tracked {number} with a mark, {told}", bare, switch + f"entry 0 tracked {number}; entry 0 mark 1", NEWEST)
+            case(25, f"mark {number}, {told}", bare, switch + on + f"; entry 0 mark {number}", NEWEST)
+    for kind in (2, 3, 4, 5):
+        case(0, f"tracked, kind {kind}", bare, f"entry 0 kind {kind}; " + on + "; entry 0 timed_value 7", NEWEST)
+        case(25, f"untracked, timed value 7, kind {kind}", bare, f"entry 0 kind {kind}; entry 0 timed_value 7", NEWEST)
+    case(0, "tracked, every flag", limited, on + "; entry 0 timed_value 200", NEWEST)
+    case(25, "tracked, and a limit without its flag", bare, on + "; entry 0 count 1", NEWEST)
+    case(0, "tracked, every limit 0", bare, on + "; entry 0 flags 63", NEWEST)
+    case(0, "the second entry tracked", crowded, "entry 1 tracked 1; entry 1 mark 1", NEWEST)
+    case(25, "the second entry untracked with a mark, the first tracked", crowded, on + "; entry 1 mark 1", NEWEST)
+    case(25, "the second entry untracked with a timed value, the first tracked", crowded, on + "; entry 1 timed_value 1", NEWEST)
+    case(0, "64 tracked entries, 16 open uses", full_and_tracked, "", NEWEST)
+    case(25, "mark 2 in the last of 64 entries", full_and_tracked, "entry 63 mark 2", NEWEST)
+    case(25, "the last of 64 entries untracked, the rest of its track left", full_and_tracked, "entry 63 tracked 0", NEWEST)
+
+
+def kept_contents():
+    case(0, "a tracked entry open", watching, "", NEWEST)
+    case(0, "a tracked entry open, switch off", watching, "switch 0", NEWEST)
+    case(26, "tracked, content 0", watching, "player 0 content 0", NEWEST)
+    case(26, "tracked, content 0, switch off", watching, "player 0 content 0; switch 0", NEWEST)
+    case(26, "tracked, content 0, mark 1", watching, "player 0 content 0; entry 0 mark 1", NEWEST)
+    untracked = "entry 0 tracked 0; entry 0 timed_value 0"
+    case(0, "untracked, content 0", watching, untracked + "; player 0 content 0", NEWEST)
+    case(0, "untracked, content 0, switch off", watching, untracked + "; player 0 content 0; switch 0", NEWEST)
+    case(0, "untracked, with its content", watching, untracked, NEWEST)
+    for name, edits in (("tracked", ""), ("untracked", untracked + "; ")):
+        case(0, f"{name}, the content a parent", watching, edits + "player 0 content 9", NEWEST)
+        case(0, f"{name}, the content illegal", watching, edits + "player 0 content 300", NEWEST)
+        for content in (2, 8, 10, 256, 257, 44, 556, 65_535, 65_537, 65_836, 16_777_217, 4_294_967_295):
+            case(26, f"{name}, content {content}, not in the book", watching, edits + f"player 0 content {content}", NEWEST)
+    case(0, "content other than in the stored request", busy, "player 1 content 2", NEWEST)
+    case(0, "content that the entry does not suit", busy, "player 4 content 7", NEWEST)
+    for player in (0, 3):
+        for content in (1, 8, 4_294_967_295):
+            case(26, f"player {player} has nothing open, content {content}", busy, f"player {player} content {content}", NEWEST)
+    for content in (1, 16_777_216):
+        case(26, f"number 0 and content {content}", busy, f"player 5 content {content}", NEWEST)
+    case(26, "the last player's content not in the book", full_and_tracked, "player 15 content 999", NEWEST)
+    case(26, "the last player's content 0", full_and_tracked, "player 15 content 0", NEWEST)
+    case(0, "the last player's content the last asset", full_and_tracked, "player 15 content 1063", NEWEST)
+    case(0, "two contents under one entry", watching, "use 9 0 95 140; player 9 content 9", NEWEST)
+    case(26, "one of two open uses without content", watching, "use 9 0 95 140", NEWEST)
+    case(26, "a tracked entry open beside an untracked one, that one's content there, the other's 0", busy,
+         "entry 1 tracked 1; player 4 content 0", NEWEST)
+    case(0, "a tracked entry open beside an untracked one without content", busy,
+         "entry 1 tracked 1; player 1 content 0; player 2 content 0", NEWEST)
+
+
+def added_fields_in_stages():
+    """The number of an added field against others."""
+    case(20, "switch and length", bare, "switch 2; length 530", NEWEST)
+    case(23, "switch and time", bare, "switch 2; time 4000000001", NEWEST)
+    case(24, "asset and track", bare, "asset 0 key 2; entry 0 mark 1", NEWEST)
+    case(24, "asset and switch", bare, "asset 0 key 2; switch 2", NEWEST)
+    case(25, "track and switch", bare, "entry 0 mark 1; switch 2", NEWEST)
+    case(25, "track and content", showing, "entry 0 mark 1; player 0 content 2", NEWEST)
+    case(25, "track and meter", limited, "entry 0 mark 1; entry 0 used_count 11", NEWEST)
+    case(25, "object and switch", bare, "entry 0 object 0; switch 2", NEWEST)
+    case(26, "switch and meter", limited, "switch 2; entry 0 used_count 11", NEWEST)
+    case(26, "content and meter", showing, "player 0 content 2; entry 0 used_count 1", NEWEST)
+    case(26, "content 0 of a tracked entry and meter", showing, "entry 0 tracked 1; player 0 content 0; entry 0 used_count 1", NEWEST)
+    case(26, "switch and player", busy, "switch 2; player 0 operation 0", NEWEST)
+
+
+GROUPS = [good_books, header, assets, entries, limits_of_zero, players, meters, two_stages, switches, tracks, kept_contents,
+          added_fields_in_stages]
 
 
 def cases():
@@ -560,30 +694,32 @@ def cases():
 
 def answers():
     """(answer, image) of every case."""
-    return ((answer, image(base, edits)) for answer, _, base, edits in cases())
+    return ((answer, image(version, base, edits)) for answer, _, version, base, edits in cases())
 
 
 def main():
     data, lines, listing, seen = b"", [], [], set()
-    for number, (answer, name, base, edits) in enumerate(cases(), 1):
-        bytes_in = image(base, edits)
+    for number, (answer, name, version, base, edits) in enumerate(cases(), 1):
+        bytes_in = image(version, base, edits)
         assert bytes_in not in seen, f"case {number} ({name}) is there already"
         seen.add(bytes_in)
         code, book = rights.read(bytes_in)
         assert code == answer, f"case {number} ({name}): {answer} by hand, {code} by the reader"
         data += len(bytes_in).to_bytes(2, "big") + bytes_in
         if code == 0:
-            assert rights.write(book) == bytes_in, f"case {number} ({name}): other bytes written back"
+            back = bytes_in if version == rights.NEWEST else widened(bytes_in)
+            assert rights.write(book) == back, f"case {number} ({name}): other bytes written back"
             lines.append(f"0 {rights.write(book).hex()}\n")
         else:
             lines.append(f"{code}\n")
         told = edits.strip("; ")
-        listing.append(f"{number:3} {answer:2} {len(bytes_in):5} {name} [{base.__name__}{': ' + told if told else ''}]\n")
+        listing.append(f"{number:4} {answer:2} {len(bytes_in):5} {version} {name} [{base.__name__}{': ' + told if told else ''}]\n")
     write_file(CRATES / "test_images" / "data" / "cases.bin", data)
     write_file(CRATES / "test_images" / "stdout", "".join(lines).encode())
-    write_file(CRATES / "bench_image" / "data" / "full.rbk", rights.write(full()))
-    write_file(HERE / "images.txt", ("case, answer, length, name [base: edits]\n" + "".join(listing)).encode())
-    print(f"{len(CASES)} cases, {sum(1 for c in CASES if c[0] == 0)} accepted, {len(data)} bytes")
+    write_file(CRATES / "bench_image" / "data" / "full.rbk", rights.write(full_and_tracked()))
+    write_file(HERE / "images.txt", ("case, answer, length, version, name [base: edits]\n" + "".join(listing)).encode())
+    print(f"{len(CASES)} cases, {sum(1 for c in CASES if c[0] == 0)} accepted, {sum(1 for c in CASES if c[2] == 1)} of version 1, "
+          f"{len(data)} bytes")
 
 
 def write_file(path, data):

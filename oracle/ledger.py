@@ -1,14 +1,15 @@
 """The ledger of document 01 with the orders of document 02, and demand 3 judged by it.
 
-A ledger is built from events and answers alone. From the book it reads only what no event changes: assets, kinds, flags
-and limits. It is written separately from the rules of events in rights.py, even where the two look alike, so that a
+A ledger is built from events and answers alone. From the book it reads only what no event changes: assets, kinds, flags,
+limits, tracks and the switch. It is written separately from the rules of events in rights.py, even where the two look alike, so that a
 fault in one of them shows up as a difference. It imports nothing.
 """
 
 
 class Use:
-    def __init__(self, entry, player, begin, until):
+    def __init__(self, entry, player, begin, until, content):
         self.entry, self.player, self.begin, self.until = entry, player, begin, until
+        self.content = content       # the asset that its begin asked for
         self.stopped = False
 
     def open_at(self, T):
@@ -25,9 +26,10 @@ def demand(holds, what):
 
 
 class Ledger:
-    def __init__(self, assets, entries):
+    def __init__(self, assets, entries, switch):
         self.assets = {a.number: a for a in assets}
         self.entries = entries
+        self.switch = switch
         self.uses = []
         self.latest = {}     # player: number, operation, asset, kind of the latest taken event
         self.answers = {}    # player: its answer
@@ -35,12 +37,13 @@ class Ledger:
 
     # -- the terms that the papers define
 
-    def is_resend(self, event):
+    def is_resend(self, event, code):
+        """Order 3: "an event answered 30 is no resend and not taken"."""
         request = (event.number, event.operation, event.asset, event.kind)
-        return event.player in self.latest and self.latest[event.player] == request
+        return code != 30 and event.player in self.latest and self.latest[event.player] == request
 
     def is_taken(self, event, code):
-        return not self.is_resend(event) and (code == 0 or 10 <= code <= 15)
+        return not self.is_resend(event, code) and (code == 0 or 10 <= code <= 15 or code == 43)
 
     def of_entry(self, entry):
         return [u for u in self.uses if u.entry == entry]
@@ -82,6 +85,36 @@ class Ledger:
     def out_of_dates(self, entry, T):
         limits = self.entries[entry]
         return (limits.flags & 4 and T < limits.start) or (limits.flags & 8 and T > limits.end)
+
+    def is_switched_off(self, entry):
+        """Order 3: with the switch off a tracked entry is grantable only with mark 1."""
+        limits = self.entries[entry]
+        return self.switch == 0 and limits.tracked == 1 and limits.mark == 0
+
+    # -- the report (order 3): sums over ended uses of tracked entries, none with the switch off
+
+    def recorded(self, content):
+        return [u for u in self.uses if self.switch == 1 and self.entries[u.entry].tracked == 1
+                and u.content == content and not u.open_at(self.T)]
+
+    def times(self, content):
+        return sum(1 for u in self.recorded(content) if u.until - u.begin >= self.entries[u.entry].timed_value)
+
+    def seconds(self, content):
+        return sum(u.until - u.begin for u in self.recorded(content))
+
+    def report(self):
+        """(content, times, seconds) for each asset, in the book's order."""
+        return [(number, self.times(number), self.seconds(number)) for number in self.assets]
+
+    def may_be_lent(self, lines):
+        """Whether a list does not get 30."""
+        if len(lines) < len(self.assets) or len(lines) > 64:
+            return False
+        for place, number in enumerate(self.assets):
+            if lines[place][0] != number:
+                return False
+        return max((each for line in lines for each in line), default=0) < 4_611_686_018_427_387_904
 
     # -- the book's assets and entries, written separately
 
@@ -138,7 +171,7 @@ class Ledger:
         code, entry, until = answer
         if code != 0:
             demand(entry == 255 and until == 0, "a refusal has 255 and 0 behind it")
-        if self.is_resend(event):
+        if self.is_resend(event, code):
             demand(answer == self.answers[event.player], "a resend gets the answer of the event that it repeats")
             return
         if not self.is_taken(event, code):
@@ -158,12 +191,14 @@ class Ledger:
         demand(reaches == (code not in (10, 11, 12)), "10, 11 and 12 exactly when the choice is not reached")
         if not reaches:
             return
-        able = [p for p in suitable if not self.out_of_dates(p, t) and not self.is_spent(p, t)]
-        demand((code == 13) == (able == []), "13 exactly when every suitable entry is out of its dates or spent")
-        if code == 13:
+        left = [p for p in suitable if not self.out_of_dates(p, t) and not self.is_spent(p, t)]
+        able = [p for p in left if not self.is_switched_off(p)]
+        demand((code in (13, 43)) == (able == []), "13 or 43 exactly when every suitable entry is out of its dates, spent or switched off")
+        demand((code == 43) == (able == [] and left != []), "43 exactly when of these one is only switched off")
+        if code in (13, 43):
             return
         demand(code == 0, "else the begin is granted")
-        demand(entry in able, "the entry granted is suitable, in its dates and not spent")
+        demand(entry in able, "the entry granted is suitable, in its dates, not spent and not switched off")
         demand(all(self.comes_before(entry, p, event.asset) for p in able if p != entry), "the first entry is chosen")
         if self.entries[entry].kind >= 4:
             demand(until == t, "a momentary use ends where it begins")
@@ -186,7 +221,7 @@ class Ledger:
 
     def add(self, event, answer):
         code, entry, until = answer
-        if self.is_resend(event) or not self.is_taken(event, code):
+        if not self.is_taken(event, code):
             return
         self.T = event.time
         self.latest[event.player] = (event.number, event.operation, event.asset, event.kind)
@@ -194,13 +229,29 @@ class Ledger:
         if code != 0:
             return
         if event.operation == 1:
-            self.uses.append(Use(entry, event.player, event.time, until))
+            self.uses.append(Use(entry, event.player, event.time, until, event.asset))
             return
         latest = [u for u in self.uses if u.player == event.player][-1]
         if event.operation == 2:
             latest.until = until
         else:
             latest.until, latest.stopped = event.time, True
+
+    def follow(self, event, answer, lent, left):
+        """One event on, with the lines that it was lent and those that it left, each (content, times, seconds)."""
+        demand((answer[0] == 30) == (not self.may_be_lent(lent)), "30 exactly when the list may not be lent")
+        if answer[0] == 30:
+            demand(left == lent, "30 leaves the lines")
+            return
+        before = self.report()
+        self.judge(event, answer)
+        self.add(event, answer)
+        self.check_limits()
+        gains = [(content, times - was[1], seconds - was[2]) for (content, times, seconds), was in zip(self.report(), before)]
+        first = len(self.assets)
+        demand(left[:first] == [(line[0], line[1] + gain[1], line[2] + gain[2]) for line, gain in zip(lent, gains)],
+               "the first lines gain what the ledger's sums gain")
+        demand(left[first:] == lent[first:], "any further line stays as it was")
 
     # -- the limits, after each event
 
@@ -223,13 +274,3 @@ class Ledger:
             if limits.flags & 16:
                 start = self.interval_start(use.entry)
                 demand(start <= second < start + limits.interval, "every second lies in the entry's interval")
-
-
-def check_run(assets, entries, pairs):
-    """Demand 3 over one run from a fresh book: pairs of event and answer, in order. Returns the ledger."""
-    ledger = Ledger(assets, entries)
-    for event, answer in pairs:
-        ledger.judge(event, answer)
-        ledger.add(event, answer)
-        ledger.check_limits()
-    return ledger

@@ -1,9 +1,10 @@
 """The rights server a second time, in plain Python, from document 01 and the orders of document 02 alone.
 
-It holds the book, reads and writes its image, decodes an event record and answers one event.
-It shares nothing with the proved program, so an answer on which both agree was reached twice.
+It holds the book, reads and writes its image, decodes an event record and answers one event, which is lent the lines of the usage
+report. It shares nothing with the proved program, so an answer on which both agree was reached twice.
 """
 
+import copy
 import struct
 from dataclasses import dataclass, field
 
@@ -17,7 +18,9 @@ BEGIN, CONTINUE, STOP = 1, 2, 3
 PLAY, DISPLAY, EXECUTE, PRINT, EXPORT = 1, 2, 3, 4, 5
 COUNT, TIMED, START, END, INTERVAL, ACCUMULATED = 1, 2, 4, 8, 16, 32
 
-TAKEN = (0, 10, 11, 12, 13, 14, 15)
+TAKEN = (0, 10, 11, 12, 13, 14, 15, 43)
+LINES = 64                  # of a report, at most
+GREAT = 2 ** 62             # no number in a report may be this or more
 
 
 # ---- The book
@@ -50,6 +53,9 @@ class Entry:
     first: int = 0
     used_seconds: int = 0
     started: int = 0
+    tracked: int = 0
+    timed_value: int = 0
+    mark: int = 0           # contentAccessGranted
 
     def has(self, flag):
         return self.flags & flag != 0
@@ -76,6 +82,7 @@ class Player:
     open_entry: int = 0
     begin: int = 0
     until: int = 0
+    content: int = 0        # the asset that the begin of the open use asked for
 
 
 @dataclass
@@ -84,6 +91,7 @@ class Book:
     assets: list = field(default_factory=list)
     entries: list = field(default_factory=list)
     players: list = field(default_factory=lambda: [Player() for _ in range(PLAYERS)])
+    switch: int = 0         # whether uses are metered
 
     def asset(self, number):
         for asset in self.assets:
@@ -94,6 +102,14 @@ class Book:
     def users(self, position):
         """The players that have the entry at this position open."""
         return [player for player in self.players if player.open and player.open_entry == position]
+
+
+@dataclass
+class Line:
+    """One line of the usage report."""
+    content: int = 0
+    times: int = 0
+    seconds: int = 0
 
 
 @dataclass(frozen=True)
@@ -110,9 +126,39 @@ def refused(code):
     return (code, 255, 0)
 
 
-# ---- One event: step(book, event) changes the book and returns (code, entry, until)
+# ---- The usage report (order 3): a list of lines, lent to each event
 
-def step(book, event):
+def zeros(book):
+    """The report of this book before its first event, no longer than needed: what the run program lends."""
+    return [Line(asset.number) for asset in book.assets]
+
+
+def list_is_good(book, lines):
+    """Whether the first lines name the assets in the book's order, there are at most 64, and no number is too great."""
+    return (len(book.assets) <= len(lines) <= LINES
+            and all(asset.number == line.content for asset, line in zip(book.assets, lines))
+            and all(line.content < GREAT and line.times < GREAT and line.seconds < GREAT for line in lines))
+
+
+def record_use(book, entry, content, seconds, lines):
+    """A use of this entry has ended. With the switch on, a tracked one is recorded."""
+    if book.switch and entry.tracked:
+        line = lines[book.assets.index(book.asset(content))]
+        line.seconds += seconds
+        if seconds >= entry.timed_value:
+            line.times += 1
+
+
+# ---- One event: step(book, event, lines) changes the book and the lines and returns (code, entry, until)
+
+def step(book, event, lines):
+    """Of an event, or of the number that turns its record away. A list that is not good goes before everything."""
+    if not list_is_good(book, lines):
+        return refused(30)
+    return refused(event) if isinstance(event, int) else answered(book, event, lines)
+
+
+def answered(book, event, lines):
     if event.player >= PLAYERS:
         return refused(2)
     if not request_is_good(event.operation, event.asset, event.kind):
@@ -127,15 +173,13 @@ def step(book, event):
     if event.time < book.time or event.time > LATEST:
         return refused(5)
     book.time = event.time
-    for each in book.players:
-        if each.open and each.until <= event.time:
-            end_use(book, each, each.until)
+    settle(book, event.time, lines)
     if event.operation == BEGIN:
-        answer = begin(book, player, event.asset, event.kind, event.time)
+        answer = begin(book, player, event.asset, event.kind, event.time, lines)
     elif event.operation == CONTINUE:
         answer = go_on(book, player, event.time)
     else:
-        answer = stop(book, player, event.time)
+        answer = stop(book, player, event.time, lines)
     player.number = event.number
     player.operation, player.asset, player.kind = event.operation, event.asset, event.kind
     player.code, player.entry, player.answer_until = answer
@@ -148,15 +192,23 @@ def request_is_good(operation, asset, kind):
     return operation in (CONTINUE, STOP) and asset == 0 and kind == 0
 
 
-def end_use(book, player, end):
+def settle(book, t, lines):
+    """Ends each open use whose until has come."""
+    for player in book.players:
+        if player.open and player.until <= t:
+            end_use(book, player, player.until, lines)
+
+
+def end_use(book, player, end, lines):
     """Close the player's use; one shorter than the timer gives its timed count back."""
     entry = book.entries[player.open_entry]
     if entry.has(TIMED) and end - player.begin < entry.timer:
         entry.used_timed -= 1
-    player.open = player.open_entry = player.begin = player.until = 0
+    record_use(book, entry, player.content, end - player.begin, lines)
+    player.open = player.open_entry = player.begin = player.until = player.content = 0
 
 
-def begin(book, player, number, kind, t):
+def begin(book, player, number, kind, t, lines):
     if player.open:
         return refused(11)
     asset = book.asset(number)
@@ -165,9 +217,9 @@ def begin(book, player, number, kind, t):
     suitable = suitable_entries(book, asset, kind)
     if not suitable:
         return refused(12)
-    grantable = [p for p in suitable if is_grantable(book.entries[p], t)]
+    grantable = [p for p in suitable if is_grantable(book, book.entries[p], t)]
     if not grantable:
-        return refused(13)
+        return refused(none_grantable(book, suitable, t))
     position = min(grantable, key=lambda p: rank(book.entries[p], p, number))
     entry = book.entries[position]
     if entry.is_momentary():
@@ -183,8 +235,10 @@ def begin(book, player, number, kind, t):
         entry.used_seconds += until - t
     if entry.has(INTERVAL) and not entry.started:
         entry.started, entry.first = 1, t
-    if not entry.is_momentary():
-        player.open, player.open_entry, player.begin, player.until = 1, position, t, until
+    if entry.is_momentary():
+        record_use(book, entry, number, 0, lines)
+    else:
+        player.open, player.open_entry, player.begin, player.until, player.content = 1, position, t, until, number
     return (0, position, until)
 
 
@@ -197,7 +251,22 @@ def suitable_entries(book, asset, kind):
     return [p for p, e in enumerate(book.entries) if e.kind == kind and e.asset in owners]
 
 
-def is_grantable(entry, t):
+def is_grantable(book, entry, t):
+    return limits_allow(entry, t) and not fails_for_switch(book, entry)
+
+
+def fails_for_switch(book, entry):
+    """Order 3: "With the switch off a tracked entry is grantable only with mark 1"."""
+    return book.switch == 0 and entry.tracked == 1 and entry.mark != 1
+
+
+def none_grantable(book, suitable, t):
+    """13; 43 if for some entry of these there is no ground but the switch."""
+    only_switch = [p for p in suitable if fails_for_switch(book, book.entries[p]) and limits_allow(book.entries[p], t)]
+    return 43 if only_switch else 13
+
+
+def limits_allow(entry, t):
     if entry.has_limit_of_zero():
         return False
     if entry.has(COUNT) and entry.used_count >= entry.count:
@@ -247,14 +316,14 @@ def go_on(book, player, t):
     return (0, player.open_entry, until)
 
 
-def stop(book, player, t):
+def stop(book, player, t, lines):
     if not player.open:
         return refused(14)
     position = player.open_entry
     entry = book.entries[position]
     if entry.has(ACCUMULATED):
         entry.used_seconds -= player.until - t
-    end_use(book, player, t)
+    end_use(book, player, t, lines)
     return (0, position, t)
 
 
@@ -265,10 +334,10 @@ ASSET_FIELDS = [("number", 2), ("inherit", 2), ("key", 1)]
 ENTRY_FIELDS = [
     ("object", 2), ("asset", 2), ("kind", 1), ("flags", 1), ("count", 4), ("timed", 4), ("timer", 4), ("start", 4),
     ("end", 4), ("interval", 4), ("accumulated", 4), ("used_count", 4), ("used_timed", 4), ("first", 4),
-    ("used_seconds", 4), ("started", 1)]
+    ("used_seconds", 4), ("started", 1), ("tracked", 4), ("timed_value", 4), ("mark", 4)]
 PLAYER_FIELDS = [
     ("number", 4), ("operation", 1), ("asset", 2), ("kind", 1), ("code", 1), ("entry", 1), ("answer_until", 4),
-    ("open", 1), ("open_entry", 1), ("begin", 4), ("until", 4)]
+    ("open", 1), ("open_entry", 1), ("begin", 4), ("until", 4), ("content", 4)]
 
 
 class Layout:
@@ -281,11 +350,33 @@ class Layout:
         return self.make(**dict(zip(self.names, self.packed.unpack_from(data, at))))
 
     def written(self, item):
-        return self.packed.pack(*(getattr(item, name) for name in self.names))
+        return self.packed.pack(*[getattr(item, name) for name in self.names])
 
 
 RECORD = Layout(Event, RECORD_FIELDS)
-ASSET, ENTRY, PLAYER = Layout(Asset, ASSET_FIELDS), Layout(Entry, ENTRY_FIELDS), Layout(Player, PLAYER_FIELDS)
+ASSET = Layout(Asset, ASSET_FIELDS)
+
+
+class Version:
+    """The widths of an image: what its header has behind the first eleven bytes, an entry, a player."""
+
+    def __init__(self, header_fields, entry_fields, player_fields):
+        self.header = Layout(dict, header_fields)
+        self.entry, self.player = Layout(Entry, entry_fields), Layout(Player, player_fields)
+
+    def length(self, assets, entries):
+        return HEADER + self.header.size + ASSET.size * assets + self.entry.size * entries + self.player.size * PLAYERS
+
+
+def before(fields, name):
+    return fields[:[each for each, _ in fields].index(name)]
+
+
+HEADER = 11                 # bytes that every version begins with: mark, version, numbers, time
+VERSIONS = {                # each adds fields behind those that were there
+    1: Version([], before(ENTRY_FIELDS, "tracked"), before(PLAYER_FIELDS, "content")),
+    2: Version([("switch", 4)], ENTRY_FIELDS, PLAYER_FIELDS)}
+NEWEST = max(VERSIONS)
 
 
 # ---- An event record
@@ -311,11 +402,14 @@ def encode(event):
     return RECORD.written(event)
 
 
-def answer_record(book, record):
-    event = decode(record)
-    if isinstance(event, int):
-        return refused(event)
-    return step(book, event)
+def answer_record(book, record, lines):
+    return step(book, decode(record), lines)
+
+
+def lent(book, record, lines):
+    """The answer to a record that is lent these lines, the book and the lines after it; what was passed in stays."""
+    book, lines = copy.deepcopy(book), copy.deepcopy(lines)
+    return answer_record(book, record, lines), book, lines
 
 
 def run(image, records):
@@ -323,22 +417,33 @@ def run(image, records):
     code, book = read(image)
     if code != 0:
         return f"{code}\n"
-    return "".join("%d %d %d\n" % answer_record(book, record) for record in records_in(records))
+    lines = zeros(book)
+    return "".join("%d %d %d\n" % answer_record(book, record, lines) for record in records_in(records))
+
+
+def report_of(image, records):
+    """The lines of the report after these records, from zeros; none for a refused image."""
+    code, book = read(image)
+    if code != 0:
+        return []
+    lines = zeros(book)
+    for record in records_in(records):
+        answer_record(book, record, lines)
+    return lines
 
 
 # ---- The image
-
-HEADER = 11
-
 
 def number_of(data):
     return int.from_bytes(data, "big")
 
 
-def write(book):
-    data = b"RBK" + (1).to_bytes(2, "big") + bytes([len(book.assets), len(book.entries)])
-    data += book.time.to_bytes(4, "big")
-    for layout, items in ((ASSET, book.assets), (ENTRY, book.entries), (PLAYER, book.players)):
+def write(book, version=NEWEST):
+    """The image. An older version, for trying out old images, loses what it has no field for."""
+    layouts = VERSIONS[version]
+    data = b"RBK" + version.to_bytes(2, "big") + bytes([len(book.assets), len(book.entries)])
+    data += book.time.to_bytes(4, "big") + layouts.header.written(book)
+    for layout, items in ((ASSET, book.assets), (layouts.entry, book.entries), (layouts.player, book.players)):
         data += b"".join(map(layout.written, items))
     return data
 
@@ -349,22 +454,23 @@ def read(data):
         return 20, None
     if data[0:3] != b"RBK":
         return 21, None
-    if number_of(data[3:5]) != 1:
+    layouts = VERSIONS.get(number_of(data[3:5]))
+    if layouts is None:
         return 22, None
     assets, entries, time = data[5], data[6], number_of(data[7:11])
     if assets > MOST or entries > MOST or time > LATEST:
         return 23, None
-    if len(data) != HEADER + ASSET.size * assets + ENTRY.size * entries + PLAYER.size * PLAYERS:
+    if len(data) != layouts.length(assets, entries):
         return 20, None
-    book, at = Book(time), HEADER
+    book, at = Book(time, **layouts.header.read(data, HEADER)), HEADER + layouts.header.size
     book.assets, at = take(data, at, ASSET, assets)
-    book.entries, at = take(data, at, ENTRY, entries)
-    book.players, at = take(data, at, PLAYER, PLAYERS)
+    book.entries, at = take(data, at, layouts.entry, entries)
+    book.players, at = take(data, at, layouts.player, PLAYERS)
     if not assets_are_good(book):
         return 24, None
     if not all(entry_is_good(book, entry) for entry in book.entries):
         return 25, None
-    if not all(player_is_good(book, player) for player in book.players):
+    if not header_is_good(book) or not all(player_is_good(book, player) for player in book.players):
         return 26, None
     if not all(meters_are_good(book, position) for position in range(entries)):
         return 27, None
@@ -402,7 +508,17 @@ def entry_is_good(book, entry):
         return False
     if entry.is_momentary() and (entry.has(ACCUMULATED) or entry.timer != 0):
         return False
-    return True
+    return track_is_good(entry)
+
+
+def track_is_good(entry):
+    if entry.tracked == 0:
+        return (entry.timed_value, entry.mark) == (0, 0)
+    return entry.tracked == 1 and entry.mark in (0, 1)
+
+
+def header_is_good(book):
+    return book.switch in (0, 1)
 
 
 def player_is_good(book, player):
@@ -413,10 +529,10 @@ def player_is_good(book, player):
     if player.code == 0:
         if player.entry >= len(book.entries):
             return False
-    elif not 10 <= player.code <= 15 or player.entry != 255 or player.answer_until != 0:
+    elif player.code not in TAKEN or player.entry != 255 or player.answer_until != 0:
         return False
     if player.open == 0:
-        return (player.open_entry, player.begin, player.until) == (0, 0, 0)
+        return (player.open_entry, player.begin, player.until, player.content) == (0, 0, 0, 0)
     return player.open == 1 and open_use_is_good(book, player)
 
 
@@ -435,7 +551,12 @@ def open_use_is_good(book, player):
     if entry.has(INTERVAL):
         if entry.started != 1 or player.begin < entry.first or player.until > entry.first + entry.interval:
             return False
-    return True
+    return content_is_good(book, entry, player.content)
+
+
+def content_is_good(book, entry, content):
+    """Whether an open use of this entry may have this content: an asset of the book, or 0 where the entry is not tracked."""
+    return content == 0 and entry.tracked == 0 or book.asset(content) is not None
 
 
 def meters_are_good(book, position):

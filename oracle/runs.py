@@ -4,7 +4,7 @@
 
 writes, for the program of each crate, its input, its book, and the text that it must print according to the second program:
 
-  crates/run_long   a book of the greatest size, 3,979 bytes, and 16,000 and a half records: several times the 65,545 bytes
+  crates/run_long   a book of the greatest size, 4,815 bytes, and 16,000 and a half records: several times the 65,545 bytes
                     that the program reads at once
   crates/run_over   the same book with one byte after it: refused, and no record is answered
 """
@@ -42,7 +42,7 @@ def resends(book):
 
 def long_run(rng, book):
     """The records: random events, and where a read ends, resends of what came before it."""
-    records = []
+    records, report = [], rights.zeros(book)
     waiting = []
     while len(records) < RECORDS:
         if records and len(records) % (READ // rights.RECORD.size) == 0:
@@ -50,7 +50,7 @@ def long_run(rng, book):
         event = waiting.pop(0) if waiting else days.next_event(rng, book, AROUND)
         record = rights.encode(event)
         records.append(record)
-        rights.answer_record(book, record)
+        rights.answer_record(book, record, report)
     return b"".join(records) + rng.randbytes(5)
 
 

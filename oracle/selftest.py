@@ -2,9 +2,11 @@
 
 The afternoon of document 01, then random days. On each day, demand 3 is judged by the ledger; every book along
 the way is written and read back; events turned away and resends must leave the book unchanged; and the day without its
-resends is run again. The days written by hand are judged by the ledger too. Then servers with one planted fault each must be caught,
-by the ledger on random days or by the stored days and images. Last, the stored texts get their answers from the reader of XML texts,
-and readers with one planted fault each must be caught by them.
+resends is run again. On every other day the lines of the usage report are handed on from zeros and must be the ledger's sums; on the
+others each event is lent any list, the same in both runs. The days written by hand are judged by the ledger too, and the lists lent by
+hand get their answers. Then servers with one planted fault each must be caught, by the ledger on random days, and by the stored days,
+images or lists. Last, the stored texts get their answers from the reader of XML texts, and readers with one planted fault each must be
+caught by them.
 """
 
 import copy
@@ -15,10 +17,12 @@ from contextlib import contextmanager
 
 import days
 import images
+import lent_lists
 import rights
 import text_faults
 import written_days
-from ledger import Broken, Ledger, check_run, demand
+from ledger import Broken, Ledger, demand
+from lent_lists import plain
 from rights import Asset, Book, Entry, Event
 
 PLAY, DISPLAY, PRINT = rights.PLAY, rights.DISPLAY, rights.PRINT
@@ -73,87 +77,123 @@ def check_afternoon():
     book = afternoon_book()
     text = rights.run(rights.write(book), b"".join(rights.encode(event) for event, _ in AFTERNOON))
     demand(text == "".join("%d %d %d\n" % answer for _, answer in AFTERNOON), "the afternoon as the run program prints it")
-    for event, wanted in AFTERNOON:
-        demand(rights.step(book, event) == wanted, f"the afternoon's {event}")
-    check_run(book.assets, book.entries, AFTERNOON)
+    check_run(book, [(event, answer, plain(rights.zeros(book))) for event, answer in AFTERNOON])
+
+
+def check_run(book, steps):
+    """Demand 3 over a run from a fresh book: each event with its answer and the report after it, which is handed on from zeros."""
+    ledger, book, lines = Ledger(book.assets, book.entries, book.switch), copy.deepcopy(book), rights.zeros(book)
+    for event, answer, report in steps:
+        lent = plain(lines)
+        demand(rights.step(book, event, lines) == answer, f"{event} is answered {answer}")
+        ledger.follow(event, answer, lent, plain(lines))
+        demand(plain(lines) == report == ledger.report(), f"the report after {event}")
 
 
 def check_records():
     book = Book()
     for record, code in ((b"", 6), (bytes(12), 6), (bytes(14), 6), (b"\x10" + bytes(12), 2), (bytes(13), 1)):
-        demand(rights.answer_record(book, record) == (code, 255, 0), f"record {record!r}")
+        demand(rights.answer_record(book, record, []) == (code, 255, 0), f"record {record!r}")
     event = begin(15, 4_294_967_295, 65535, 5, 4_294_967_295)
     demand(rights.decode(rights.encode(event)) == event, "a record decodes to its event")
 
 
 def check_written_days():
-    """Those that start from a fresh book. Returns how many there are."""
+    """Those that start from a fresh book by the ledger, and the reports of all. Returns how many are fresh."""
     fresh = 0
-    for name, book, events, answers in written_days.written():
-        if book == Book(assets=book.assets, entries=[fresh_entry(entry) for entry in book.entries]):
-            check_run(book.assets, book.entries, zip(events, answers))
+    for name, version, book, steps in written_days.written():
+        if is_fresh(book):
+            check_run(book, steps)
             fresh += 1
+        _, book = rights.read(rights.write(book, version))
+        lines = rights.zeros(book)
+        for event, _, report in steps:
+            rights.step(book, event, lines)
+            demand(plain(lines) == report, f"the report of {name}, after {event}: {report} by hand, not {plain(lines)}")
     return fresh
 
 
-def fresh_entry(entry):
-    return dataclasses.replace(entry, used_count=0, used_timed=0, first=0, used_seconds=0, started=0)
+def is_fresh(book):
+    entries = [dataclasses.replace(each, used_count=0, used_timed=0, first=0, used_seconds=0, started=0) for each in book.entries]
+    return book == Book(assets=book.assets, entries=entries, switch=book.switch)
 
 
 def run_day(rng, length):
     """One random day, checked. Returns how often each code was answered."""
     around = rng.choice((0, 1000, 1000, 1_700_000_000, rights.LATEST - 500))
     fresh = days.fresh_book(rng, around)
-    book, ledger = copy.deepcopy(fresh), Ledger(fresh.assets, fresh.entries)
-    seen, kept = {}, []
+    book, ledger = copy.deepcopy(fresh), Ledger(fresh.assets, fresh.entries, fresh.switch)
+    lines, handed = rights.zeros(book), rng.random() < 0.5
+    lines += [rights.Line(*rng.choices((0, 5, 900), k=3)) for _ in range(rng.randint(0, 2))]
+    further = plain(lines)[len(book.assets):]
+    seen, kept, after = {}, [], rights.write(book)
     for _ in range(length):
         event = days.next_event(rng, book, around)
-        before = rights.write(book)
-        resend = ledger.is_resend(event)
-        answer = rights.step(book, event)
-        after = rights.write(book)
-        if resend or answer[0] in range(1, 7):
-            demand(after == before, "a resend and what is turned away leave the book")
+        lent = lines if handed else lent_lists.random_list(rng, book, lines)
+        told, before = [dataclasses.replace(line) for line in lent], after
+        answer = rights.step(book, event, lent)
+        after, resend = rights.write(book), ledger.is_resend(event, answer[0])
+        if resend or answer[0] in (*range(1, 7), 30):
+            demand(after == before and lent == told, "a resend and what is turned away leave the book and the lines")
         code, again = rights.read(after)
         demand(code == 0 and again == book, "each book on the way reads back as itself")
         book = again
-        ledger.judge(event, answer)
-        ledger.add(event, answer)
-        ledger.check_limits()
+        ledger.follow(event, answer, plain(told), plain(lent))
         demand(ledger.T == book.time, "T is the book's time")
+        demand(not handed or plain(lines) == ledger.report() + further, "from zeros, the lines are the ledger's sums")
         if not resend:
-            kept.append((event, answer))
+            kept.append((event, told, answer, lent if not handed else None))
         name = "resend" if resend else answer[0]
         seen[name] = seen.get(name, 0) + 1
-    second = copy.deepcopy(fresh)
-    for event, answer in kept:
-        demand(rights.step(second, event) == answer, "the same answers without the resends")
-    demand(second == book, "the same book without the resends")
+    check_without_resends(fresh, kept, book)
+    check_older(book)
     return seen
+
+
+def check_without_resends(fresh, kept, book):
+    """The same answers and the same book, each event lent what it was lent before; it then leaves the same lines."""
+    second = copy.deepcopy(fresh)
+    for event, told, answer, left in kept:
+        demand(rights.step(second, event, told) == answer, "the same answers without the resends")
+        demand(left is None or told == left, "the same lines without the resends")
+    demand(second == book, "the same book without the resends")
+
+
+def check_older(book):
+    """What version 1 can say of the book is read back as that, and written as the newest version."""
+    plain_book = copy.deepcopy(book)
+    plain_book.switch = 0
+    for thing in plain_book.entries + plain_book.players:
+        for name in ("tracked", "timed_value", "mark", "content"):
+            if hasattr(thing, name):
+                setattr(thing, name, 0)
+    image = rights.write(book, 1)
+    demand(rights.read(image) == (0, plain_book), "an image of version 1 has no switch, no tracks and no contents")
+    demand(rights.write(rights.read(image)[1]) == images.widened(image), "an image of version 1 is written back as version 2")
 
 
 # ---- Planted faults: each must be caught, or the tests above are too weak
 
 def resend_compares_time(real):
-    def step(book, event):
+    def answered(book, event, lines):
         known = event.player < 16 and event.number != 0 and book.players[event.player].number == event.number
-        return rights.refused(5) if known and event.time < book.time else real(book, event)
-    return step
+        return rights.refused(5) if known and event.time < book.time else real(book, event, lines)
+    return answered
 
 
 def resend_is_metered(real):
-    def step(book, event):
-        answer = real(book, event)
+    def answered(book, event, lines):
+        answer = real(book, event, lines)
         if event.player < 16 and answer[0] == 0 and book.entries[answer[1]].flags & rights.COUNT and event.time < book.time:
             book.entries[answer[1]].used_count += 1
         return answer
-    return step
+    return answered
 
 
 def count_goes_back(real):
-    def stop(book, player, t):
+    def stop(book, player, t, lines):
         position, was_open = player.open_entry, player.open
-        answer = real(book, player, t)
+        answer = real(book, player, t, lines)
         if was_open and book.entries[position].used_count > 0:
             book.entries[position].used_count -= 1
         return answer
@@ -180,15 +220,15 @@ def inherits_two_levels(real):
 
 
 def settles_the_asker_only(real):
-    def step(book, event):
+    def answered(book, event, lines):
         others = [p for i, p in enumerate(book.players) if i != event.player and p.open]
         for player in others:
             player.open = 0
-        answer = real(book, event)
+        answer = real(book, event, lines)
         for player in others:
             player.open = 1
         return answer
-    return step
+    return answered
 
 
 def always_none_grantable(real):
@@ -196,8 +236,11 @@ def always_none_grantable(real):
 
 
 def timed_never_goes_back(real):
-    def end_use(book, player, end):
-        player.open = player.open_entry = player.begin = player.until = 0
+    def end_use(book, player, end, lines):
+        entry = book.entries[player.open_entry]
+        used = entry.used_timed
+        real(book, player, end, lines)
+        entry.used_timed = used
     return end_use
 
 
@@ -228,12 +271,12 @@ def a_limit_of_0_is_not_suitable(real):
 
 
 def a_limit_of_0_refuses_all(real):
-    def begin(book, player, number, kind, t):
+    def begin(book, player, number, kind, t, lines):
         asset = book.asset(number)
         if not player.open and asset is not None and asset.key:
             if any(book.entries[p].has_limit_of_zero() for p in rights.suitable_entries(book, asset, kind)):
                 return rights.refused(13)
-        return real(book, player, number, kind, t)
+        return real(book, player, number, kind, t, lines)
     return begin
 
 
@@ -277,20 +320,418 @@ def an_open_use_in_an_interval_of_0_is_accepted(real):
     return good
 
 
+# Order 3: the switch, 43, the report, the list that is lent
+
+def switched_off_is_granted(real):
+    return lambda book, entry: False
+
+
+def a_mark_does_not_help(real):
+    return lambda book, entry: book.switch == 0 and entry.tracked == 1
+
+
+def a_mark_is_asked_for_with_the_switch_on_too(real):
+    return lambda book, entry: entry.tracked == 1 and entry.mark != 1
+
+
+def the_switch_is_asked_of_untracked_entries_too(real):
+    return lambda book, entry: book.switch == 0 and entry.mark != 1
+
+
+def switched_off_gets_13(real):
+    return lambda book, suitable, t: 13
+
+
+def switched_off_gets_43_whatever_else_stands(real):
+    return lambda book, suitable, t: 43 if any(rights.fails_for_switch(book, book.entries[p]) for p in suitable) else 13
+
+
+def switched_off_gets_43_only_if_all_are(real):
+    def code(book, suitable, t):
+        return real(book, suitable, t) if all(rights.fails_for_switch(book, book.entries[p]) for p in suitable) else 13
+    return code
+
+
+def switched_off_gets_43_only_for_the_first(real):
+    return lambda book, suitable, t: real(book, suitable[:1], t)
+
+
+def not_taken(real):
+    """43 leaves the book as it was."""
+    def answered(book, event, lines):
+        before = copy.deepcopy(book)
+        answer = real(book, event, lines)
+        if answer[0] == 43:
+            book.time, book.players, book.entries = before.time, before.players, before.entries
+        return answer
+    return answered
+
+
+def a_continue_asks_the_switch(real):
+    def go_on(book, player, t):
+        if player.open and rights.fails_for_switch(book, book.entries[player.open_entry]):
+            return rights.refused(15)
+        return real(book, player, t)
+    return go_on
+
+
+def recording(change):
+    """A fault of what the end of a use records: other arguments, or None for nothing."""
+    def fault(real):
+        def record_use(book, entry, content, seconds, lines):
+            told = change(book, entry, content, seconds)
+            if told is not None:
+                real(*told, lines)
+        return record_use
+    fault.__name__ = change.__name__
+    return fault
+
+
+def changed(thing, **fields):
+    return dataclasses.replace(thing, **fields)
+
+
+def recorded_with_the_switch_off(book, entry, content, seconds):
+    return changed(book, switch=1), entry, content, seconds
+
+
+def recorded_untracked(book, entry, content, seconds):
+    return book, changed(entry, tracked=1), content or book.assets[0].number, seconds
+
+
+def recorded_with_a_mark_only(book, entry, content, seconds):
+    return (book, entry, content, seconds) if entry.mark else None
+
+
+def recorded_for_the_entrys_asset(book, entry, content, seconds):
+    return book, entry, entry.asset, seconds
+
+
+def recorded_for_the_first_asset(book, entry, content, seconds):
+    return book, entry, book.assets[0].number, seconds
+
+
+def a_time_from_one_second_more_on(book, entry, content, seconds):
+    return book, changed(entry, timed_value=entry.timed_value + 1), content, seconds
+
+
+def a_time_from_one_second_less_on(book, entry, content, seconds):
+    return book, changed(entry, timed_value=max(0, entry.timed_value - 1)), content, seconds
+
+
+def a_time_whatever_its_length(book, entry, content, seconds):
+    return book, changed(entry, timed_value=0), content, seconds
+
+
+def a_time_from_the_timer_on(book, entry, content, seconds):
+    return book, changed(entry, timed_value=entry.timer), content, seconds
+
+
+def a_momentary_use_is_not_recorded(book, entry, content, seconds):
+    return None if entry.is_momentary() else (book, entry, content, seconds)
+
+
+def a_momentary_use_is_always_a_time(book, entry, content, seconds):
+    return book, changed(entry, timed_value=0) if entry.is_momentary() else entry, content, seconds
+
+
+def too_short_a_use_is_not_recorded(book, entry, content, seconds):
+    return None if seconds < entry.timed_value else (book, entry, content, seconds)
+
+
+def seconds_of_one_grant_only(book, entry, content, seconds):
+    return book, entry, content, min(seconds, 60)
+
+
+def recorded_at_the_begin(real):
+    """The seconds granted count, whether or not the use is stopped earlier."""
+    def end_use(book, player, end, lines):
+        real(book, player, player.until, lines)
+    return end_use
+
+
+def a_stop_records_nothing(real):
+    return lambda book, player, t, lines: real(book, player, t, copy.deepcopy(lines))
+
+
+def settling_records_nothing(real):
+    return lambda book, t, lines: real(book, t, copy.deepcopy(lines))
+
+
+def settling_records_the_askers_use_only(real):
+    def answered(book, event, lines):
+        others = [p for i, p in enumerate(book.players) if i != event.player and p.open and p.until <= event.time]
+        before = copy.deepcopy(lines)
+        answer = real(book, event, lines)
+        if others and answer[0] in rights.TAKEN:
+            lines[:] = before
+        return answer
+    return answered
+
+
+def a_resend_settles(real):
+    def answered(book, event, lines):
+        if event.player < 16 and event.number == book.players[event.player].number and event.time <= rights.LATEST:
+            rights.settle(copy.deepcopy(book), event.time, lines)
+        return real(book, event, lines)
+    return answered
+
+
+def the_line_is_found_by_its_name_from_behind(real):
+    def record_use(book, entry, content, seconds, lines):
+        if book.switch and entry.tracked:
+            at = max(place for place, line in enumerate(lines) if line.content == content)
+            picked = lines[at]
+            lines[at], lines[book.assets.index(book.asset(content))] = lines[book.assets.index(book.asset(content))], picked
+            real(book, entry, content, seconds, lines)
+            lines[at], lines[book.assets.index(book.asset(content))] = lines[book.assets.index(book.asset(content))], picked
+    return record_use
+
+
+def accepts(change):
+    """A fault of which lists are good: a list is judged after a change of it."""
+    def fault(real):
+        return lambda book, lines: real(book, change(book, copy.deepcopy(lines)))
+    fault.__name__ = change.__name__
+    return fault
+
+
+def too_many_lines_are_accepted(book, lines):
+    return lines[:64]
+
+
+def wrong_names_are_accepted(book, lines):
+    for line, asset in zip(lines, book.assets):
+        line.content = asset.number
+    return lines
+
+
+def names_are_compared_in_16_bits(book, lines):
+    for line in lines:
+        line.content %= 65_536
+    return lines
+
+
+def names_may_stand_in_another_order(book, lines):
+    places = {asset.number: place for place, asset in enumerate(book.assets)}
+    return sorted(lines, key=lambda line: places.get(line.content, 64)) if len(lines) <= len(places) else lines
+
+
+def great_times_are_accepted(book, lines):
+    for line in lines:
+        line.times %= rights.GREAT
+    return lines
+
+
+def great_seconds_are_accepted(book, lines):
+    for line in lines:
+        line.seconds %= rights.GREAT
+    return lines
+
+
+def great_names_are_accepted(book, lines):
+    for line in lines[len(book.assets):]:
+        line.content %= rights.GREAT
+    return lines
+
+
+def further_lines_are_not_judged(book, lines):
+    return lines[:len(book.assets)] if len(lines) <= 64 else lines
+
+
+def two_to_the_62_is_accepted(book, lines):
+    for line in lines:
+        line.times, line.seconds = max(line.times - 1, 0), max(line.seconds - 1, 0)
+    return lines
+
+
+def two_to_the_62_less_one_is_refused(book, lines):
+    for line in lines:
+        line.times, line.seconds = line.times + 1, line.seconds + 1
+    return lines
+
+
+def too_few_lines_are_accepted(real):
+    def good(book, lines):
+        missing = [rights.Line(asset.number) for asset in book.assets[len(lines):]]
+        lines += missing
+        return real(book, lines)
+    return good
+
+
+def further_lines_are_refused(real):
+    return lambda book, lines: real(book, lines) and len(lines) == len(book.assets)
+
+
+def the_checks_come_before_30(real):
+    def answer_record(book, record, lines):
+        event = rights.decode(record)
+        return rights.refused(event) if isinstance(event, int) else real(book, record, lines)
+    return answer_record
+
+
+def a_resend_comes_before_30(real):
+    def step(book, event, lines):
+        if isinstance(event, Event) and event.player < 16:
+            player = book.players[event.player]
+            request = (event.number, event.operation, event.asset, event.kind)
+            if event.number and request == (player.number, player.operation, player.asset, player.kind):
+                return (player.code, player.entry, player.answer_until)
+        return real(book, event, lines)
+    return step
+
+
+def a_bad_list_takes_the_event(real):
+    def step(book, event, lines):
+        answer = real(book, event, lines)
+        if answer[0] == 30 and isinstance(event, Event):
+            rights.answered(book, event, rights.zeros(book))
+        return answer
+    return step
+
+
+# Order 3: images
+
+def the_content_is_kept_of_tracked_entries_only(real):
+    def begin(book, player, number, kind, t, lines):
+        answer = real(book, player, number, kind, t, lines)
+        if answer[0] == 0 and player.open and not book.entries[answer[1]].tracked:
+            player.content = 0
+        return answer
+    return begin
+
+
+def the_content_is_kept_after_the_end(real):
+    def end_use(book, player, end, lines):
+        content = player.content
+        real(book, player, end, lines)
+        player.content = content
+    return end_use
+
+
+def judged(part, change):
+    """A fault of a rule of images: the thing is judged after a change of it."""
+    def fault(real):
+        if part == "player":
+            return lambda book, player: real(book, change(book, copy.copy(player)))
+        return lambda thing: real(change(copy.copy(thing)))
+    fault.__name__ = change.__name__
+    return fault
+
+
+def any_mark_above_0_is_1(entry):
+    entry.mark = min(entry.mark, 1)
+    return entry
+
+
+def any_track_above_0_is_1(entry):
+    entry.tracked = min(entry.tracked, 1)
+    return entry
+
+
+def a_timed_value_without_a_track_is_accepted(entry):
+    entry.timed_value *= entry.tracked
+    return entry
+
+
+def a_mark_without_a_track_is_accepted(entry):
+    entry.mark *= entry.tracked
+    return entry
+
+
+def a_timed_value_is_bounded(entry):
+    entry.tracked += entry.timed_value > 1_000_000
+    return entry
+
+
+def any_switch_above_0_is_on(book):
+    book.switch = min(book.switch, 1)
+    return book
+
+
+def a_content_is_left_when_closed(book, player):
+    player.content = player.content if player.open else 0
+    return player
+
+
+def any_content_is_accepted(book, player):
+    player.content = book.assets[0].number if player.open and book.assets else player.content
+    return player
+
+
+def a_tracked_use_may_have_no_content(book, player):
+    player.content = player.content or (book.assets[0].number if player.open and book.assets else 0)
+    return player
+
+
+def an_untracked_use_needs_its_content(real):
+    return lambda book, entry, content: real(book, entry, content) and content != 0
+
+
+def the_content_needs_a_key(real):
+    return lambda book, entry, content: real(book, entry, content) and (content == 0 or book.asset(content).key == 1)
+
+
+def the_content_is_compared_in_16_bits(real):
+    return lambda book, entry, content: real(book, entry, content % 65_536 or content)
+
+
+def a_stored_43_is_refused(real):
+    return lambda book, player: real(book, player) and player.code != 43
+
+
+def version_1_is_refused(real):
+    return lambda data: (22, None) if data[3:5] == b"\0\1" and len(data) >= 11 and data[:3] == b"RBK" else real(data)
+
+
+def version_1_is_written_back_as_it_was(real):
+    return lambda book, version=1: real(book, version)
+
+
 ZERO_LIMITS = ("count", "timed", "interval", "accumulated")
-FAULTS = [
-    ("step", resend_compares_time), ("step", resend_is_metered), ("stop", count_goes_back),
-    ("is_grantable", end_is_excluded), ("suitable_entries", inherits_through_illegal),
-    ("suitable_entries", inherits_two_levels), ("step", settles_the_asker_only),
-    ("is_grantable", always_none_grantable), ("end_use", timed_never_goes_back), ("rank", inherited_before_own),
-    ("is_grantable", an_interval_of_0_is_granted_once), ("suitable_entries", a_limit_of_0_is_not_suitable),
-    ("begin", a_limit_of_0_refuses_all), ("is_grantable", a_timer_a_start_and_an_end_of_0_are_never_grantable),
-    ("is_grantable", no_flags_are_never_grantable),
-    *(("is_grantable", a_limit_of_0_is_no_limit(limit)) for limit in ZERO_LIMITS),
-    *(("entry_is_good", a_limit_of_0_gets_25(limit)) for limit in ZERO_LIMITS)]
-READER_FAULTS = [           # of books that no day from a fresh book leads to
+FAULTS = [                  # caught by the ledger on random days, and by a stored day
+    ("answered", resend_compares_time), ("answered", resend_is_metered), ("stop", count_goes_back),
+    ("limits_allow", end_is_excluded), ("suitable_entries", inherits_through_illegal),
+    ("suitable_entries", inherits_two_levels), ("answered", settles_the_asker_only),
+    ("limits_allow", always_none_grantable), ("end_use", timed_never_goes_back), ("rank", inherited_before_own),
+    ("limits_allow", an_interval_of_0_is_granted_once), ("suitable_entries", a_limit_of_0_is_not_suitable),
+    ("begin", a_limit_of_0_refuses_all), ("limits_allow", a_timer_a_start_and_an_end_of_0_are_never_grantable),
+    ("limits_allow", no_flags_are_never_grantable),
+    *(("limits_allow", a_limit_of_0_is_no_limit(limit)) for limit in ZERO_LIMITS),
+    *(("entry_is_good", a_limit_of_0_gets_25(limit)) for limit in ZERO_LIMITS),
+    *(("fails_for_switch", fault) for fault in (
+        switched_off_is_granted, a_mark_does_not_help, a_mark_is_asked_for_with_the_switch_on_too,
+        the_switch_is_asked_of_untracked_entries_too)),
+    *(("none_grantable", fault) for fault in (
+        switched_off_gets_13, switched_off_gets_43_whatever_else_stands, switched_off_gets_43_only_if_all_are,
+        switched_off_gets_43_only_for_the_first)),
+    ("answered", not_taken), ("player_is_good", a_stored_43_is_refused)]
+REPORT_FAULTS = [           # caught by the ledger on random days, and by the report of a written day or by a list by hand
+    *(("record_use", recording(change)) for change in (
+        recorded_with_the_switch_off, recorded_untracked, recorded_with_a_mark_only, recorded_for_the_entrys_asset,
+        recorded_for_the_first_asset, a_time_from_one_second_more_on, a_time_from_one_second_less_on, a_time_whatever_its_length,
+        a_time_from_the_timer_on, a_momentary_use_is_not_recorded, a_momentary_use_is_always_a_time, too_short_a_use_is_not_recorded,
+        seconds_of_one_grant_only)),
+    ("record_use", the_line_is_found_by_its_name_from_behind), ("end_use", recorded_at_the_begin), ("stop", a_stop_records_nothing),
+    ("settle", settling_records_nothing), ("answered", settling_records_the_askers_use_only), ("answered", a_resend_settles),
+    *(("list_is_good", accepts(change)) for change in (
+        too_many_lines_are_accepted, wrong_names_are_accepted, names_are_compared_in_16_bits, names_may_stand_in_another_order,
+        great_times_are_accepted, great_seconds_are_accepted, great_names_are_accepted, further_lines_are_not_judged,
+        two_to_the_62_is_accepted, two_to_the_62_less_one_is_refused)),
+    ("list_is_good", too_few_lines_are_accepted), ("list_is_good", further_lines_are_refused),
+    ("step", a_resend_comes_before_30), ("step", a_bad_list_takes_the_event)]
+READER_FAULTS = [           # of images that no day from a fresh book leads to, or of no event: caught by a stored image
     ("meters_are_good", a_started_interval_of_0_gets_27), ("meters_are_good", a_meter_above_a_limit_of_0_is_accepted),
-    ("open_use_is_good", an_open_use_in_an_interval_of_0_is_accepted)]
+    ("open_use_is_good", an_open_use_in_an_interval_of_0_is_accepted),
+    *(("track_is_good", judged("entry", change)) for change in (
+        any_mark_above_0_is_1, any_track_above_0_is_1, a_timed_value_without_a_track_is_accepted, a_mark_without_a_track_is_accepted,
+        a_timed_value_is_bounded)),
+    ("header_is_good", judged("book", any_switch_above_0_is_on)),
+    *(("player_is_good", judged("player", change)) for change in (
+        a_content_is_left_when_closed, any_content_is_accepted, a_tracked_use_may_have_no_content)),
+    ("content_is_good", an_untracked_use_needs_its_content), ("content_is_good", the_content_needs_a_key),
+    ("content_is_good", the_content_is_compared_in_16_bits), ("player_is_good", a_stored_43_is_refused),
+    ("read", version_1_is_refused), ("write", version_1_is_written_back_as_it_was)]
 
 
 @contextmanager
@@ -320,8 +761,24 @@ def is_caught_by_stored_days(name, fault, stored):
 
 
 def is_caught_by_stored_images(name, fault, stored):
+    """By what is answered, or by what an accepted one is written back as."""
     with planted(name, fault):
-        return any(rights.read(image)[0] != answer for answer, image in stored)
+        for answer, image in stored:
+            code, book = rights.read(image)
+            if code != answer or code == 0 and rights.write(book) != (image if image[4] == rights.NEWEST else images.widened(image)):
+                return True
+    return False
+
+
+def is_caught_by_reports(name, fault):
+    """By the report of a written day, or by a list lent by hand."""
+    with planted(name, fault):
+        try:
+            check_written_days()
+            lent_lists.check()
+        except (Broken, AssertionError):
+            return True
+    return False
 
 
 def check_faults():
@@ -329,9 +786,45 @@ def check_faults():
     for name, fault in FAULTS:
         demand(is_caught(name, fault), f"the fault {fault.__name__} is caught")
         demand(is_caught_by_stored_days(name, fault, stored_days), f"the fault {fault.__name__} is caught by the stored days")
+    for name, fault in REPORT_FAULTS:
+        demand(is_caught(name, fault), f"the fault {fault.__name__} is caught")
+        demand(is_caught_by_reports(name, fault), f"the fault {fault.__name__} is caught by the reports and lists by hand")
     for name, fault in READER_FAULTS + [each for each in FAULTS if each[0] == "entry_is_good"]:
         demand(is_caught_by_stored_images(name, fault, stored_images), f"the fault {fault.__name__} is caught by the stored images")
-    return len(FAULTS + READER_FAULTS)
+    check_other_faults(stored_days)
+    return len(FAULTS + REPORT_FAULTS + READER_FAULTS) + 4
+
+
+def check_other_faults(stored_days):
+    """Faults that only one sort of test can meet."""
+    demand(is_caught_by_reports("answer_record", the_checks_come_before_30), "30 comes before the checks of a record")
+    demand(is_caught_by_stored_days("go_on", a_continue_asks_the_switch, stored_days), "a continue does not ask the switch")
+    for name, fault in (("begin", the_content_is_kept_of_tracked_entries_only), ("end_use", the_content_is_kept_after_the_end)):
+        demand(is_caught_by_kept_contents(name, fault), f"the fault {fault.__name__} is caught")
+
+
+def is_caught_by_kept_contents(name, fault):
+    """By the contents in the book, which is the ledger's content of each open use."""
+    with planted(name, fault):
+        try:
+            check_contents()
+        except Broken:
+            return True
+    return False
+
+
+def check_contents():
+    """After each event of the written days from a fresh book, a player's content is the ledger's of its open use, or 0."""
+    for name, version, book, steps in written_days.written():
+        if is_fresh(book):
+            ledger, book = Ledger(book.assets, book.entries, book.switch), copy.deepcopy(book)
+            lines = rights.zeros(book)
+            for event, answer, _ in steps:
+                rights.step(book, event, lines)
+                ledger.add(event, answer)
+                for index, player in enumerate(book.players):
+                    use = ledger.open_use(index, ledger.T)
+                    demand(player.content == (use.content if use else 0), f"{name}: the content that player {index} has open")
 
 
 def main():
@@ -344,7 +837,8 @@ def main():
             seen[name] = seen.get(name, 0) + times
         done, seed = done + 60, seed + 1
     print(f"{done} events in {seed - 1} days:", ", ".join(f"{n} {seen[n]}" for n in sorted(seen, key=str)))
-    print(f"{check_written_days()} days written by hand")
+    print(f"{check_written_days()} days written by hand, {lent_lists.check()} lists")
+    check_contents()
     print(f"{check_faults()} planted faults caught")
     stored, faults = text_faults.check()
     print(f"{stored} stored texts, {faults} planted faults of their reader caught")

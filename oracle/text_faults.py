@@ -359,6 +359,30 @@ def the_time_0_is_no_limit(real):
     return take_text
 
 
+@fault("Reader.__init__")
+def metering_is_on(real):
+    def made(self):
+        real(self)
+        self.book.switch = 1
+    return made
+
+
+@fault("Reader.add_entries")
+def entries_are_tracked(real):
+    def add_entries(self):
+        self.entry.tracked = 1
+        return real(self)
+    return add_entries
+
+
+@fault("Reader.add_entries")
+def prints_are_tracked(real):
+    def add_entries(self):
+        self.entry.tracked = int(self.entry.is_momentary())
+        return real(self)
+    return add_entries
+
+
 @fault("Reader.take_text")
 def version_not_judged(real):
     return lambda self, shape, text: None if shape == "version" else real(self, shape, text)

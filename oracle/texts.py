@@ -469,7 +469,7 @@ def permissions():
     bad(41, "a reference behind a kind", agreed(ONE, el("permission", empty("play") + references("a"))))
     bad(41, "a reference between kinds", agreed(
         ONE, el("permission", references("a") + empty("play") + references("a") + empty("print"))))
-    for name in ("o-ex:constraint", "oma-dd:access", "o-ex:context", "o-ex:permission", "a"):
+    for name in ("o-ex:constraint", "oma-dd:access", "o-ex:context", "o-ex:permission", "o-ex:requirement", "o-dd:tracked", "a"):
         bad(41, f"permission with {name}", permitted(el(name)))
     bad(41, "permission with a constraint in front of a kind", permitted(el("constraint", el("count", "5")), empty("play")))
     bad(41, "a reference with a context", agreed(ONE, el("permission", el("asset", context("cid:1"), ' o-ex:idref="a"'))))
@@ -487,7 +487,7 @@ def constraints():
             else:
                 bad(41, f"{one}, then {other}", upto(text, "</o-ex:permission>"))
     for name in ("o-dd:individual", "oma-dd:system", "oma-dd:DeviceNumThresh", "oma-dd:discrete", "o-dd:start", "o-ex:context",
-                 "o-ex:constraint", "o-dd:uid", "a"):
+                 "o-ex:constraint", "o-dd:uid", "o-dd:tracked", "o-ex:requirement", "a"):
         bad(41, f"constraint with {name}", limited(el(name)))
     for name in ("oma-dd:DeviceNumThresh", "o-dd:start", "a"):
         bad(41, f"constraint with {name} behind a count", limited(texts["count"], el(name)))
@@ -496,6 +496,9 @@ def constraints():
         bad(41, f"{name} with two constraints", permitted(el(name, empty("constraint") * 2)))
         bad(41, f"{name} with a limit but no constraint", permitted(el(name, el("count", "5"))))
         bad(41, f"{name} with a requirement", permitted(el(name, empty("constraint") + empty("o-ex:requirement"))))
+        tracked = '<o-dd:tracked oma-dd:timed="10" oma-dd:contentAccessGranted="1"/>'      # order 3 tracks entries of a book, not texts
+        bad(41, f"{name} with a requirement that it is tracked", permitted(el(name, el("o-ex:requirement", tracked))))
+        bad(41, f"{name} with tracked alone", permitted(el(name, tracked)))
     start, end = el("start", "1970-01-01T00:00:05Z"), el("end", "1970-01-01T00:00:06Z")
     for name, inside in (("end, then start", end + start), ("two starts", start * 2), ("two ends", end * 2),
                          ("another element", start + "<a/>"), ("start, end, start", start + end + start),
@@ -1174,6 +1177,9 @@ def main():
     head = (f"case, answer, elements, length, name: text\n{{HEAD}} is {HEAD}\n{{ASSET}} is {asset()}\n{{KEY}} is {KEY}\n"
             "{END} is </o-ex:agreement></o-ex:rights>\n{NAMESPACES} are the five of 004\n\n")
     write_file(HERE / "texts.txt", (head + "".join(listing)).encode())
+    code, _, book = xml_rights.read((CRATES / "import" / "stdin").read_bytes())
+    assert code == 0
+    write_file(CRATES / "import" / "stdout", rights.write(book))
     codes = [code for _, _, code, _, _ in cases()]
     print(f"{len(codes)} cases:", ", ".join(f"{codes.count(code)} of {code}" for code in (0, 40, 41, 42)) + f"; {len(data)} bytes")
 

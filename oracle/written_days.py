@@ -1,8 +1,10 @@
 """Days written by hand: a small book, events, and the answers that documents 01 and 02 give them, found by hand.
 
 The book is told in words, as in texts.py: its assets, a bar, its entries, as `9; 1 inherits 9 key | 1 play count 5`; `used_count 2`
-and the like set meters, `started 1` and `first 900` an interval that runs. A line is an event and its answer as document 01 writes
-them: `0.1 begin 1 play 1000: 0 0 1060`, where a code alone has 255 0 behind it. `days.py` stores them behind its random days.
+and the like set meters, `started 1` and `first 900` an interval that runs, `tracked 1`, `timed_value 30` and `mark 1` a track. A
+line is an event and its answer as document 01 writes them: `0.1 begin 1 play 1000: 0 0 1060`, where a code alone has 255 0 behind it.
+`-> 1 2 90` behind it says that content 1 has 2 times and 90 seconds in the report from there on; a report begins with zeros, and what
+is not told stays. `days.py` stores the days behind its random ones, without the report, which the run program does not print.
 """
 
 import re
@@ -11,26 +13,33 @@ import rights
 from rights import Event, Player
 from texts import KINDS, book_of
 
-DAYS = []                   # (name, book, events, answers)
-LINE = re.compile(r"(\d+)\.(\d+) (begin (\d+) (\w+)|continue|stop) (\d+): (\d+)(?: (\d+) (\d+))?")
+DAYS = []                   # (name, version of the image, book, steps: event, answer, report after it)
+LINE = re.compile(r"(\d+)\.(\d+) (begin (\d+) (\w+)|continue|stop) (\d+): (\d+)(?: (\d+) (\d+))?(?: -> (.*))?")
 OPERATIONS = {"begin": rights.BEGIN, "continue": rights.CONTINUE, "stop": rights.STOP}
 
 
-def day(name, words, *lines, time=0, players=()):
+def day(name, words, *lines, time=0, switch=0, players=(), version=rights.NEWEST):
     """A day from this book. Players that have asked before are pairs of their index and their record."""
     book = book_of(words)
-    book.time = time
+    book.time, book.switch = time, switch
     for index, player in players:
         book.players[index] = player
-    events, answers = zip(*map(event_and_answer, lines))
-    DAYS.append((name, book, events, answers))
+    report, steps = {asset.number: (0, 0) for asset in book.assets}, []
+    for line in lines:
+        event, answer, gained = parts_of(line)
+        assert gained.keys() <= report.keys(), f"{name}: {line}"
+        report = report | gained
+        steps.append((event, answer, [(content, *sums) for content, sums in report.items()]))
+    DAYS.append((name, version, book, steps))
 
 
-def event_and_answer(line):
-    player, number, request, asset, kind, t, code, entry, until = LINE.fullmatch(line).groups()
+def parts_of(line):
+    """The event of a line, its answer, and what it says of the report: times and seconds by content."""
+    player, number, request, asset, kind, t, code, entry, until, told = LINE.fullmatch(line).groups()
     operation = OPERATIONS[request.split()[0]]
     event = Event(int(player), int(number), operation, int(asset or 0), KINDS.index(kind) + 1 if kind else 0, int(t))
-    return event, (int(code), int(entry or 255), int(until or 0))
+    sums = [tuple(map(int, part.split())) for part in (told or "").split(",") if part]
+    return event, (int(code), int(entry or 255), int(until or 0)), {content: (times, seconds) for content, times, seconds in sums}
 
 
 # ---- Document 01
@@ -160,11 +169,153 @@ def from_the_middle():
         players=[(0, Player(5, rights.BEGIN, 1, rights.PLAY, 0, 0, 960))])
 
 
-GROUPS = [base, alone, beside, with_dates, from_the_middle]
+# ---- Order 3: the usage report
+
+def switched_off():
+    """The switch off: a tracked entry is grantable only with mark 1, and nothing is recorded."""
+    day("tracked, no mark: 43, and taken", "1 key; 2 key | 1 play tracked 1",
+        "0.1 begin 1 play 1000: 43", "0.1 begin 1 play 1005: 43", "0.1 begin 2 play 1005: 4", "0.2 continue 1010: 14",
+        "0.2 continue 1010: 14", "0.1 begin 1 play 1010: 3", "0.3 stop 1009: 5", "0.3 stop 1010: 14", "15.1 begin 1 play 1010: 43",
+        "0.4 begin 1 display 1010: 12", "0.5 begin 2 play 1010: 12", "0.6 begin 3 play 1010: 10", "15.1 begin 1 play 0: 43",
+        "0.7 begin 1 play 4000000000: 43", "0.8 begin 1 play 4000000001: 5")
+    day("tracked, mark 1: granted, nothing recorded", "1 key | 1 play tracked 1 mark 1; 1 print tracked 1 mark 1",
+        "0.1 begin 1 play 1000: 0 0 1060", "0.2 stop 1030: 0 0 1030", "0.3 begin 1 print 1030: 0 1 1030",
+        "0.4 begin 1 play 1040: 0 0 1100", "0.5 begin 1 play 1100: 0 0 1160", "1.1 stop 1200: 14")
+    day("untracked: as ever", "1 key | 1 play; 1 print count 1",
+        "0.1 begin 1 play 1000: 0 0 1060", "0.2 stop 1030: 0 0 1030", "0.3 begin 1 print 1031: 0 1 1031", "0.4 begin 1 print 1031: 13")
+    for kind in ("play", "display", "execute", "print", "export"):
+        day(f"tracked, no mark, {kind}", f"1 key | 1 {kind} tracked 1 timed_value 5 count 3",
+            f"0.1 begin 1 {kind} 1000: 43", f"0.1 begin 1 {kind} 1000: 43", f"0.2 begin 1 {kind} 1001: 43")
+    day("tracked of the parent, asked for by its heirs", "1 inherits 9 key; 9; 2 inherits 9 key; 7 inherits 9 | 9 play tracked 1",
+        "0.1 begin 1 play 1000: 43", "1.1 begin 2 play 1000: 43", "2.1 begin 9 play 1000: 10", "2.2 begin 7 play 1000: 10",
+        "0.1 begin 1 play 1000: 43")
+    day("the next in the choice is taken", "1 inherits 9 key; 9 | 1 play tracked 1; 1 play tracked 1 end 2000; 9 play count 1",
+        "0.1 begin 1 play 1000: 0 2 1060", "1.1 begin 1 play 1000: 43", "0.2 stop 1010: 0 2 1010", "0.3 begin 1 play 1010: 43")
+    day("marked ones among others", "1 key | 1 play tracked 1; 1 play tracked 1 mark 1 count 1; 1 play tracked 1 timed_value 9",
+        "0.1 begin 1 play 1000: 0 1 1060", "1.1 begin 1 play 1000: 43")
+
+
+def none_left():
+    """43 in place of 13 exactly if for some suitable entry there is no ground but the switch."""
+    for spent in ("count 0", "timed 0", "interval 0", "accumulated 0", "start 2000", "end 900", "count 1 used_count 1",
+                  "timed 1 used_timed 1", "accumulated 9 used_seconds 9", "interval 100 started 1 first 900"):
+        day(f"the switch and {spent}: 13", f"1 key | 1 play tracked 1 {spent}", "0.1 begin 1 play 1000: 13",
+            "0.1 begin 1 play 1000: 13", time=1000)
+        day(f"the switch and {spent} beside the switch alone: 43", f"1 key | 1 play tracked 1 {spent}; 1 play tracked 1",
+            "0.1 begin 1 play 1000: 43", time=1000)
+        day(f"{spent} alone beside the switch alone: 43", f"1 inherits 9 key; 9 | 1 play {spent}; 9 play tracked 1",
+            "0.1 begin 1 play 1000: 43", "0.1 begin 1 play 1000: 43", "0.2 begin 1 play 1000: 43", time=1000)
+        day(f"{spent} beside the switch and {spent}: 13", f"1 key | 1 play {spent}; 1 play tracked 1 {spent}",
+            "0.1 begin 1 play 1000: 13", time=1000)
+        day(f"{spent} with mark 1: 13", f"1 key | 1 play tracked 1 mark 1 {spent}", "0.1 begin 1 play 1000: 13", time=1000)
+        day(f"{spent} with the switch on: 13", f"1 key | 1 play tracked 1 {spent}", "0.1 begin 1 play 1000: 13", time=1000, switch=1)
+    day("43 of another kind or of another asset is not asked for", "1 key; 2 key | 1 play count 0; 1 display tracked 1; 2 play tracked 1",
+        "0.1 begin 1 play 1000: 13", "0.2 begin 1 display 1000: 43", "0.3 begin 2 play 1000: 43", "0.4 begin 1 execute 1000: 12")
+    day("tracked of an illegal asset is not suitable",
+        "1 inherits 7 key; 7 inherits 9; 9 | 1 play count 0; 7 play tracked 1; 9 play tracked 1",
+        "0.1 begin 1 play 1000: 13")
+    day("from 43 to 13 as the dates pass", "1 key | 1 play tracked 1 start 1000 end 2000",
+        "0.1 begin 1 play 999: 13", "0.2 begin 1 play 1000: 43", "0.3 begin 1 play 2000: 43", "0.4 begin 1 play 2001: 13")
+    day("from a grant to 43 as the count is spent", "1 key | 1 play tracked 1; 1 play tracked 1 mark 1 count 1; 1 play count 1",
+        "0.1 begin 1 play 1000: 0 1 1060", "1.1 begin 1 play 1000: 0 2 1060", "2.1 begin 1 play 1000: 43", "0.2 begin 1 play 1000: 11",
+        "0.3 stop 1000: 0 1 1000", "0.4 begin 1 play 1000: 43")
+    day("a timed count that comes back in place of 43", "1 key | 1 play tracked 1; 1 play timed 1 timer 30",
+        "0.1 begin 1 play 1000: 0 1 1060", "1.1 begin 1 play 1010: 43", "0.2 stop 1020: 0 1 1020", "1.2 begin 1 play 1020: 0 1 1080",
+        "1.3 continue 1060: 0 1 1120", "2.1 begin 1 play 1119: 43")
+
+
+def recorded():
+    """The switch on: an ended use of a tracked entry gives its content its seconds, and a time from the timed value on."""
+    day("ended by a stop", "1 key; 2 key | 1 play tracked 1 timed_value 30",
+        "0.1 begin 1 play 1000: 0 0 1060", "0.2 stop 1029: 0 0 1029 -> 1 0 29", "0.2 stop 1029: 0 0 1029",
+        "0.3 begin 1 play 2000: 0 0 2060", "0.4 stop 2030: 0 0 2030 -> 1 1 59", "0.5 stop 2030: 14",
+        "0.6 begin 1 play 3000: 0 0 3060", "0.7 stop 3031: 0 0 3031 -> 1 2 90", switch=1)
+    day("ended by its until, whoever asks next", "1 key; 2 key | 1 play tracked 1 timed_value 60",
+        "0.1 begin 1 play 1000: 0 0 1060", "1.1 stop 1059: 14", "0.1 begin 1 play 1060: 0 0 1060", "1.3 stop 1060: 3",
+        "1.2 stop 1060: 14 -> 1 1 60", "0.2 begin 1 play 1060: 0 0 1120", "0.3 continue 1119: 0 0 1179",
+        "2.1 begin 3 play 1179: 10 -> 1 2 179", switch=1)
+    day("cut by an end, an interval and its seconds",
+        "1 key | 1 play tracked 1 timed_value 60 end 1009; 1 display tracked 1 timed_value 5 interval 5; "
+        "1 execute tracked 1 timed_value 7 accumulated 6",
+        "0.1 begin 1 play 1000: 0 0 1010", "1.1 begin 1 display 1000: 0 1 1005", "2.1 begin 1 execute 1000: 0 2 1006",
+        "3.1 stop 1004: 14", "3.2 stop 1005: 14 -> 1 1 5", "3.3 stop 1006: 14 -> 1 1 11", "3.4 stop 1010: 14 -> 1 1 21", switch=1)
+    for timed_value, times in ((0, 1), (59, 1), (60, 1), (61, 0), (4_294_967_295, 0)):
+        day(f"a use of 60 seconds, timed value {timed_value}", f"1 key | 1 play tracked 1 timed_value {timed_value}",
+            "0.1 begin 1 play 1000: 0 0 1060", f"0.2 continue 1060: 14 -> 1 {times} 60", switch=1)
+    for timed_value, times in ((0, 1), (1, 0), (60, 0)):
+        day(f"stopped in the second of its begin, timed value {timed_value}", f"1 key | 1 play tracked 1 timed_value {timed_value}",
+            "0.1 begin 1 play 1000: 0 0 1060", f"0.2 stop 1000: 0 0 1000 -> 1 {times} 0", switch=1)
+        for kind in ("print", "export"):
+            day(f"a {kind} ends as it begins, timed value {timed_value}", f"1 key; 2 key | 1 {kind} tracked 1 timed_value {timed_value}",
+                f"0.1 begin 1 {kind} 1000: 0 0 1000 -> 1 {times} 0", f"0.1 begin 1 {kind} 1000: 0 0 1000",
+                f"0.2 begin 1 {kind} 1000: 0 0 1000 -> 1 {2 * times} 0", switch=1)
+    day("the timed value of the report is not the timer of the timed count", "1 key | 1 play tracked 1 timed_value 20 timed 1 timer 40",
+        "0.1 begin 1 play 1000: 0 0 1060", "0.2 stop 1030: 0 0 1030 -> 1 1 30", "0.3 begin 1 play 1030: 0 0 1090",
+        "1.1 begin 1 play 1090: 13 -> 1 2 90", switch=1)
+    day("untracked entries beside a tracked one", "1 key | 1 play; 1 display tracked 1; 1 print",
+        "0.1 begin 1 play 1000: 0 0 1060", "1.1 begin 1 display 1000: 0 1 1060", "2.1 begin 1 print 1000: 0 2 1000",
+        "0.2 stop 1040: 0 0 1040", "1.2 stop 1050: 0 1 1050 -> 1 1 50", switch=1)
+    day("a mark changes nothing with the switch on", "1 key | 1 play tracked 1 mark 1; 1 print tracked 1 mark 1",
+        "0.1 begin 1 play 1000: 0 0 1060", "0.2 stop 1040: 0 0 1040 -> 1 1 40", "0.3 begin 1 print 1040: 0 1 1040 -> 1 2 40", switch=1)
+    day("a resend and what is turned away record nothing, also where uses are over", "1 key | 1 play tracked 1",
+        "0.1 begin 1 play 1000: 0 0 1060", "1.1 begin 1 play 1000: 0 0 1060", "0.1 begin 1 play 2000: 0 0 1060", "0.1 stop 2000: 4",
+        "0.3 stop 2000: 3", "16.1 stop 2000: 2", "0.2 stop 999: 5", "0.2 stop 4000000001: 5", "0.2 stop 1060: 14 -> 1 2 120", switch=1)
+
+
+def contents():
+    """The content is the asset that the begin asked for, and is kept with the use."""
+    day("an entry of the parent, used for its heirs",
+        "1 inherits 9 key; 2 inherits 9 key; 9 | 9 play tracked 1 timed_value 30; 2 print tracked 1",
+        "0.1 begin 1 play 1000: 0 0 1060", "1.1 begin 2 play 1000: 0 0 1060", "0.2 stop 1040: 0 0 1040 -> 1 1 40",
+        "1.2 stop 1020: 5", "1.2 continue 1040: 0 0 1100", "1.3 stop 1050: 0 0 1050 -> 2 1 50",
+        "0.3 begin 2 print 1050: 0 1 1050 -> 2 2 50", "0.4 begin 1 play 1050: 0 0 1110", "2.1 begin 9 play 1110: 10 -> 1 2 100", switch=1)
+    day("lines in the book's order", "65535 key; 3 key; 40000 key | 3 play tracked 1; 65535 play tracked 1; 40000 play tracked 1",
+        "0.1 begin 40000 play 0: 0 2 60", "1.1 begin 65535 play 0: 0 1 60", "2.1 begin 3 play 0: 0 0 60", "0.2 stop 1: 0 2 1 -> 40000 1 1",
+        "1.2 stop 2: 0 1 2 -> 65535 1 2", "2.2 stop 3: 0 0 3 -> 3 1 3", switch=1)
+    opened = Player(1, rights.BEGIN, 1, rights.PLAY, 0, 0, 1050, 1, 0, 990, 1050, 2)
+    day("the content of the image counts, not the stored request", "1 key; 2 key | 1 play tracked 1 timed_value 61",
+        "0.2 continue 1000: 0 0 1060", "0.3 stop 1060: 14 -> 2 1 70", time=1000, switch=1, players=[(0, opened)])
+    day("the content may be an asset without a key", "1 key; 2; 3 inherits 2 | 1 play tracked 1",
+        "1.1 stop 1050: 14 -> 2 1 60", time=1000, switch=1, players=[(0, opened)])
+    bare = Player(1, rights.BEGIN, 1, rights.PLAY, 0, 0, 1050, 1, 0, 990, 1050, 0)
+    day("an open use without content, of an untracked entry", "1 key | 1 play; 1 display tracked 1",
+        "0.2 continue 1000: 0 0 1060", "0.3 stop 1030: 0 0 1030", time=1000, switch=1, players=[(0, bare)])
+
+
+def continued():
+    """A continue does not look at the switch; the switch and the tracks stay."""
+    opened = (0, Player(1, rights.BEGIN, 1, rights.PLAY, 0, 0, 1050, 1, 0, 990, 1050, 1))
+    day("a use open from before the switch was off", "1 key | 1 play tracked 1",
+        "0.2 continue 1010: 0 0 1070", "1.1 begin 1 play 1010: 43", "0.3 stop 1020: 0 0 1020", "0.4 begin 1 play 1020: 43",
+        time=1000, players=[opened])
+    day("the same with the switch on", "1 key | 1 play tracked 1",
+        "0.2 continue 1010: 0 0 1070", "1.1 begin 1 play 1010: 0 0 1070", "0.3 stop 1020: 0 0 1020 -> 1 1 30",
+        "0.4 begin 1 play 1020: 0 0 1080", time=1000, switch=1, players=[opened])
+    refused = (3, Player(7, rights.BEGIN, 1, rights.PLAY, 43, 255, 0))
+    day("a stored 43, asked for again", "1 key | 1 play",
+        "3.7 begin 1 play 5: 43", "3.7 begin 1 display 1000: 4", "3.8 begin 1 play 1000: 0 0 1060", time=1000, players=[refused])
+
+
+def older_images():
+    """Images of version 1: the switch is off, nothing is tracked, no open use has a content."""
+    opened = (0, Player(1, rights.BEGIN, 1, rights.PLAY, 0, 0, 1050, 1, 0, 990, 1050))
+    for version in rights.VERSIONS:
+        day(f"the middle of a day, version {version}", "1 key | 1 play count 2 used_count 1; 1 print",
+            "0.2 continue 1010: 0 0 1070", "1.1 begin 1 play 1010: 0 0 1070", "0.3 stop 1020: 0 0 1020", "0.4 begin 1 print 1020: 0 1 1020",
+            "0.5 begin 1 play 1020: 13", time=1000, players=[opened], version=version)
+        day(f"a stored 43, version {version}", "1 key | 1 play", "3.7 begin 1 play 5: 43", "3.8 begin 1 play 1001: 0 0 1061",
+            time=1000, players=[(3, Player(7, rights.BEGIN, 1, rights.PLAY, 43, 255, 0))], version=version)
+    day("the afternoon of document 01, version 1",
+        "1 inherits 9 key; 2 inherits 9 key; 9; 7 inherits 9 | 9 play count 2; 9 play accumulated 100; 1 display timed 1 timer 30",
+        "0.1 begin 1 play 1000: 0 0 1060", "0.1 begin 1 play 1005: 0 0 1060", version=1)
+    day("no assets and no entries, version 1", "|", "0.1 begin 1 play 1000: 10", "0.2 stop 1000: 14", version=1)
+
+
+GROUPS = [base, alone, beside, with_dates, from_the_middle, switched_off, none_left, recorded, contents, continued, older_images]
 
 
 def written():
-    """(name, book, events, answers) of every day, in order."""
+    """(name, version, book, steps) of every day, in order."""
     if not DAYS:
         for group in GROUPS:
             group()
@@ -174,11 +325,11 @@ def written():
 def days():
     """(image, event bytes, the text that the run program prints) of every day. The rules of rights.py must agree with the answers."""
     seen = {}
-    for name, book, events, answers in written():
-        image, records = rights.write(book), b"".join(map(rights.encode, events))
+    for name, version, book, steps in written():
+        image, records = rights.write(book, version), b"".join(rights.encode(event) for event, _, _ in steps)
         assert (image, records) not in seen, f"{name} is there already, as {seen[image, records]}"
         seen[image, records] = name
-        text = "".join("%d %d %d\n" % answer for answer in answers)
+        text = "".join("%d %d %d\n" % answer for _, answer, _ in steps)
         got = rights.run(image, records)
         assert got == text, f"{name}: by hand\n{text}by the second program\n{got}"
         yield image, records, text

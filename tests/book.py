@@ -1,6 +1,6 @@
 #!/usr/bin/env python3
-"""Tests of tools/book.py: messages, files kept, round trips, what is left, why a begin is refused, the book after a day, the book
-of an XML rights object.
+"""Tests of tools/book.py: messages, files kept, round trips, what is left, why a begin is refused, the book after a day, its report,
+the book of an XML rights object.
 
     python3 tests/book.py [BOOKS [PART ..]]
 
@@ -28,10 +28,12 @@ import days
 import rights
 import texts as stored
 import xml_rights
-from books import imported, library, records, state, texts, why, words
+from books import imported, library, records, report, state, texts, why, words
+from ledger import Ledger
 from rights import LATEST, Asset, Book, Entry, Event
 
 AFTERNOON = ROOT / "examples" / "afternoon"
+METERED = ROOT / "examples" / "metered"
 OBJECTS = ROOT / "examples" / "rights"
 RUN = ROOT / "target" / "bin" / "run"
 passed = failed = 0
@@ -84,7 +86,11 @@ BOOK = "asset 1 key\nasset 9 parent\n"
 ENTRY = "entry 0: object 1, asset 1, play"
 NINES = "9" * 5000
 BOOK_LINES = [          # the text after BOOK, the number of the line that is named, a part of the message
-    ("count 2", 3, "a line begins with time, asset, entry or player, not with `count`"),
+    ("count 2", 3, "a line begins with time, metering, asset, entry or player, not with `count`"),
+    ("metering", 3, "the line ends where the switch is expected"),
+    ("metering 1", 3, "`1` is not a known switch; known are: off, on"),
+    ("metering on\nmetering off", 4, "`metering` is given twice"),
+    ("metering on off", 3, "`off` is not understood here"),
     ("time", 3, "the line ends where the time is expected"),
     ("time 5\ntime 6", 4, "`time` is given twice"),
     ("time 4000000001", 3, "4000000000 is the greatest"),
@@ -154,6 +160,15 @@ BOOK_LINES = [          # the text after BOOK, the number of the line that is na
     (f"{ENTRY}, used seconds 3", 3, "`seconds` is not a known meter; known are: count, timed, accumulated"),
     (f"{ENTRY}, interval 5, first 7", 3, "the first use is after the book's time (0)"),
     (f"{ENTRY}, cont 2", 3, "`cont` is not understood in an entry"),
+    (f"{ENTRY}, mark", 3, "a timed value and a mark belong to a tracked entry: `tracked` is missing"),
+    (f"{ENTRY}, timed value 1", 3, "a timed value and a mark belong to a tracked entry: `tracked` is missing"),
+    (f"{ENTRY}, tracked, tracked", 3, "`tracked` is given twice"),
+    (f"{ENTRY}, tracked, mark, mark", 3, "`mark` is given twice"),
+    (f"{ENTRY}, tracked, timed value 1, timed value 1", 3, "`timed value` is given twice"),
+    (f"{ENTRY}, tracked, timed value", 3, "the line ends where the timed value is expected"),
+    (f"{ENTRY}, tracked, timed value 4294967296", 3, "4294967295 is the greatest"),
+    (f"{ENTRY}, tracked, timed value 49711d", 3, "4294967295 is the greatest"),
+    (f"{ENTRY}, tracked 1", 3, "`1` is not understood in an entry"),
     ("entry 0: object 1, asset 1, print, accumulated 5", 3, "print and export take no time"),
     ("entry 0: object 1, asset 1, print, accumulated 0", 3, "print and export take no time"),
     ("entry 0: object 1, asset 1, export, timed 5, timer 5", 3, "print and export take no time"),
@@ -165,8 +180,16 @@ BOOK_LINES = [          # the text after BOOK, the number of the line that is na
     ("player 0: number 1, halt, refused 14", 3, "`halt` is not a known operation; known are: begin, continue, stop"),
     ("player 0: number 1, begin 1 watch, refused 13", 3, "`watch` is not a known kind; known are: play"),
     ("player 0: number 1, stop", 3, "the last answer is expected here"),
-    ("player 0: number 1, stop, refused 7", 3, "a stored refusal is 10 to 15, not 7"),
-    ("player 0: number 1, stop, refused 16", 3, "a stored refusal is 10 to 15, not 16"),
+    ("player 0: number 1, stop, refused 7", 3, "a stored refusal is 10 to 15 or 43, not 7"),
+    ("player 0: number 1, stop, refused 16", 3, "a stored refusal is 10 to 15 or 43, not 16"),
+    ("player 0: number 1, stop, refused 30", 3, "a stored refusal is 10 to 15 or 43, not 30"),
+    ("player 0: number 1, stop, refused 44", 3, "a stored refusal is 10 to 15 or 43, not 44"),
+    (f"{ENTRY}, tracked\nplayer 0: number 1, stop, refused 14, open 0 0 6", 4, "entry 0 is tracked: `content` and the asset"),
+    (f"{ENTRY}, tracked\nplayer 0: number 1, stop, refused 14, open 0 0 6 content 0", 4, "1 is the least"),
+    (f"{ENTRY}, tracked\nplayer 0: number 1, stop, refused 14, open 0 0 6 content 2", 4, "open use is 2, which is not in the book"),
+    (f"{ENTRY}\nplayer 0: number 1, stop, refused 14, open 0 0 6 content 8", 4, "open use is 8, which is not in the book"),
+    (f"{ENTRY}\nplayer 0: number 1, stop, refused 14, open 0 0 6 content", 4, "the line ends where the content of the open use"),
+    ("player 0: number 1, stop, refused 14, content 1", 3, "`content 1` is not understood here"),
     (f"player 0: number 1, stop, refused {NINES}", 3, "4294967295 is the greatest"),
     ("player 0: number 1, stop, refused 14, refused 14", 3, "`refused 14` is not understood here"),
     ("player 0: number 1, stop, refused 14\nplayer 0: number 1, stop, refused 14", 4, "player 0 is in the book already"),
@@ -224,9 +247,9 @@ def test_inputs(folder):
     shutil.copy(AFTERNOON / "book.txt", text)
     shutil.copy(AFTERNOON / "events.bin", events)
     out = folder / "out"
-    for command in ("show", "text", "left", "why", "diff", "explain", "make", "events", "after", "import"):
+    for command in ("show", "text", "left", "why", "diff", "explain", "make", "events", "after", "report", "import"):
         rest = {"diff": [image], "explain": [AFTERNOON / "expected.txt"], "make": [out], "events": [out],
-                "after": [events, out], "why": [0, 1, "play"], "import": [out]}.get(command, [])
+                "after": [events, out], "report": [events], "why": [0, 1, "play"], "import": [out]}.get(command, [])
         refused(f"{command}: missing file", "there is no such file", command, folder / "none", *rest)
         refused(f"{command}: folder", "this is a folder", command, folder, *rest)
         refused(f"{command}: empty name", "there is no such file", command, "", *rest)
@@ -244,6 +267,15 @@ def test_inputs(folder):
     refused("after: both from standard input", "only one", "after", "-", "-", out)
     refused("after: the book is text", "this is a text; `book.py make`", "after", text, events, out)
     refused("explain: both from standard input", "only one", "explain", "-", "-")
+    refused("report: both from standard input", "only one", "report", "-", "-")
+    refused("report: missing events", "there is no such file", "report", image, folder / "none")
+    refused("report: events are text", "this is a text", "report", image, AFTERNOON / "events.txt")
+    refused("report: events are a book's text", "this is a text", "report", image, text)
+    refused("report: events are a book", "this is a book image", "report", image, image)
+    refused("report: the book is text", "this is a text; `book.py make`", "report", text, events)
+    refused("report: an option twice", "usage: book.py report BOOK EVENTS [--csv]", "report", image, events, "--csv", "--csv")
+    (folder / "metered.txt").write_text("metering on\n")
+    refused("explain: a book's text that begins with metering", "this is a text", "explain", folder / "metered.txt", "/dev/null")
     refused("import: the book to standard output", "standard output is for", "import", OBJECTS / "film.xml", "-")
     refused("import: a book image", "40: `R` stands where a tag must (this is a book image already)", "import", image, out)
     refused("import: a book's text", "line 1, column 1: 40: `#` stands where a tag must", "import", text, out)
@@ -273,7 +305,8 @@ def test_inputs(folder):
     refused("make: not UTF-8", "latin.txt, line 2: byte 0xfc is not UTF-8", "make", folder / "latin.txt", out)
     (folder / "wide.txt").write_text("asset 1 key\n", encoding="utf-16")
     refused("make: UTF-16", "UTF-16; save it as UTF-8", "make", folder / "wide.txt", out)
-    for cut, code in ((b"", 20), (b"RBK", 20), (b"RBX" + bytes(400), 21), (b"RBK\0\2" + bytes(400), 22)):
+    for cut, code in ((b"", 20), (b"RBK", 20), (b"RBX" + bytes(400), 21), (b"RBK\0\0" + bytes(400), 22), (b"RBK\0\3" + bytes(400), 22),
+                      (b"RBK\0\2" + bytes(457), 20), (b"RBK\0\2" + bytes(459), 20), (b"RBK\0\1" + bytes(458), 20)):
         (folder / "bad.rbk").write_bytes(cut)
         refused(f"show: an image refused with {code}", f"with {code}", "show", folder / "bad.rbk")
         refused(f"after: an image refused with {code}", f"with {code}", "after", folder / "bad.rbk", events, out)
@@ -287,7 +320,7 @@ def test_forgiving(folder):
     """What a text may contain: Windows line ends, tabs, a byte order mark, an empty file, no line feed at the end."""
     plain = "time 5\nasset 1 key\nentry 0: object 1, asset 1, play, count 2\n"
     wanted = call("make", "-", "-", stdin=plain.encode())
-    check("make from and to standard streams", wanted.status == 0 and wanted.err == "" and len(wanted.out) == 451, wanted)
+    check("make from and to standard streams", wanted.status == 0 and wanted.err == "" and len(wanted.out) == 531, wanted)
     for name, text in (("Windows line ends", plain.replace("\n", "\r\n")), ("old line ends", plain.replace("\n", "\r")),
                        ("tabs", plain.replace(" ", "\t")), ("no colons or commas", re.sub("[:,]", "", plain)),
                        ("no line feed at the end", plain[:-1]), ("empty lines", plain.replace("\n", "\n\n  \n# x\n"))):
@@ -296,7 +329,7 @@ def test_forgiving(folder):
     done = call("make", "-", "-", stdin=plain.encode("utf-8-sig"))
     check("make: a byte order mark", done.status == 0 and done.out == wanted.out and "byte order mark" in done.err, done)
     done = call("make", "-", "-", stdin=b"")
-    check("make: an empty text is an empty book", done.status == 0 and len(done.out) == 395, done)
+    check("make: an empty text is an empty book", done.status == 0 and len(done.out) == 463, done)
     done = call("events", "-", "-", stdin=b"")
     check("events: an empty text", done.status == 0 and done.out == b"" and done.err == "", done)
     done = call("left", "-", stdin=call("make", "-", "-", stdin=b"").out)
@@ -320,7 +353,9 @@ def test_times(folder):
             ("interval 5, first 2027-04-30", "first", day), ("interval 7d", "interval", 604_800),
             ("interval 1 h 30 min", "interval", 5400), ("interval 1h30m", "interval", 5400), ("interval 90", "interval", 90),
             ("interval 2 min, count 5", "interval", 120), ("accumulated 1 d 1 s", "accumulated", 86_401),
-            ("timed 3, timer 1min", "timer", 60), ("accumulated 2h, used accumulated 1 h", "used_seconds", 3600)):
+            ("timed 3, timer 1min", "timer", 60), ("accumulated 2h, used accumulated 1 h", "used_seconds", 3600),
+            ("tracked, timed value 2 min, timed 3", "timed_value", 120), ("timed 3, tracked, timed value 7", "timed", 3),
+            ("timed value 7, tracked", "tracked", 1)):
         got = getattr(entry(line), field)
         check(f"times: {line}", got == value, f"wanted {value}, got {got}")
     rng, parts = random.Random(5), []
@@ -388,7 +423,7 @@ def test_files(folder):
           and records_file.read_bytes() == before[records_file] and not new.exists())
     check("a failed write leaves nothing beside it", not [path for path in folder.iterdir() if path.name.startswith(".")])
     done = call("make", other, image)
-    check("make replaces a book", done.status == 0 and len(image.read_bytes()) == 400, done)
+    check("make replaces a book", done.status == 0 and len(image.read_bytes()) == 468, done)
     check("make keeps the file's mode", image.stat().st_mode & 0o777 == 0o640)
     (folder / "to").symlink_to(image)
     done = call("make", text, folder / "to")
@@ -431,7 +466,7 @@ def test_streams(folder):
 
 def wild_book(rng):
     """A legal book with any value in any field that the rules allow."""
-    book = Book(time=rng.choice((0, 60, rng.randrange(LATEST + 1), LATEST)))
+    book = Book(time=rng.choice((0, 60, rng.randrange(LATEST + 1), LATEST)), switch=rng.randint(0, 1))
     numbers = rng.sample(range(1, 65_536), rng.choice((0, 1, 2, 5, 64)))
     for number in numbers:
         inherit = rng.choice((0, 0, rng.choice(numbers), rng.randint(1, 65_535)))
@@ -450,7 +485,7 @@ def wild_book(rng):
                 (rights.COUNT, entry.used_count, len(uses)), (rights.TIMED, entry.used_timed, len(uses)),
                 (rights.ACCUMULATED, entry.used_seconds, seconds))):
             for player in uses:
-                player.open = player.open_entry = player.begin = player.until = 0
+                player.open = player.open_entry = player.begin = player.until = player.content = 0
     assert rights.read(rights.write(book))[0] == 0
     return book
 
@@ -477,6 +512,8 @@ def wild_entry(rng, asset, now):
     if flags & rights.ACCUMULATED:
         entry.accumulated = rng.choice((0, 1, 500, 100_000_000))
         entry.used_seconds = rng.randint(0, entry.accumulated)
+    if rng.random() < 0.4:
+        entry.tracked, entry.mark, entry.timed_value = 1, rng.randint(0, 1), rng.choice((0, 1, 60, 2**32 - 1))
     return entry
 
 
@@ -485,7 +522,7 @@ def wild_player(rng, book, player):
     player.operation = rng.randint(1, 3)
     if player.operation == 1:
         player.asset, player.kind = rng.randrange(65_536), rng.randint(1, 5)
-    player.code, player.entry = rng.randint(10, 15), 255
+    player.code, player.entry = rng.choice((*range(10, 16), 43)), 255
     if book.entries and rng.random() < 0.5:
         player.code, player.entry = 0, rng.randrange(len(book.entries))
         player.answer_until = rng.choice((0, 1119, rng.randrange(2**32), 2**32 - 1))
@@ -494,8 +531,9 @@ def wild_player(rng, book, player):
         player.open, player.open_entry = 1, position
         player.begin = max(0, book.time - rng.choice((0, 1, 30, 59, 10**6)))
         player.until = book.time + rng.choice((1, 30, 60))
+        player.content = rng.choice(book.assets).number if book.entries[position].tracked or rng.random() < 0.5 else 0
         if not rights.open_use_is_good(book, player):
-            player.open = player.open_entry = player.begin = player.until = 0
+            player.open = player.open_entry = player.begin = player.until = player.content = 0
 
 
 def played_book(rng, seed):
@@ -508,8 +546,9 @@ def played_book(rng, seed):
 
 
 def play(book, events):
+    lines = rights.zeros(book)
     for record in rights.records_in(events):
-        rights.answer_record(book, record)
+        rights.answer_record(book, record, lines)
 
 
 def random_books(how_many):
@@ -520,11 +559,14 @@ def random_books(how_many):
 
 def test_round_trips(folder, how_many):
     path, image = folder / "trip.txt", folder / "trip.rbk"
-    opened = never = 0
+    opened = never = tracked = metered = contents = 0
     for seed, rng, book in random_books(how_many):
         data = rights.write(book)
         opened += any(player.open for player in book.players)
         never += any(entry.has_limit_of_zero() for entry in book.entries)
+        tracked += any(entry.tracked and entry.timed_value for entry in book.entries)
+        metered += book.switch
+        contents += any(player.content for player in book.players)
         text = "\n".join(texts.text_lines(book)) + "\n"
         path.write_text(text)
         again = texts.book_of_text(path)
@@ -538,6 +580,21 @@ def test_round_trips(folder, how_many):
             check(f"show of book {seed}", done.status == 0 and done.err == "", done)
     check("many of the books have open uses", opened > how_many / 4, str(opened))
     check("many of the books have limits of 0", never > how_many / 4, str(never))
+    check("many of the books have tracked entries, metering on, contents", min(tracked, metered, contents) > how_many / 8,
+          f"{tracked} {metered} {contents}")
+
+
+def test_older(folder):
+    """Images of version 1: read like those of the newest, with nothing metered; `make` writes the newest."""
+    for seed, rng, book in random_books(20):
+        old, new = folder / "old.rbk", folder / "new.rbk"
+        old.write_bytes(rights.write(book, 1))
+        shown = call("text", old).out
+        new.write_bytes(call("make", "-", "-", stdin=shown).out)
+        check(f"book {seed} of version 1, as text and made again", rights.read(old.read_bytes()) == rights.read(new.read_bytes())
+              and new.read_bytes()[4] == rights.NEWEST and b"tracked" not in shown and b"metering" not in shown, shown.decode()[:300])
+        check(f"book {seed} of version 1 shows the same", call("show", old).out == call("show", new).out)
+        check(f"book {seed} of version 1 does not differ", call("diff", old, new).status == 0)
 
 
 # ---- diff
@@ -545,6 +602,7 @@ def test_round_trips(folder, how_many):
 def fields_of(book):
     """(what diff names, the record, a field) for the fields of a book that can be one larger in some other book."""
     yield "time", book, "time"
+    yield "metering", book, "switch"
     for asset in book.assets:
         yield f"asset {asset.number}", asset, "inherit"
     for position, entry in enumerate(book.entries):
@@ -555,7 +613,7 @@ def fields_of(book):
         fields = ["number"] if player.number else []
         fields += ["asset"] if player.operation == rights.BEGIN else []
         fields += ["entry", "answer_until"] if player.number and player.code == 0 else ["code"] if player.code else []
-        fields += ["open_entry", "begin", "until"] if player.open else []
+        fields += ["open_entry", "begin", "until", "content"] if player.open else []
         yield from ((f"player {index}", player, field) for field in fields)
 
 
@@ -596,7 +654,7 @@ OTHER_KIND = {1: 2, 2: 3, 3: 1, 4: 5, 5: 4}
 
 
 def copy_of(book):
-    return Book(book.time, book.assets, [copy.copy(entry) for entry in book.entries], [copy.copy(p) for p in book.players])
+    return Book(book.time, book.assets, [copy.copy(entry) for entry in book.entries], [copy.copy(p) for p in book.players], book.switch)
 
 
 def free_player(book, t):
@@ -620,7 +678,7 @@ def asked_alone(rng, book, position, t):
 
 
 def granted_by_oracle(book, events):
-    return any(rights.step(copy_of(book), event)[0] == 0 for event in events)
+    return any(rights.step(copy_of(book), event, rights.zeros(book))[0] == 0 for event in events)
 
 
 def granted_by_run(folder, book, events):
@@ -660,7 +718,7 @@ def test_left(folder, how_many):
 
 def figures(book, t, lines):
     """The figures of `left` are the meters after a request at t that itself changes no meter."""
-    answer = rights.step(book, Event(*free_player(book, t), rights.STOP, 0, 0, t))
+    answer = rights.step(book, Event(*free_player(book, t), rights.STOP, 0, 0, t), rights.zeros(book))
     yield answer[0] == 14, "nothing to stop"
     for position, entry in enumerate(book.entries):
         line = lines[position]
@@ -697,8 +755,12 @@ entry 12: object 1, asset 1, display, timed 0, timer 30, count 3, used count 3
 entry 13: object 1, asset 1, print, interval 0
 entry 14: object 1, asset 1, play, interval 0, first 1000, count 5, used count 1
 entry 15: object 1, asset 7, play, count 0, timed 0, interval 0, accumulated 0, end 900
-player 0: number 1, begin 1 play, granted 9 1060, open 9 1000 1060
+entry 16: object 1, asset 1, play, tracked, timed value 90
+entry 17: object 1, asset 1, play, tracked, mark
+entry 18: object 1, asset 1, play, tracked, timed value 7d, count 1, used count 1
+player 0: number 1, begin 1 play, granted 9 1060, open 9 1000 1060 content 1
 player 3: number 1, begin 1 play, granted 0 1040, open 0 980 1040
+player 4: number 1, begin 1 play, refused 43
 """)
     image = folder / "cases.rbk"
     call("make", path, image)
@@ -726,6 +788,11 @@ entry 13: print of asset 1; no count and no seconds to use up; open: nobody; nev
 entry 14: play of asset 1; count 1 of 5 used, 4 left; open: nobody; never granted: the interval is 0
 entry 15: play of asset 7; count 0: never; timed count 0: never; seconds 0: never; open: nobody; never granted: the count is 0 and \
 the timed count is 0 and the interval is 0 and the seconds are 0
+entry 16: play of asset 1; no count and no seconds to use up; open: nobody; nobody can use it: metering is off \
+(it is tracked and has no mark)
+entry 17: play of asset 1; no count and no seconds to use up; open: nobody; can be granted, no end
+entry 18: play of asset 1; count 1 of 1 used, 0 left; open: nobody; nobody can use it: the count is used up and metering is off \
+(it is tracked and has no mark)
 """
     check("left: a book with every case", done.out.decode() == wanted, done.out.decode())
     done = call("left", "--at", "1970-01-01", "00:16:40", "(1000)", image)
@@ -760,6 +827,33 @@ the seconds are 0
          interval 0: never
 """):
         check(f"show: limits of 0, entry {lines.split()[0]}", lines in out, out)
+    for lines in ("""\
+The book's time: 1970-01-01 00:16:40 (1000), UTC
+Metering: off
+
+""", """\
+     16  rights object 1, play of asset 1: nobody can use it at 1970-01-01 00:16:40: metering is off (it is tracked and has no mark)
+         no limits
+         tracked, a use is a time from 1 min 30 s on; not granted with metering off (mark 0)
+     17  rights object 1, play of asset 1: can be granted at 1970-01-01 00:16:40, no end
+         no limits
+         tracked, every use is a time; granted with metering off too (mark 1)
+     18  rights""", """\
+         count 1 of 1 used, 0 left
+         tracked, a use is a time from 7 d on; not granted with metering off (mark 0)
+""", """\
+         open: entry 9, since 1970-01-01 00:16:40 (1000), until 1970-01-01 00:17:40 (1060), content 1
+""", """\
+         open: entry 0, since 1970-01-01 00:16:20 (980), until 1970-01-01 00:17:20 (1040)
+""", """\
+         answer 43, refused: metering is off, and what is left for it is tracked and has no mark
+"""):
+        check(f"show: metering, {lines.strip()[:20]}", lines in out, out)
+    path.write_text(path.read_text() + "metering on\n")
+    call("make", path, image)
+    out = call("show", image).out.decode()
+    check("show: metering on", "\nMetering: on\n" in out and "metering is off (" not in out, out)
+    check("left: metering on", b"metering" not in call("left", image, "--at", "1000").out)
 
 
 # ---- why
@@ -779,12 +873,12 @@ def test_why(folder, how_many):
             first, *lines = why.why_lines(image, copy_of(book), player, asset, kind, t)
             after = copy_of(book)
             last = book.players[player].number
-            answer = rights.step(after, Event(player, (last + 1) % 2**32, rights.BEGIN, asset, kind, t))
+            answer = rights.step(after, Event(player, (last + 1) % 2**32, rights.BEGIN, asset, kind, t), rights.zeros(book))
             seen[answer[0]] = seen.get(answer[0], 0) + 1
             parts.append((first.startswith(f"The answer would be {answer[0]}, "), f"{answer}: {first}"))
             parts += why_parts(state.settled(book, t), asset, kind, t, answer, lines)
         check_all(f"why, book {seed}", parts)
-    check("why: every answer is met", {0, 10, 11, 12, 13} <= set(seen), str(seen))
+    check("why: every answer is met", {0, 10, 11, 12, 13, 43} <= set(seen), str(seen))
 
 
 def why_parts(book, asset, kind, t, answer, lines):
@@ -794,7 +888,7 @@ def why_parts(book, asset, kind, t, answer, lines):
     yield listed == suitable, f"suitable are {suitable}: {lines}"
     for position, line in zip(suitable, lines):
         entry, said = book.entries[position], line.split("): ", 1)[1].removesuffix(" (a stop of an open use gives some back)")
-        if rights.is_grantable(entry, t):
+        if rights.is_grantable(book, entry, t):
             chosen = "would be chosen" if position == answer[1] else f"entry {answer[1]} goes first"
             yield said == (f"can be granted; {chosen}" if answer[0] == 0 else "nothing stands against it"), line
             continue
@@ -806,7 +900,8 @@ def why_parts(book, asset, kind, t, answer, lines):
             (f"interval over since {words.date(entry.first + entry.interval)}",
              entry.interval and entry.started and entry.first + entry.interval <= t),
             (all_used("seconds", entry.accumulated), entry.has(rights.ACCUMULATED) and entry.used_seconds == entry.accumulated),
-            ("interval 0: never granted", entry.has(rights.INTERVAL) and not entry.interval)) if stands]
+            ("interval 0: never granted", entry.has(rights.INTERVAL) and not entry.interval),
+            ("metering is off, and it is tracked without a mark", entry.tracked and not book.switch and not entry.mark)) if stands]
         yield said == "; ".join(wanted), f"wanted {wanted}: {line}"
 
 
@@ -820,6 +915,7 @@ def test_why_words(folder):
     path.write_text("""time 1000
 asset 1 key, inherits 9
 asset 2 key
+asset 3 key
 asset 7 inherits 9
 asset 9 parent
 entry 0: object 1, asset 9, play, count 2, used count 2
@@ -834,6 +930,8 @@ entry 8: object 3, asset 9, execute, count 0, start 2000
 entry 9: object 3, asset 1, execute, timed 0, timer 30, accumulated 0
 entry 10: object 3, asset 1, execute, interval 0
 entry 11: object 3, asset 1, execute, interval 0, first 1000, count 5, used count 5
+entry 12: object 4, asset 2, display, tracked, count 1, used count 1
+entry 13: object 4, asset 2, display, tracked, timed value 30
 player 0: number 1, begin 1 play, granted 6 1060, open 6 1000 1060
 player 1: number 4294967295, stop, refused 14
 """)
@@ -864,8 +962,13 @@ The answer would be 13, refused: every entry for it is used up, out of its dates
 Player 0 asks to display asset 1 at 1970-01-01 00:17:39 (1059), UTC, as asked.
 The answer would be 11, refused: the player has a use open: entry 6, since 1970-01-01 00:16:40, until 1970-01-01 00:17:40.
   entry 7 (its own, rights object 1): timed count: 1 of 1 used
-"""), ((3, 2, "play", "--at=1059"), """\
-Player 3 asks to play asset 2 at 1970-01-01 00:17:39 (1059), UTC, as asked.
+"""), ((3, 2, "display", "--at=1059"), """\
+Player 3 asks to display asset 2 at 1970-01-01 00:17:39 (1059), UTC, as asked.
+The answer would be 43, refused: metering is off, and what is left for it is tracked and has no mark.
+  entry 12 (its own, rights object 4): count: 1 of 1 used; metering is off, and it is tracked without a mark
+  entry 13 (its own, rights object 4): metering is off, and it is tracked without a mark
+"""), ((3, 3, "play", "--at=1059"), """\
+Player 3 asks to play asset 3 at 1970-01-01 00:17:39 (1059), UTC, as asked.
 The answer would be 12, refused: the book has no entry of this kind for the asset: it has none of any kind.
 """), ((3, 1, "print", "--at=1059"), """\
 Player 3 asks to print asset 1 at 1970-01-01 00:17:39 (1059), UTC, as asked.
@@ -942,6 +1045,87 @@ def compare_after(folder, name, data, stream):
     check(f"{name}: next book", out.exists() and out.read_bytes() == rights.write(book), done)
     ran = subprocess.run([str(RUN)], input=stream, cwd=folder, capture_output=True)
     check(f"{name}: the lines of the run program", ran.stdout == done.out, ran)
+
+
+# ---- report
+
+def test_report(folder, how_many):
+    """The shipped bills, and those of random days: the sums are the ledger's, built from events and answers alone."""
+    image, events = METERED / "rights.rbk", METERED / "events.bin"
+    for name, options in (("bill.txt", []), ("bill.csv", ["--csv"])):
+        done = call("report", image, events, *options)
+        check(f"report: {name}", done.status == 0 and done.err == "" and done.out == (METERED / name).read_bytes(), done)
+    for name in ("book.txt", "events.txt"):
+        made = call({"book.txt": "make", "events.txt": "events"}[name], METERED / name, "-")
+        check(f"report: the example's {name}", made.out == (METERED / name).with_name(
+            {"book.txt": "rights.rbk", "events.txt": "events.bin"}[name]).read_bytes(), made)
+    check("report: an option in front", call("report", "--csv", image, events).out == (METERED / "bill.csv").read_bytes())
+    check("report: events from standard input", call("report", image, "-", stdin=events.read_bytes()).out
+          == (METERED / "bill.txt").read_bytes())
+    check("report: no events", call("report", image, "/dev/null", "--csv").out
+          == b"content,times,hours,seconds\n1,0,0:00:00,0\n2,0,0:00:00,0\n3,0,0:00:00,0\n")
+    some = 0
+    for seed in range(how_many):
+        rng = random.Random(f"report {seed}")
+        book, ledger, day = fresh_day(rng)
+        path, stream = folder / "rights.rbk", folder / "events.bin"
+        path.write_bytes(rights.write(book))
+        stream.write_bytes(b"".join(day))
+        wanted = [line for line in ledger.report() if book.asset(line[0]).key or line[1:] != (0, 0)]
+        some += any(seconds for _, _, seconds in wanted)
+        text = "content,times,hours,seconds\n" + "".join(
+            f"{content},{times},{seconds // 3600}:{seconds % 3600 // 60:02}:{seconds % 60:02},{seconds}\n"
+            for content, times, seconds in wanted)
+        got = "\n".join(report.csv_lines(book, library.reported(path.read_bytes(), stream.read_bytes())[0])) + "\n"
+        check(f"report of day {seed}", got == text, f"{got} but by the ledger {text}")
+        if seed < 5:
+            check(f"report of day {seed}, as a command", call("report", path, stream, "--csv").out.decode() == text)
+    check("report: many days have something to report", some > how_many / 6, str(some))
+    test_report_words(folder)
+
+
+def fresh_day(rng):
+    """A fresh book, a day from it, and the ledger of that day."""
+    around = rng.choice((0, 1000, 1_700_000_000))
+    book = days.fresh_book(rng, around)
+    running, lines, day = copy.deepcopy(book), rights.zeros(book), []
+    ledger = Ledger(book.assets, book.entries, book.switch)
+    for _ in range(rng.choice((20, 60, 150))):
+        event = days.next_event(rng, running, around)
+        ledger.add(event, rights.step(running, event, lines))
+        day.append(rights.encode(event))
+    return book, ledger, day
+
+
+def test_report_words(folder):
+    """What a bill says of what it leaves out; long days."""
+    path, image, events = folder / "b.txt", folder / "b.rbk", folder / "e.bin"
+    book = "asset 1 key\nasset 2 parent\nentry 0: object 1, asset 1, play, tracked, mark\nentry 1: object 1, asset 1, display\n"
+    lines = [f"0.{i + 1} {'continue' if i else 'begin 1 play'} {1000 + 59 * i}" for i in range(1001)]     # the last until 60060
+    day = "\n".join(lines + ["0.1002 stop 62000", "1.1 begin 1 play 62000", "2.1 begin 1 play 62000", "3.1 begin 1 display 62000"])
+    events.write_bytes(call("events", "-", "-", stdin=day.encode()).out)
+    head = "Usage from 1970-01-01 00:00:00 (0) to 1970-01-01 17:13:20 (62000), UTC\n\ncontent     times         hours       seconds\n"
+    for name, text, rest in (
+            ("metering on", "metering on\n" + book, """\
+      1         1      16:24:20         59060
+    all         1      16:24:20         59060
+
+Still open, and not in it: 2 uses of tracked entries.
+"""), ("metering off", book, """\
+      1         0       0:00:00             0
+    all         0       0:00:00             0
+
+Metering is off in this book: nothing is recorded.
+"""), ("nothing tracked", "metering on\n" + book.replace(", tracked, mark", ""), """\
+      1         0       0:00:00             0
+    all         0       0:00:00             0
+
+No entry of this book is tracked: nothing is recorded.
+""")):
+        path.write_text(text)
+        call("make", path, image)
+        done = call("report", image, events)
+        check(f"report: {name}", done.out.decode() == head + rest, done.out.decode())
 
 
 def test_building(folder):
@@ -1257,19 +1441,24 @@ def test_explain(folder):
                               (b"0 0 1060\r\n", "granted by entry 0"), (NINES.encode(), "is not an answer"),
                               (b"0 0 99999999999\n", "is not an answer"), (b"1 2\n", "is not an answer"),
                               (b"0 0 " + NINES.encode(), "is not an answer"),
+                              (b"43 255 0\n", "43 255 0: refused: metering is off, and what is left for it is tracked and has no mark"),
+                              (b"30 255 0\n", "30 255 0: turned away: the list that was lent for the report does not fit the book"),
                               (b"99 255 0\n", "an unknown answer"), (b"0 0 1\n" * 23, "there is no event for this answer")):
         done = call("explain", AFTERNOON / "events.bin", "-", stdin=answers)
         plain = done.status == 0 and done.err == ""
         check(f"explain: answers {answers[:20]}", plain and fragment in done.out.decode(), done)
+    for first, again in ((b"30", False), (b"5", False), (b"43", True), (b"13", True)):
+        done = call("explain", AFTERNOON / "events.bin", "-", stdin=first + b" 255 0\n" + first + b" 255 0\n")
+        check(f"explain: {first.decode()} and the same again", ("asked again" in done.out.decode()) == again, done)
 
 
 def test_help(folder):
     """The example texts that --help shows can be read."""
     shown = call("--help").out.decode()
     lines = [re.sub("  .*", "", line.strip()) for line in shown.splitlines() if line.startswith("    ")]
-    book = [line for line in lines if line.split()[0] in ("time", "asset", "entry")]
+    book = [line for line in lines if line.split()[0] in ("time", "metering", "asset", "entry")]
     done = call("make", "-", "-", stdin="\n".join(book).encode())
-    check("help: its book is a book", done.status == 0 and len(book) == 9 and len(done.out) == 395 + 20 + 204, done)
+    check("help: its book is a book", done.status == 0 and len(book) == 11 and len(done.out) == 463 + 20 + 315, done)
     events = [line for line in lines if re.match("[0-9]|raw", line)]
     done = call("events", "-", "-", stdin="\n".join(events).encode())
     check("help: its events are events", done.status == 0 and len(events) == 4 and len(done.out) == 52, done)
@@ -1284,6 +1473,7 @@ def test_damage(folder, how_many):
     rng = random.Random(9)
     path = folder / "damaged"
     sources = [(AFTERNOON / name).read_bytes() for name in ("book.txt", "events.txt", "rights.rbk")]
+    sources.append((METERED / "book.txt").read_bytes())
     sources += ["\n".join(texts.text_lines(book)).encode() for _, _, book in random_books(6)]
     plain = 0
     for _ in range(how_many):
@@ -1291,7 +1481,8 @@ def test_damage(folder, how_many):
         for _ in range(rng.randint(1, 6)):
             at = rng.randrange(len(data) + 1)
             piece = rng.choice((b"", bytes([rng.randrange(256)]), b" ", b"\n", b"9" * 30, b"#", b",", b":", b"-1", b"\xff",
-                                b"count 2", b"2026-12-24", b"18:30", b"(5)", "\u0663".encode(),
+                                b"count 2", b"tracked", b"timed value", b"mark", b"metering on\n", b"content 1", b"2026-12-24",
+                                b"18:30", b"(5)", "\u0663".encode(),
                                 bytes(data[:rng.randrange(40)])))
             data[at:at + rng.choice((0, 0, 1, 5))] = piece
         path.write_bytes(data)
@@ -1313,9 +1504,10 @@ def main():
     if not RUN.exists():
         sys.exit(f"there is no {RUN}: `rt check run` makes it")
     parts = [(test_lines,), (test_inputs,), (test_forgiving,), (test_times,), (test_files,), (test_streams,),
-             (test_round_trips, how_many), (test_diff, how_many), (test_left, how_many), (test_left_words,),
+             (test_round_trips, how_many), (test_older,), (test_diff, how_many), (test_left, how_many), (test_left_words,),
              (test_why, how_many // 3), (test_why_words,),
-             (test_after, how_many // 5), (test_import,), (test_import_made,), (test_import_places,), (test_building,),
+             (test_after, how_many // 5), (test_report, how_many // 2), (test_import,), (test_import_made,), (test_import_places,),
+             (test_building,),
              (test_explain,), (test_help,), (test_damage, 2 * how_many)]
     for part, *numbers in parts:
         name = part.__name__.removeprefix("test_")

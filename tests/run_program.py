@@ -242,12 +242,20 @@ def test_a_file_that_may_not_be_read():
 
 
 def test_the_longest_image_and_one_byte_more():
-    same(len(LONG), 3979, "length of the image")
+    same(len(LONG), 4815, "length of the image")
     same(run(LONG, LONG_EVENTS[:26])[0], rights.run(LONG, LONG_EVENTS[:26]), "the longest image")
     for more in (1, 2, 5000):
         out, err = run(LONG + bytes(more), LONG_EVENTS[:26])
         same(out, "20\n", f"{more} bytes more")
         same(err, "", "standard error")
+
+
+def test_the_longest_image_of_version_1_and_one_byte_more():
+    old = rights.write(rights.read(LONG)[1], 1)
+    same(len(old), 3979, "length of the image")
+    same(run(old, LONG_EVENTS[:2600])[0], rights.run(old, LONG_EVENTS[:2600]), "the longest image of version 1")
+    for more in (1, len(LONG) - len(old), 5000):
+        same(run(old + bytes(more), LONG_EVENTS[:26])[0], "20\n", f"{more} bytes more")
 
 
 # ---- Wrong invocations

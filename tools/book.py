@@ -4,6 +4,7 @@
     tools/book.py left BOOK [--at TIME]           what is left of each entry, now or at a time, a line for each
     tools/book.py why BOOK PLAYER ASSET KIND      why a begin would be granted or refused, now or with --at TIME
     tools/book.py after BOOK EVENTS NEXT          the book after these events, into NEXT; prints their answers
+    tools/book.py report BOOK EVENTS [--csv]      what these events used: times, hours and seconds of each content
     tools/book.py diff BOOK BOOK                  what differs between two books; nothing if they are the same
     tools/book.py show BOOK                       all that a book says, in words
     tools/book.py explain EVENTS ANSWERS          each event in words, and what its answer means
@@ -21,6 +22,10 @@ which it builds if it is missing (that needs rt and a C compiler). `left` and `w
 that have ended by then are counted as ended. A time before the book's time is judged at the book's time. `why` tells
 the answer that a begin would get and, for each entry that is suitable, what stands against it, both from that library.
 
+`report` is the bill for royalties of a day: BOOK is the book in the morning. It has the uses of tracked entries that ended in the
+day, if metering is on in the book; one that is open at the end counts in the report of the day in which it ends. Its sums are those
+of the second program (oracle), not proved. `--csv` prints them with commas and no words: content,times,hours,seconds.
+
 `import` reads an XML rights object as issuers send it (docs/FORMAT.md), with that library too. A text that is not accepted
 writes nothing and is told with its line and column (in bytes), the code and why: `rights.xml: line 12, column 21: 41: the
 count "2000000" is not a number from 0 to 1,000,000`.
@@ -30,6 +35,7 @@ Exit status: 0; 1 from `diff` if the books differ; 2 if something is wrong.
 The text of a book, one thing a line; `#` starts a comment, commas and colons may be left out:
 
     time 2026-12-24T08:00:00             the book's time; 0 if not given
+    metering on                          ended uses of tracked entries are reported; off if not given
     asset 9 parent                       others may inherit from it; it is never shown itself
     asset 1 key, inherits 9              has a key; what 9 has may be used for it too
     asset 3 key                          has a key, inherits from nothing
@@ -38,17 +44,19 @@ The text of a book, one thing a line; `#` starts a comment, commas and colons ma
     entry 1: object 1, asset 9, play, accumulated 2h
     entry 2: object 1, asset 1, display, timed 1, timer 30
     entry 3: object 2, asset 3, play, start 2026-12-01, end 2027-04-30, interval 7d
+    entry 4: object 2, asset 3, display, tracked, timed value 30, mark
 
 Entries are numbered from 0 in order. Kinds: play, display, execute, print, export. An entry without a limit may be
-used without end; one with a count, timed, interval or accumulated of 0 is never granted. An entry that was used before
-goes on with `used count 1`, `used timed 1`, `used accumulated 90` and `first TIME` (when its interval started). A player
-that has asked before:
+used without end; one with a count, timed, interval or accumulated of 0 is never granted. A tracked entry is in the report,
+where a use is a time from the timed value on (from its begin if there is none); with metering off it is granted only with
+a mark (contentAccessGranted). An entry that was used before goes on with `used count 1`, `used timed 1`, `used accumulated 90`
+and `first TIME` (when its interval started). A player that has asked before:
 
-    player 0: number 2, continue, granted 0 1119, open 0 1000 1119
+    player 0: number 2, continue, granted 0 1119, open 0 1000 1119 content 1
     player 4: number 1, begin 1 play, refused 13
 
 that is its last number and request, the answer (granted ENTRY UNTIL, or refused CODE), and the open use, if there is
-one (open ENTRY BEGIN UNTIL).
+one (open ENTRY BEGIN UNTIL, then content ASSET, the asset asked for, which only an open use of an untracked entry may lack).
 
 The text of events, one a line, player and number with a dot between:
 
@@ -69,6 +77,7 @@ import sys
 from books.imported import import_xml
 from books.library import after
 from books.records import events, explain
+from books.report import report
 from books.state import diff, left, show
 from books.texts import make, text
 from books.why import why
@@ -76,7 +85,7 @@ from books.words import Trouble
 
 COMMANDS = {
     "left": (left, "BOOK [--at TIME]"), "why": (why, "BOOK PLAYER ASSET KIND [--at TIME]"),
-    "after": (after, "BOOK EVENTS NEXT"), "diff": (diff, "BOOK BOOK"), "show": (show, "BOOK"),
+    "after": (after, "BOOK EVENTS NEXT"), "report": (report, "BOOK EVENTS [--csv]"), "diff": (diff, "BOOK BOOK"), "show": (show, "BOOK"),
     "explain": (explain, "EVENTS ANSWERS"), "import": (import_xml, "RIGHTS.XML BOOK"), "make": (make, "BOOK.TXT BOOK"),
     "text": (text, "BOOK"), "events": (events, "EVENTS.TXT EVENTS")}
 
@@ -93,6 +102,9 @@ def run(words):
     options = {}
     if name in ("left", "why"):
         words, options = take_time(words)
+    elif name == "report" and "--csv" in words:
+        words.remove("--csv")
+        options = {"csv": True}
     wanted = usage.split(" [")[0].split()
     if len(words) != len(wanted) or any(word.startswith("--") for word in words):
         raise Trouble(f"usage: book.py {name} {usage} (see --help)")

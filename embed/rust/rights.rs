@@ -1,8 +1,8 @@
 //! The rights server's core for Rust: safe functions on top of the static library `libembed.a`.
 //!
-//! The library keeps no state between calls. The book is passed as its image, the bytes of `rights.rbk`: the caller keeps them and
-//! saves them when it likes. What a call returns and leaves in the buffers is proved for every input. The declarations
-//! below are not checked against that proof, so they change only with `crates/embed/src/lib.rt`.
+//! The library keeps no state between calls. The book is passed as its image, the bytes of `rights.rbk`, and the usage report as its
+//! lines: the caller keeps both and saves them when it likes. What a call returns and leaves in the buffers is proved for every input.
+//! The declarations below are not checked against that proof, so they change only with `crates/embed/src/lib.rt`.
 //!
 //! A call needs at most `STACK` bytes of stack, `from_xml` and `fresh_book` at most `XML_STACK`. `docs/FORMAT.md` has the bytes of
 //! records and images, and the form of XML rights objects.
@@ -13,15 +13,17 @@ pub const RECORD: usize = 13;
 /// The longest line of an answer, including its line feed.
 pub const LINE: usize = 19;
 /// Room for any next image.
-pub const LONGEST_IMAGE: usize = 3979;
+pub const LONGEST_IMAGE: usize = 4815;
+/// The most lines of a list.
+pub const LINES: usize = 64;
 /// Bytes of stack that are enough for any call that reads no XML (`docs/EMBEDDING.md`).
-pub const STACK: usize = 262_144;
+pub const STACK: usize = 524_288;
 /// Bytes of stack that are enough for reading an XML text.
-pub const XML_STACK: usize = 2_097_152;
+pub const XML_STACK: usize = 3_145_728;
 /// In place of a remaining number: there is no such limit.
 pub const NO_LIMIT: u32 = u32::MAX;
 
-/// Why a call was refused. If it was, no byte of any buffer has changed.
+/// Why a call was refused. If it was, no byte of any buffer and no line has changed.
 #[derive(Clone, Copy, Debug, PartialEq, Eq)]
 pub enum Refused {
     /// The image breaks a rule: 20 to 27 of document 01's table. 20 too if its length is more than its buffer has.
@@ -54,12 +56,26 @@ pub struct Answer {
     pub until: u32,
 }
 
-/// How many assets and entries a book has, and the time of the latest event taken.
+/// A line of the usage report: how often and for how many seconds a content, the number of an asset, was used.
+///
+/// A list of lines is good if it has at least as many as the book has assets and at most `LINES`, the first of them name the book's
+/// assets in their order, and every number in it is below 2 to the 62. An event with another list is answered with code 30 and changes
+/// nothing. `zeros` makes the list to begin with.
+#[repr(C)]
+#[derive(Clone, Copy, Debug, PartialEq, Eq)]
+pub struct Line {
+    pub content: u64,
+    pub times: u64,
+    pub seconds: u64,
+}
+
+/// How many assets and entries a book has, the time of the latest event taken, and whether usage is recorded (1 or 0).
 #[derive(Clone, Copy, Debug, PartialEq, Eq)]
 pub struct Book {
     pub assets: u32,
     pub entries: u32,
     pub time: u32,
+    pub switch: u32,
 }
 
 #[derive(Clone, Copy, Debug, PartialEq, Eq)]
@@ -69,8 +85,8 @@ pub struct Asset {
     pub key: u32,
 }
 
-/// An entry's limits and meters. A limit whose flag is missing is 0, and so is its meter. A count, timed count, interval or
-/// accumulated that is flagged and 0 is never granted.
+/// An entry's limits and meters, and how its uses are recorded. A limit whose flag is missing is 0, and so is its meter. A count, timed
+/// count, interval or accumulated that is flagged and 0 is never granted.
 #[derive(Clone, Copy, Debug, PartialEq, Eq)]
 pub struct Entry {
     pub object: u32,
@@ -89,12 +105,18 @@ pub struct Entry {
     pub first: u32,
     pub used_seconds: u32,
     pub started: u32,
+    /// 1: its uses are recorded.
+    pub tracked: u32,
+    /// A recorded use of at least so many seconds counts as a time.
+    pub timed_value: u32,
+    /// 1: tracked, and granted with the switch off too.
+    pub mark: u32,
 }
 
 /// What is left of an entry at a time; `NO_LIMIT` if there is no such limit.
 #[derive(Clone, Copy, Debug, PartialEq, Eq)]
 pub struct Left {
-    /// 1 if the entry's own limits allow a grant at that time.
+    /// 1 if the entry's own limits and the book's switch allow a grant at that time.
     pub grantable: u32,
     pub count: u32,
     pub timed: u32,
@@ -113,6 +135,8 @@ pub struct Grounds {
     pub seconds_spent: u32,
     /// The interval is 0: the entry is never granted. One that has started is over too.
     pub interval_zero: u32,
+    /// The entry is tracked and has no mark, and the book's switch is off.
+    pub switch_off: u32,
 }
 
 /// The last event taken from a player with its answer (number 0: none yet), and its open use.
@@ -129,6 +153,8 @@ pub struct Player {
     pub open_entry: u32,
     pub open_begin: u32,
     pub open_until: u32,
+    /// The asset that the open use shows.
+    pub content: u32,
 }
 
 /// What an XML text gave: the length of the image of its book, and how many elements it has.
@@ -139,6 +165,8 @@ pub struct Imported {
 }
 
 mod library {
+    use super::Line;
+
     // A slice is passed as its pointer and its length.
     #[link(name = "embed", kind = "static")]
     extern "C" {
@@ -152,6 +180,8 @@ mod library {
             out: *mut u8,
             out_length: usize,
             written: *mut u64,
+            report: *mut Line,
+            report_length: usize,
         ) -> u8;
         pub fn rights_answer_one(
             image: *mut u8,
@@ -166,6 +196,8 @@ mod library {
             code: *mut u8,
             entry: *mut u8,
             until: *mut u32,
+            report: *mut Line,
+            report_length: usize,
         ) -> u8;
         pub fn rights_record(
             player: u8,
@@ -232,8 +264,15 @@ pub fn check(image: &[u8]) -> Result<(), Refused> {
 
 /// Answers event records from the book in the image, in turn, and leaves the book after the last record in its place. The image
 /// is the first `length` bytes of the buffer `image`, before and after; what is behind it stays. The answers are lines
-/// `code entry until` at the start of `out`; their length is returned.
-pub fn answer(image: &mut [u8], length: &mut usize, records: &[u8], out: &mut [u8]) -> Result<usize, Refused> {
+/// `code entry until` at the start of `out`; their length is returned. The first record is lent the lines of `report`, each next one
+/// what the one before it left.
+pub fn answer(
+    image: &mut [u8],
+    length: &mut usize,
+    records: &[u8],
+    out: &mut [u8],
+    report: &mut [Line],
+) -> Result<usize, Refused> {
     let mut written = 0u64;
     let mut image_length = *length as u64;
     // The borrows guarantee that the slices are valid and do not overlap. The function keeps no pointer.
@@ -247,6 +286,8 @@ pub fn answer(image: &mut [u8], length: &mut usize, records: &[u8], out: &mut [u
             out.as_mut_ptr(),
             out.len(),
             &mut written,
+            report.as_mut_ptr(),
+            report.len(),
         )
     };
     *length = image_length as usize;
@@ -263,16 +304,16 @@ fn with_room<T>(image: &mut Vec<u8>, call: impl FnOnce(&mut [u8], &mut usize) ->
 }
 
 /// Like `answer`, with the text in its own buffer, and the image as long as it is, before and after. Only the image can be refused.
-pub fn answers(image: &mut Vec<u8>, records: &[u8]) -> Result<Vec<u8>, Refused> {
+pub fn answers(image: &mut Vec<u8>, records: &[u8], report: &mut [Line]) -> Result<Vec<u8>, Refused> {
     let mut out = vec![0; room(records.len())];
-    let written = with_room(image, |buffer, length| answer(buffer, length, records, &mut out))?;
+    let written = with_room(image, |buffer, length| answer(buffer, length, records, &mut out, report))?;
     out.truncate(written);
     Ok(out)
 }
 
 /// Answers one event from the book in the image, and leaves the book after it in its place: the same step as `answer` does
-/// for the event's record. The image is the first `length` bytes of the buffer `image`, before and after.
-pub fn answer_one(image: &mut [u8], length: &mut usize, event: Event) -> Result<Answer, Refused> {
+/// for the event's record, with the same lines. The image is the first `length` bytes of the buffer `image`, before and after.
+pub fn answer_one(image: &mut [u8], length: &mut usize, event: Event, report: &mut [Line]) -> Result<Answer, Refused> {
     let mut answer = Answer { code: 0, entry: 0, until: 0 };
     let mut image_length = *length as u64;
     // The borrows guarantee that what is pointed to is valid and does not overlap. The function keeps no pointer.
@@ -290,6 +331,8 @@ pub fn answer_one(image: &mut [u8], length: &mut usize, event: Event) -> Result<
             &mut answer.code,
             &mut answer.entry,
             &mut answer.until,
+            report.as_mut_ptr(),
+            report.len(),
         )
     };
     *length = image_length as usize;
@@ -297,8 +340,8 @@ pub fn answer_one(image: &mut [u8], length: &mut usize, event: Event) -> Result<
 }
 
 /// Like `answer_one`, with the image as long as it is, before and after. Only the image can be refused.
-pub fn answer_event(image: &mut Vec<u8>, event: Event) -> Result<Answer, Refused> {
-    with_room(image, |buffer, length| answer_one(buffer, length, event))
+pub fn answer_event(image: &mut Vec<u8>, event: Event, report: &mut [Line]) -> Result<Answer, Refused> {
+    with_room(image, |buffer, length| answer_one(buffer, length, event, report))
 }
 
 /// The record that holds an event's numbers, whether or not they make a legal event.
@@ -347,11 +390,17 @@ pub fn fresh_book(text: &[u8]) -> Result<(Vec<u8>, u64), Refused> {
 
 /// What the book in an image holds.
 pub fn book(image: &[u8]) -> Result<Book, Refused> {
-    let mut out = [0; 3];
+    let mut out = [0; 4];
     // Here and below the slices are valid for the call, and the function only reads the image and keeps no pointer.
     let code = unsafe { library::rights_book(image.as_ptr(), image.len(), out.as_mut_ptr(), out.len()) };
-    let [assets, entries, time] = out;
-    judged(code).map(|()| Book { assets, entries, time })
+    let [assets, entries, time, switch] = out;
+    judged(code).map(|()| Book { assets, entries, time, switch })
+}
+
+/// The list to begin with: a line for each asset of the book in the image, in its order, with no times and no seconds.
+pub fn zeros(image: &[u8]) -> Result<Vec<Line>, Refused> {
+    let line = |position| asset(image, position).map(|a| Line { content: a.number.into(), times: 0, seconds: 0 });
+    (0..book(image)?.assets).map(line).collect()
 }
 
 /// The asset at a position, from 0.
@@ -364,10 +413,10 @@ pub fn asset(image: &[u8], position: u32) -> Result<Asset, Refused> {
 
 /// The entry at a position, from 0.
 pub fn entry(image: &[u8], position: u32) -> Result<Entry, Refused> {
-    let mut out = [0; 16];
+    let mut out = [0; 19];
     let code = unsafe { library::rights_entry(image.as_ptr(), image.len(), position, out.as_mut_ptr(), out.len()) };
     let [object, asset, kind, flags, count, timed, timer, start, end, interval, accumulated, ..] = out;
-    let [.., used_count, used_timed, first, used_seconds, started] = out;
+    let [.., used_count, used_timed, first, used_seconds, started, tracked, timed_value, mark] = out;
     judged(code).map(|()| Entry {
         object,
         asset,
@@ -385,6 +434,9 @@ pub fn entry(image: &[u8], position: u32) -> Result<Entry, Refused> {
         first,
         used_seconds,
         started,
+        tracked,
+        timed_value,
+        mark,
     })
 }
 
@@ -400,11 +452,11 @@ pub fn left(image: &[u8], position: u32, time: u32) -> Result<Left, Refused> {
 /// What stands against granting the entry at a position to a player, as a begin at that time would find it; for the time see
 /// `left`. Whether the entry is suitable, and whether the player may begin at all, is not judged.
 pub fn grounds(image: &[u8], position: u32, player: u8, time: u32) -> Result<Grounds, Refused> {
-    let mut out = [0; 7];
+    let mut out = [0; 8];
     let code = unsafe {
         library::rights_grounds(image.as_ptr(), image.len(), position, player, time, out.as_mut_ptr(), out.len())
     };
-    let [count_spent, timed_spent, before_start, after_end, interval_over, seconds_spent, interval_zero] = out;
+    let [count_spent, timed_spent, before_start, after_end, interval_over, seconds_spent, interval_zero, switch_off] = out;
     judged(code).map(|()| Grounds {
         count_spent,
         timed_spent,
@@ -413,14 +465,15 @@ pub fn grounds(image: &[u8], position: u32, player: u8, time: u32) -> Result<Gro
         interval_over,
         seconds_spent,
         interval_zero,
+        switch_off,
     })
 }
 
 /// A player, 0 to 15.
 pub fn player(image: &[u8], player: u32) -> Result<Player, Refused> {
-    let mut out = [0; 11];
+    let mut out = [0; 12];
     let code = unsafe { library::rights_player(image.as_ptr(), image.len(), player, out.as_mut_ptr(), out.len()) };
-    let [number, operation, asset, kind, code_of_last, entry, until, open, open_entry, open_begin, open_until] = out;
+    let [number, operation, asset, kind, code_of_last, entry, until, open, open_entry, open_begin, open_until, content] = out;
     judged(code).map(|()| Player {
         number,
         operation,
@@ -433,5 +486,6 @@ pub fn player(image: &[u8], player: u32) -> Result<Player, Refused> {
         open_entry,
         open_begin,
         open_until,
+        content,
     })
 }

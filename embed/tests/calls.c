@@ -1,14 +1,16 @@
 /* Calls the library on the stored files and prints what the programs of crates/test_days, test_images and test_texts print for them:
  *
- *     calls days N days.bin     the answers of each day, N records per call (0: all of them), the image handed from call to call
+ *     calls days N days.bin     the answers of each day, N records per call (0: all of them), the image and the list of lines handed from
+ *                               call to call from zeros, and the lines that are not zeros after it
  *     calls ones days.bin       the same with rights_answer_one, one event per call (a last record cut short goes through rights_answer)
+ *     calls lists lists.bin     the answer to each stored record, and the lines that it changes in the list that it is lent
  *     calls images cases.bin    the number of a refusal, or 0 and the image that a call without records leaves
  *     calls texts cases.bin     the number of a refusal, or 0, the number of elements and the image of the text's book
  *     calls seen days.bin       what the calls that read an image say of each day's book, before, during and after the day
- *     calls seen-images cases.bin    the same for each stored image; embed/tests/seen.py prints both from the second program
+ *     calls seen-images cases.bin    the same for each stored image; embed/tests/seen.py prints these and the lists from the second program
  *
- * It also checks what every call promises: bytes after the text and after the next image stay, a length above the image's room
- * is refused, a refused call changes no byte of any buffer and no length.
+ * It also checks what every call promises: bytes after the text and after the next image stay, lines after the list stay, a length above
+ * the image's room is refused, a refused call changes no byte of any buffer, no line and no length.
  * It exits with status 1 at the first violation. */
 #include <stdio.h>
 #include <stdlib.h>
@@ -16,12 +18,14 @@
 
 #include "../rights.h"
 
-enum { LONGEST = 70000, ROOM = 110000, SPARE = 5, BEHIND = 64, FILL = 0xa5 };
+enum { LONGEST = 70000, ROOM = 110000, LISTED = 256, SPARE = 5, BEHIND = 64, FILL = 0xa5 };
 
 /* Each has more bytes than are ever lent, so that a write past the end is noticed. */
 static uint8_t image[LONGEST + SPARE + BEHIND], image_before[LONGEST + SPARE + BEHIND];
 static uint8_t records[LONGEST + BEHIND];
 static uint8_t out[ROOM + BEHIND], out_before[ROOM + BEHIND];
+static struct rights_line lines[LISTED + SPARE], lines_before[LISTED + SPARE]; /* of which line_count are lent */
+static size_t line_count;
 static const uint64_t UNWRITTEN = 0x1122334455667788u;
 
 static void fail(const char *what)
@@ -49,6 +53,24 @@ static void fill(FILE *f, uint8_t *buffer, size_t length)
         fail("a stored file is cut short or has too long a part");
 }
 
+/* The list of zeros of the book in the image; none at all if that is refused. */
+static void start_list(size_t image_length)
+{
+    memset(lines, FILL, sizeof lines);
+    line_count = 0;
+    if (rights_zeros(image, image_length, lines, &line_count) != rights_check(image, image_length))
+        fail("the list of zeros and the check do not agree on an image");
+}
+
+/* The length of the next image: longer than this one if that is of an older version. That of a refused one is not known. */
+static size_t next_length_of(size_t image_length)
+{
+    uint32_t book[RIGHTS_BOOK_NUMBERS];
+    if (rights_book(image, image_length, book, RIGHTS_BOOK_NUMBERS) != RIGHTS_OK)
+        return image_length;
+    return 463 + 5 * book[RIGHTS_BOOK_ASSETS] + 63 * book[RIGHTS_BOOK_ENTRIES];
+}
+
 /* One call; everything it must not touch is compared before and after. Returns the code, the next image's length and the
  * text's. */
 static uint8_t call(size_t image_room, size_t *image_length, const uint8_t *from, size_t length, size_t room,
@@ -59,8 +81,10 @@ static uint8_t call(size_t image_room, size_t *image_length, const uint8_t *from
     memset(out, FILL, all_out);
     memcpy(out_before, out, all_out);
     memcpy(image_before, image, all_image);
+    memcpy(lines_before, lines, sizeof lines);
     *written = UNWRITTEN;
-    uint8_t code = rights_answer(image, image_room, &next_length, from, length, out, room, written);
+    uint8_t code = rights_answer(image, image_room, &next_length, from, length, out, room, written, lines, line_count);
+    size_t listed = code == RIGHTS_OK ? line_count : 0;
     size_t text = code == RIGHTS_OK ? (size_t)*written : 0;
     size_t book = code == RIGHTS_OK ? (size_t)next_length : 0;
     if (text > room || book > image_room)
@@ -69,6 +93,8 @@ static uint8_t call(size_t image_room, size_t *image_length, const uint8_t *from
         fail("a byte behind the text was touched");
     if (memcmp(image + book, image_before + book, all_image - book) != 0)
         fail("a byte of a refused image, or one behind an image, was touched");
+    if (memcmp(lines + listed, lines_before + listed, sizeof lines - listed * sizeof *lines) != 0)
+        fail("a line behind the list, or one of a refused call, was touched");
     if (code != RIGHTS_OK && (*written != UNWRITTEN || next_length != *image_length))
         fail("a refused call set a length");
     *image_length = (size_t)next_length;
@@ -90,7 +116,19 @@ static uint8_t call_again(size_t *image_length, const uint8_t *from, size_t leng
     if (room > 0
         && call(*image_length, image_length, from, length, room - 1, written) != (refused ? refused : RIGHTS_SHORT_OUT))
         fail("a buffer that is a byte too short was not refused");
-    return call(*image_length + SPARE, image_length, from, length, room, written);
+    size_t next = next_length_of(*image_length);
+    if (next > *image_length && call(next - 1, image_length, from, length, room, written) != RIGHTS_SHORT_OUT)
+        fail("a buffer that is a byte too short for the next image was not refused");
+    return call(next + SPARE, image_length, from, length, room, written);
+}
+
+/* The lines of the list that are not as they were. */
+static void print_changes(const struct rights_line *was)
+{
+    for (size_t i = 0; i < line_count; i++)
+        if (memcmp(&lines[i], &was[i], sizeof *lines) != 0)
+            printf("used %llu %llu %llu\n", (unsigned long long)lines[i].content, (unsigned long long)lines[i].times,
+                   (unsigned long long)lines[i].seconds);
 }
 
 static void days(FILE *f, size_t each)
@@ -103,6 +141,9 @@ static void days(FILE *f, size_t each)
             fail("a stored file is cut short");
         fill(f, records, length);
         printf("day %d\n", day);
+        start_list(image_length);
+        static struct rights_line zeros[LISTED + SPARE];
+        memcpy(zeros, lines, sizeof lines);
         size_t at = 0, step = each ? each * RIGHTS_RECORD : length + 1;
         do {
             size_t part = length - at < step ? length - at : step;
@@ -114,6 +155,7 @@ static void days(FILE *f, size_t each)
             fwrite(out, 1, (size_t)written, stdout);
             at += part;
         } while (at < length);
+        print_changes(zeros);
     }
 }
 
@@ -123,7 +165,7 @@ static void images(FILE *f)
     while (read_length(f, 2, &length)) {
         uint64_t written;
         fill(f, image, length);
-        uint8_t code = call(length, &length, records, 0, 0, &written);
+        uint8_t code = call(next_length_of(length), &length, records, 0, 0, &written);
         printf("%d", code);
         if (code == RIGHTS_OK) {
             if (written != 0)
@@ -211,11 +253,12 @@ static void encode(const uint8_t *from)
     }
 }
 
-/* One event as numbers. The call on its record, with a copy of the image, has to print the same numbers and leave
- * the same image. */
+/* One event as numbers. The call on its record, with copies of the image and the list, has to print the same numbers and leave
+ * the same image and the same list. */
 static uint8_t one(size_t image_room, size_t *image_length, const uint8_t *from)
 {
     static uint8_t by_text[LONGEST + SPARE + BEHIND];
+    static struct rights_line by_text_lines[LISTED + SPARE];
     size_t all_image = image_room + BEHIND;
     uint64_t next_length = *image_length, text_length = *image_length;
     uint8_t code = FILL, entry = FILL;
@@ -223,14 +266,22 @@ static uint8_t one(size_t image_room, size_t *image_length, const uint8_t *from)
     uint64_t written;
     encode(from);
     memcpy(by_text, image, all_image);
+    memcpy(by_text_lines, lines, sizeof lines);
+    memcpy(lines_before, lines, sizeof lines);
     memcpy(image_before, image, all_image);
     uint8_t refused = rights_answer_one(image, image_room, &next_length, from[0], number_at(from + 1, 4), from[5],
                                         (uint16_t)number_at(from + 6, 2), from[8], number_at(from + 9, 4),
-                                        &code, &entry, &until);
-    if (refused != rights_answer(by_text, image_room, &text_length, from, RIGHTS_RECORD, out, RIGHTS_LINE, &written))
+                                        &code, &entry, &until, lines, line_count);
+    if (refused != rights_answer(by_text, image_room, &text_length, from, RIGHTS_RECORD, out, RIGHTS_LINE, &written, by_text_lines,
+                                 line_count))
         fail("the two calls do not agree on an image");
     if (memcmp(image, by_text, all_image) != 0 || next_length != text_length)
         fail("the two calls leave different images");
+    if (memcmp(lines, by_text_lines, sizeof lines) != 0)
+        fail("the two calls leave different lists");
+    size_t listed = refused ? 0 : line_count;
+    if (memcmp(lines + listed, lines_before + listed, sizeof lines - listed * sizeof *lines) != 0)
+        fail("a line behind the list, or one of a refused call, was touched");
     if (*image_length > image_room && refused != RIGHTS_IMAGE_LENGTH)
         fail("a length above the room was not refused");
     if (refused) {
@@ -261,20 +312,86 @@ static void ones(FILE *f)
             fail("a stored file is cut short");
         fill(f, records, length);
         printf("day %d\n", day);
+        start_list(image_length);
+        static struct rights_line zeros[LISTED + SPARE];
+        memcpy(zeros, lines, sizeof lines);
         uint8_t code = RIGHTS_OK;
         size_t at = 0;
         for (; at + RIGHTS_RECORD <= length && code == RIGHTS_OK; at += RIGHTS_RECORD) {
             if (image_length > 0)
                 one(image_length - 1, &image_length, records + at);
-            code = one(image_length + SPARE, &image_length, records + at);
+            code = one(next_length_of(image_length) + SPARE, &image_length, records + at);
         }
         if (code == RIGHTS_OK && (at < length || length == 0)) {
-            code = call(image_length, &image_length, records + at, length - at, RIGHTS_ROOM(length - at), &written);
+            code = call(next_length_of(image_length), &image_length, records + at, length - at, RIGHTS_ROOM(length - at), &written);
             if (code == RIGHTS_OK)
                 fwrite(out, 1, (size_t)written, stdout);
         }
         if (code != RIGHTS_OK)
             printf("%d\n", code);
+        print_changes(zeros);
+    }
+}
+
+/* The stored lists: a book (length 0: that of the case before), a record, whether a list follows (0: that of the case before) and its
+ * lines, the first 64 of them, and the lines after it if they are others. Bytes that are no record, or more than one, are left out. */
+static struct rights_line read_line(FILE *f)
+{
+    size_t content, times, seconds;
+    if (!read_length(f, 8, &content) || !read_length(f, 8, &times) || !read_length(f, 8, &seconds))
+        fail("a stored file is cut short");
+    return (struct rights_line){content, times, seconds};
+}
+
+static void read_lines(FILE *f, struct rights_line *to)
+{
+    memset(to, 0, line_count * sizeof *to);
+    for (size_t i = 0; i < line_count && i < RIGHTS_LINES; i++)
+        to[i] = read_line(f);
+}
+
+static void lists(FILE *f)
+{
+    static uint8_t stored_image[LONGEST];
+    static struct rights_line stored[LISTED + SPARE], after[LISTED + SPARE];
+    size_t length, stored_length = 0, record_length, follows;
+    memset(stored, FILL, sizeof stored);
+    while (read_length(f, 4, &length)) {
+        uint64_t written;
+        if (length > 0) {
+            fill(f, stored_image, length);
+            stored_length = length;
+        }
+        if (!read_length(f, 4, &record_length))
+            fail("a stored file is cut short");
+        fill(f, records, record_length);
+        if (!read_length(f, 4, &follows) || (follows && !read_length(f, 4, &line_count)) || line_count > LISTED)
+            fail("a stored file is cut short or has too long a list");
+        if (follows) {
+            memset(stored, FILL, sizeof stored);
+            read_lines(f, stored);
+        }
+        memcpy(after, stored, sizeof stored);
+        if (!read_length(f, 4, &follows))
+            fail("a stored file is cut short");
+        if (follows)
+            read_lines(f, after);
+        if (record_length == 0 || record_length > RIGHTS_RECORD)
+            continue;
+        size_t image_length = stored_length;
+        memcpy(image, stored_image, stored_length);
+        memcpy(lines, stored, sizeof stored);
+        if (record_length == RIGHTS_RECORD) {
+            if (one(next_length_of(image_length) + SPARE, &image_length, records) != RIGHTS_OK)
+                fail("a stored book is refused");
+        } else {
+            if (call_again(&image_length, records, record_length, &written) != RIGHTS_OK)
+                fail("a stored book is refused");
+            fwrite(out, 1, (size_t)written, stdout);
+        }
+        if (memcmp(lines, after, sizeof lines) != 0)
+            fail("a record left another list than the stored one");
+        print_changes(stored);
     }
 }
 
@@ -357,11 +474,12 @@ static void seen_days(FILE *f)
             fail("a stored file is cut short");
         fill(f, records, length);
         printf("day %d\n", day);
+        start_list(image_length);
         see(image_length);
         size_t step = 97 * RIGHTS_RECORD;
         for (size_t at = 0; at < length; at += step) {
             size_t part = length - at < step ? length - at : step;
-            if (call(image_length, &image_length, records + at, part, RIGHTS_ROOM(part), &written) != RIGHTS_OK)
+            if (call(next_length_of(image_length), &image_length, records + at, part, RIGHTS_ROOM(part), &written) != RIGHTS_OK)
                 break;
             see(image_length);
         }
@@ -387,6 +505,8 @@ int main(int count, char **words)
         days(f, (size_t)atoi(words[2]));
     else if (f && strcmp(what, "ones") == 0)
         ones(f);
+    else if (f && strcmp(what, "lists") == 0)
+        lists(f);
     else if (f && strcmp(what, "images") == 0)
         images(f);
     else if (f && strcmp(what, "texts") == 0)
@@ -396,6 +516,6 @@ int main(int count, char **words)
     else if (f && strcmp(what, "seen-images") == 0)
         seen_images(f);
     else
-        fail("usage: calls days N FILE, calls ones|images|texts|seen|seen-images FILE");
+        fail("usage: calls days N FILE, calls ones|lists|images|texts|seen|seen-images FILE");
     return 0;
 }

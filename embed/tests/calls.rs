@@ -1,18 +1,20 @@
 //! Calls the library through the safe functions of `embed/rust/rights.rs` and prints what the programs of `crates/test_days`,
 //! `crates/test_images` and `crates/test_texts` print for the stored files:
 //!
-//!     calls days N days.bin     the answers of each day, N records per call (0: all of them)
+//!     calls days N days.bin     the answers of each day, N records per call (0: all of them), and the lines of the report after it that
+//!                               are not zeros
 //!     calls ones days.bin       the same with `answer_one`, one event per call (a last record cut short goes through `answers`)
+//!     calls lists lists.bin     the answer to each stored record, and the lines that it changes in the list that it is lent
 //!     calls images cases.bin    the number of a refusal, or 0 and the image that a call without records leaves
 //!     calls texts cases.bin     the number of a refusal, or 0, the number of elements and the image of the text's book
 //!     calls seen days.bin       what the functions that read an image say, as calls.c prints it
 //!
-//! A refused call has to leave every byte of every buffer unchanged, and the lengths.
+//! A refused call has to leave every byte of every buffer unchanged, every line, and the lengths.
 
 #[path = "../rust/rights.rs"]
 mod rights;
 
-use rights::{Event, Refused};
+use rights::{Event, Line, Refused};
 use std::io::Write;
 
 /// The next part of the file: its length in `width` bytes, big-endian, and then its bytes.
@@ -28,21 +30,22 @@ fn part<'a>(file: &mut &'a [u8], width: usize) -> Option<&'a [u8]> {
 }
 
 /// One call with just enough room, after some with a byte too little, which must change nothing.
-fn answered(image: &mut Vec<u8>, records: &[u8]) -> Result<Vec<u8>, Refused> {
+fn answered(image: &mut Vec<u8>, records: &[u8], report: &mut [Line]) -> Result<Vec<u8>, Refused> {
     let before = image.clone();
+    let lines = report.to_vec();
     let mut length = image.len();
     let mut out = vec![0xa5; rights::room(records.len())];
     if let Some(less) = out.len().checked_sub(1) {
-        let refused = rights::answer(image, &mut length, records, &mut out[..less]).unwrap_err();
+        let refused = rights::answer(image, &mut length, records, &mut out[..less], report).unwrap_err();
         assert_eq!(refused, rights::check(image).err().unwrap_or(Refused::ShortOut));
-        assert!(*image == before && length == before.len() && out.iter().all(|&b| b == 0xa5));
+        assert!(*image == before && *report == lines && length == before.len() && out.iter().all(|&b| b == 0xa5));
     }
     if let Some(less) = image.len().checked_sub(1) {
-        let refused = rights::answer(&mut image[..less], &mut length, records, &mut out).unwrap_err();
+        let refused = rights::answer(&mut image[..less], &mut length, records, &mut out, report).unwrap_err();
         assert_eq!(refused, Refused::Image(20));
-        assert!(*image == before && length == before.len() && out.iter().all(|&b| b == 0xa5));
+        assert!(*image == before && *report == lines && length == before.len() && out.iter().all(|&b| b == 0xa5));
     }
-    let text = rights::answers(image, records);
+    let text = rights::answers(image, records, report);
     match text {
         Ok(_) => {
             assert_eq!(rights::check(image), Ok(()));
@@ -50,10 +53,22 @@ fn answered(image: &mut Vec<u8>, records: &[u8]) -> Result<Vec<u8>, Refused> {
         }
         Err(refused) => {
             assert_eq!(rights::check(image), Err(refused));
-            assert!(*image == before);
+            assert!(*image == before && *report == lines);
         }
     }
     text
+}
+
+/// The list of zeros of the book in an image; none at all if that is refused.
+fn start_list(image: &[u8]) -> Vec<Line> {
+    rights::zeros(image).unwrap_or_default()
+}
+
+/// The lines that are not as they were.
+fn print_changes(was: &[Line], lines: &[Line], print: &mut impl Write) {
+    for (_, line) in was.iter().zip(lines).filter(|(a, b)| a != b) {
+        writeln!(print, "used {} {} {}", line.content, line.times, line.seconds).unwrap();
+    }
 }
 
 fn days(file: &[u8], each: usize, print: &mut impl Write) {
@@ -65,8 +80,10 @@ fn days(file: &[u8], each: usize, print: &mut impl Write) {
         let step = if each == 0 { records.len().max(1) } else { each * rights::RECORD };
         let blocks: Vec<&[u8]> = if records.is_empty() { vec![records] } else { records.chunks(step).collect() };
         writeln!(print, "day {day}").unwrap();
+        let zeros = start_list(&image);
+        let mut report = zeros.clone();
         for block in blocks {
-            match answered(&mut image, block) {
+            match answered(&mut image, block, &mut report) {
                 Ok(text) => print.write_all(&text).unwrap(),
                 Err(Refused::Image(code)) => {
                     writeln!(print, "{code}").unwrap();
@@ -75,6 +92,7 @@ fn days(file: &[u8], each: usize, print: &mut impl Write) {
                 Err(refused) => panic!("{refused:?}"),
             }
         }
+        print_changes(&zeros, &report, print);
         day += 1;
     }
 }
@@ -83,7 +101,7 @@ fn images(file: &[u8], print: &mut impl Write) {
     let mut rest = file;
     while let Some(image) = part(&mut rest, 2) {
         let mut image = image.to_vec();
-        match answered(&mut image, &[]) {
+        match answered(&mut image, &[], &mut []) {
             Ok(text) => {
                 assert!(text.is_empty());
                 let hex: String = image.iter().map(|b| format!("{b:02x}")).collect();
@@ -133,20 +151,21 @@ fn event_in(record: &[u8]) -> Event {
 }
 
 /// One record as numbers, or through the text call if it is cut short.
-fn one(image: &mut Vec<u8>, record: &[u8]) -> Result<String, Refused> {
+fn one(image: &mut Vec<u8>, record: &[u8], report: &mut [Line]) -> Result<String, Refused> {
     if record.len() < rights::RECORD {
-        return rights::answers(image, record).map(|text| String::from_utf8(text).unwrap());
+        return rights::answers(image, record, report).map(|text| String::from_utf8(text).unwrap());
     }
     let event = event_in(record);
     assert_eq!(rights::record(event), record);
     let before = image.clone();
+    let lines = report.to_vec();
     let mut length = image.len();
     if let Some(less) = image.len().checked_sub(1) {
-        assert_eq!(rights::answer_one(&mut image[..less], &mut length, event), Err(Refused::Image(20)));
-        assert!(*image == before && length == before.len());
+        assert_eq!(rights::answer_one(&mut image[..less], &mut length, event, report), Err(Refused::Image(20)));
+        assert!(*image == before && *report == lines && length == before.len());
     }
-    let answer = rights::answer_event(image, event);
-    assert!(answer.is_ok() || *image == before);
+    let answer = rights::answer_event(image, event, report);
+    assert!(answer.is_ok() || *image == before && *report == lines);
     answer.map(|a| format!("{} {} {}\n", a.code, a.entry, a.until))
 }
 
@@ -157,9 +176,11 @@ fn ones(file: &[u8], print: &mut impl Write) {
         let records = part(&mut rest, 4).expect("a day has events");
         let mut image = image.to_vec();
         writeln!(print, "day {day}").unwrap();
+        let zeros = start_list(&image);
+        let mut report = zeros.clone();
         let each: Vec<&[u8]> = if records.is_empty() { vec![records] } else { records.chunks(rights::RECORD).collect() };
         for record in each {
-            match one(&mut image, record) {
+            match one(&mut image, record, &mut report) {
                 Ok(line) => print.write_all(line.as_bytes()).unwrap(),
                 Err(Refused::Image(code)) => {
                     writeln!(print, "{code}").unwrap();
@@ -168,7 +189,47 @@ fn ones(file: &[u8], print: &mut impl Write) {
                 Err(refused) => panic!("{refused:?}"),
             }
         }
+        print_changes(&zeros, &report, print);
         day += 1;
+    }
+}
+
+/// The next number of the file, in `width` bytes.
+fn number(file: &mut &[u8], width: usize) -> u64 {
+    let (head, rest) = file.split_at(width);
+    *file = rest;
+    head.iter().fold(0, |n, &b| n << 8 | b as u64)
+}
+
+/// A list of that many lines, of which the first 64 are stored; the others are blank.
+fn stored_lines(file: &mut &[u8], count: usize) -> Vec<Line> {
+    let mut lines = vec![Line { content: 0, times: 0, seconds: 0 }; count];
+    for line in lines.iter_mut().take(rights::LINES) {
+        *line = Line { content: number(file, 8), times: number(file, 8), seconds: number(file, 8) };
+    }
+    lines
+}
+
+/// The stored lists, as calls.c reads them.
+fn lists(file: &[u8], print: &mut impl Write) {
+    let mut rest = file;
+    let (mut book, mut list): (&[u8], Vec<Line>) = (&[], Vec::new());
+    while let Some(image) = part(&mut rest, 4) {
+        book = if image.is_empty() { book } else { image };
+        let record = part(&mut rest, 4).expect("a case has a record");
+        if number(&mut rest, 4) != 0 {
+            let count = number(&mut rest, 4) as usize;
+            list = stored_lines(&mut rest, count);
+        }
+        let after = if number(&mut rest, 4) != 0 { stored_lines(&mut rest, list.len()) } else { list.clone() };
+        if record.is_empty() || record.len() > rights::RECORD {
+            continue;
+        }
+        let mut report = list.clone();
+        let line = one(&mut book.to_vec(), record, &mut report).expect("a stored book is accepted");
+        print.write_all(line.as_bytes()).unwrap();
+        assert_eq!(report, after);
+        print_changes(&list, &report, print);
     }
 }
 
@@ -206,6 +267,9 @@ fn entry_numbers(image: &[u8], position: u32) -> Result<Vec<u32>, Refused> {
             e.first,
             e.used_seconds,
             e.started,
+            e.tracked,
+            e.timed_value,
+            e.mark,
         ]
     })
 }
@@ -220,6 +284,7 @@ fn ground_numbers(image: &[u8], position: u32, time: u32) -> Result<Vec<u32>, Re
             g.interval_over,
             g.seconds_spent,
             g.interval_zero,
+            g.switch_off,
         ]
     })
 }
@@ -238,13 +303,14 @@ fn player_numbers(image: &[u8], player: u32) -> Result<Vec<u32>, Refused> {
             p.open_entry,
             p.open_begin,
             p.open_until,
+            p.content,
         ]
     })
 }
 
 fn see(image: &[u8], print: &mut impl Write) {
     let book = rights::book(image);
-    seen_line(print, "book", 0, None, book.map(|b| vec![b.assets, b.entries, b.time]));
+    seen_line(print, "book", 0, None, book.map(|b| vec![b.assets, b.entries, b.time, b.switch]));
     let (assets, entries, now) = book.map_or((0, 0, 0), |b| (b.assets, b.entries, b.time));
     for i in 0..=assets {
         seen_line(print, "asset", i, None, rights::asset(image, i).map(|a| vec![a.number, a.inherit, a.key]));
@@ -274,8 +340,9 @@ fn seen(file: &[u8], print: &mut impl Write) {
         let mut image = image.to_vec();
         writeln!(print, "day {day}").unwrap();
         see(&image, print);
+        let mut report = start_list(&image);
         for block in records.chunks(97 * rights::RECORD) {
-            if rights::answers(&mut image, block).is_err() {
+            if rights::answers(&mut image, block, &mut report).is_err() {
                 break;
             }
             see(&image, print);
@@ -291,10 +358,11 @@ fn main() {
     match words[1].as_str() {
         "days" => days(&file, words[2].parse().unwrap(), &mut print),
         "ones" => ones(&file, &mut print),
+        "lists" => lists(&file, &mut print),
         "images" => images(&file, &mut print),
         "texts" => texts(&file, &mut print),
         "seen" => seen(&file, &mut print),
-        _ => panic!("usage: calls days N FILE, calls ones|images|texts|seen FILE"),
+        _ => panic!("usage: calls days N FILE, calls ones|lists|images|texts|seen FILE"),
     }
     print.flush().unwrap();
 }

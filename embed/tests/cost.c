@@ -22,6 +22,8 @@ static uint32_t event[6], numbers[RIGHTS_ENTRY_NUMBERS];
 static uint8_t code, entry;
 static uint32_t until;
 static uint64_t written, copy_length, elements;
+static struct rights_line lines[RIGHTS_LINES];
+static size_t line_count;
 static uint8_t texts[TEXTS]; /* each with its length in 4 bytes in front */
 static size_t texts_length, at, text_length;
 
@@ -46,7 +48,8 @@ static uint8_t answer(void)
 {
     memcpy(copy, image, length);
     copy_length = length;
-    return rights_answer(copy, sizeof copy, &copy_length, record, sizeof record, out, sizeof out, &written);
+    return rights_answer(copy, sizeof copy, &copy_length, record, sizeof record, out, sizeof out, &written, lines,
+                         line_count);
 }
 
 static uint8_t answer_one(void)
@@ -54,7 +57,7 @@ static uint8_t answer_one(void)
     memcpy(copy, image, length);
     copy_length = length;
     return rights_answer_one(copy, sizeof copy, &copy_length, (uint8_t)event[0], event[1], (uint8_t)event[2],
-                             (uint16_t)event[3], (uint8_t)event[4], event[5], &code, &entry, &until);
+                             (uint16_t)event[3], (uint8_t)event[4], event[5], &code, &entry, &until, lines, line_count);
 }
 
 static uint8_t make(void)
@@ -165,7 +168,7 @@ int main(int count, char **words)
     texts_length = fread(texts, 1, sizeof texts, stored);
     for (int i = 0; i < 6; i++)
         event[i] = (uint32_t)strtoul(words[i + 2], NULL, 10);
-    if (make() || check())
+    if (make() || check() || rights_zeros(image, length, lines, &line_count))
         fail("the book is refused");
     for (size_t i = 0; i < sizeof calls / sizeof *calls; i++) {
         double best = 1e9;

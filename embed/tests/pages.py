@@ -12,24 +12,25 @@ import rights  # noqa: E402
 import xml_rights  # noqa: E402
 
 RECORD_FIELDS = [("player", 1), ("number", 4), ("operation", 1), ("asset", 2), ("kind", 1), ("time", 4)]
-HEADER_FIELDS = [("mark", 3), ("version", 2), ("assets", 1), ("entries", 1), ("time", 4)]
+HEADER_FIELDS = [("mark", 3), ("version", 2), ("assets", 1), ("entries", 1), ("time", 4), ("switch", 4)]
 TABLES = [
     ("An event record", RECORD_FIELDS), ("Header", HEADER_FIELDS), ("Asset", rights.ASSET_FIELDS),
     ("Entry", rights.ENTRY_FIELDS), ("Player", rights.PLAYER_FIELDS)]
 
-# the codes of document 01's table, 31, and those of document 02's first order, each with the header's name; the first of each row has
-# the number
-CODES = {
-    0: "OK",
-    1: "BAD_REQUEST BAD_PLAYER OUT_OF_LINE NUMBER_USED BAD_TIME CUT_SHORT",
-    10: "NO_ASSET ALREADY_OPEN NONE_SUITABLE NONE_GRANTABLE NOTHING_OPEN NO_MORE_TIME",
-    20: "IMAGE_LENGTH IMAGE_MARK IMAGE_VERSION IMAGE_HEADER IMAGE_ASSETS IMAGE_ENTRIES IMAGE_PLAYERS IMAGE_METERS",
-    30: "SHORT_OUT NOT_THERE",
-    40: "XML_FORM XML_CONTENT XML_TOO_MANY",
-}
+# the codes of document 01's table, 31, and those of document 02's orders, each with the header's name; the first of each row has the
+# number. 30 is a result (a buffer too short) and an answer (a list that is not good)
+CODES = [
+    (0, "OK"),
+    (1, "BAD_REQUEST BAD_PLAYER OUT_OF_LINE NUMBER_USED BAD_TIME CUT_SHORT"),
+    (10, "NO_ASSET ALREADY_OPEN NONE_SUITABLE NONE_GRANTABLE NOTHING_OPEN NO_MORE_TIME"),
+    (20, "IMAGE_LENGTH IMAGE_MARK IMAGE_VERSION IMAGE_HEADER IMAGE_ASSETS IMAGE_ENTRIES IMAGE_PLAYERS IMAGE_METERS"),
+    (30, "SHORT_OUT NOT_THERE"),
+    (30, "BAD_LIST"),
+    (40, "XML_FORM XML_CONTENT XML_TOO_MANY SWITCHED_OFF"),
+]
 
 # the grounds in the order of embed/tests/seen.py
-GROUNDS = "COUNT_SPENT TIMED_SPENT BEFORE_START AFTER_END INTERVAL_OVER SECONDS_SPENT INTERVAL_ZERO NUMBERS"
+GROUNDS = "COUNT_SPENT TIMED_SPENT BEFORE_START AFTER_END INTERVAL_OVER SECONDS_SPENT INTERVAL_ZERO SWITCH_OFF NUMBERS"
 
 # the limits whose ranges the page tells, each with its flag
 RANGES = {"count": rights.COUNT, "timed": rights.TIMED, "timer": rights.TIMED, "interval": rights.INTERVAL,
@@ -134,9 +135,10 @@ def header_words(numbers):
         must(numbers[f"RIGHTS_HAS_{name}"] == getattr(rights, name), name)
     for position, name in enumerate(GROUNDS.split()):
         must(numbers.get(f"RIGHTS_GROUNDS_{name}") == position, f"the ground {name} in the header")
+    must(numbers["RIGHTS_LINES"] == rights.LINES, "the most lines of a list")
     longest = rights.write(rights.Book(0, [rights.Asset()] * rights.MOST, [rights.Entry()] * rights.MOST))
     must(numbers["RIGHTS_LONGEST_IMAGE"] == len(longest), "the longest image")
-    for first, names in CODES.items():
+    for first, names in CODES:
         for code, name in enumerate(names.split(), first):
             must(numbers.get(f"RIGHTS_{name}") == code, f"code {code} in the header")
 

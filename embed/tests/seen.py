@@ -1,7 +1,9 @@
-"""What the calls that read an image must print, according to the second program (oracle/rights.py), in the format of calls.c:
+"""What the calls that read an image, and those that are lent a stored list, must print, according to the second program
+(oracle/rights.py), in the format of calls.c:
 
     python3 embed/tests/seen.py seen days.bin
     python3 embed/tests/seen.py seen-images cases.bin
+    python3 embed/tests/seen.py lists lists.bin
 """
 
 import sys
@@ -28,29 +30,30 @@ def print_line(name, at, numbers, *time):
     print(name, at, *time, *numbers)
 
 
-def left(entry, time):
+def left(book, entry, time):
     """Whether the entry can be granted at that time, and what is left of its count, timed count and seconds."""
     pairs = ((rights.COUNT, entry.count, entry.used_count), (rights.TIMED, entry.timed, entry.used_timed),
              (rights.ACCUMULATED, entry.accumulated, entry.used_seconds))
-    return [int(rights.is_grantable(entry, time))] + [
+    return [int(rights.is_grantable(book, entry, time))] + [
         limit - used if entry.has(flag) else NO_LIMIT for flag, limit, used in pairs]
 
 
-def grounds(entry, time):
+def grounds(book, entry, time):
     """1 for each ground that stands against the entry at that time, in the order of rights.h."""
     over = entry.started and time >= entry.first + entry.interval
     tests = ((rights.COUNT, entry.used_count >= entry.count), (rights.TIMED, entry.used_timed >= entry.timed),
              (rights.START, time < entry.start), (rights.END, time > entry.end), (rights.INTERVAL, over),
              (rights.ACCUMULATED, entry.used_seconds >= entry.accumulated), (rights.INTERVAL, entry.interval == 0))
-    return [int(bool(entry.has(flag) and stands)) for flag, stands in tests]
+    stands = [entry.has(flag) and found for flag, found in tests] + [rights.fails_for_switch(book, entry)]
+    return [int(bool(found)) for found in stands]
 
 
 def settled(book, time):
     """The entries once every use that is over at that time has ended; the book stays as it is."""
-    found = rights.Book(book.time, book.assets, [replace(e) for e in book.entries], [replace(p) for p in book.players])
+    found = replace(book, entries=[replace(e) for e in book.entries], players=[replace(p) for p in book.players])
     for player in found.players:
         if player.open and player.until <= time:
-            rights.end_use(found, player, player.until)
+            rights.end_use(found, player, player.until, rights.zeros(found))
     return found.entries
 
 
@@ -75,7 +78,7 @@ def see(image):
         print_line("player", NO_LIMIT, refused)
         return
     now = book.time
-    print_line("book", 0, [len(book.assets), len(book.entries), now])
+    print_line("book", 0, [len(book.assets), len(book.entries), now, book.switch])
     for position in range(len(book.assets) + 1):
         print_line("asset", position, absent(book.assets, position, astuple))
     times = [0, now, now + 1, now + 30, now + 59, now + 60, now + 86400, NO_LIMIT]
@@ -83,9 +86,9 @@ def see(image):
     for position in range(len(book.entries) + 1):
         print_line("entry", position, absent(book.entries, position, astuple))
         for time, when, entries in tables:
-            print_line("left", position, absent(entries, position, lambda entry: left(entry, when)), time)
+            print_line("left", position, absent(entries, position, lambda entry: left(book, entry, when)), time)
         for time, when, entries in tables:
-            print_line("grounds", position, absent(entries, position, lambda entry: grounds(entry, when)), time)
+            print_line("grounds", position, absent(entries, position, lambda entry: grounds(book, entry, when)), time)
     for position in range(rights.PLAYERS + 1):
         print_line("player", position, absent(book.players, position, astuple))
     print_line("entry", 256, absent(book.entries, 256, astuple))
@@ -101,10 +104,48 @@ def seen_days(data):
         code, book = rights.read(image)
         if code != 0:
             continue
+        lines = rights.zeros(book)
         for at in range(0, len(records), 13):
-            rights.answer_record(book, records[at:at + 13])
+            rights.answer_record(book, records[at:at + 13], lines)
             if (at // 13 + 1) % EVERY == 0 or at + 13 >= len(records):
                 see(rights.write(book))
+
+
+def list_cases(data):
+    """The cases of lists.bin: a book, a record and the list that it is lent. The lines past the 64th are not stored: they are blank."""
+    at, book, lines = 0, b"", []
+
+    def number(width=4):
+        nonlocal at
+        at += width
+        return int.from_bytes(data[at - width:at], "big")
+
+    def stored():
+        nonlocal at
+        length = number()
+        at += length
+        return data[at - length:at]
+
+    def listed(count):
+        return [rights.Line(number(8), number(8), number(8)) if i < rights.LINES else rights.Line() for i in range(count)]
+
+    while at < len(data):
+        book = stored() or book
+        record = stored()
+        lines = listed(number()) if number() else lines
+        if number():
+            listed(len(lines))
+        yield book, record, lines
+
+
+def seen_lists(data):
+    """The answers, and the lines that are not as they were; bytes that are no record, or more than one, are left out."""
+    for image, record, lines in list_cases(data):
+        if 0 < len(record) <= 13:
+            answer, _, after = rights.lent(rights.read(image)[1], record, lines)
+            print(*answer)
+            for line in (line for was, line in zip(lines, after) if line != was):
+                print("used", line.content, line.times, line.seconds)
 
 
 def main():
@@ -112,6 +153,8 @@ def main():
     data = Path(name).read_bytes()
     if what == "seen":
         seen_days(data)
+    elif what == "lists":
+        seen_lists(data)
     else:
         for image in parts(data, 2):
             see(image)

@@ -5,6 +5,7 @@ files    reading and writing files; nothing is lost if a write fails
 texts    a book from its text, and a book as text
 state    who can use an entry, what is left of it, what differs between two books
 records  event records from their text, and in words with their answers
+report   the usage of each content over a day, as a bill
 why      why a begin would be answered as it would
 imported a book from an XML rights object, or where its text is at fault
 library  the answers, the next book, the grounds and the book of an XML text, from the proved library for C

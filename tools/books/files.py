@@ -12,7 +12,7 @@ import tempfile
 
 from .words import Trouble
 
-IMAGE_MOST = 4096           # more than any image has: a longer file is refused for its length anyway
+IMAGE_MOST = 8192           # more than any image has: a longer file is refused for its length anyway
 
 
 def reason(problem):

@@ -1,5 +1,5 @@
 """The answers to a file of events and the book after them, what stands against the entries of a book, and the book of an XML
-rights object, from the proved library for C (crates/embed).
+rights object, and the report of a day, from the proved library for C (crates/embed).
 
 The library and the small programs on top of it (tools/after.c, why.c, read_texts.c) are built if they are missing or older
 than their sources; the messages of the prover and the compiler go into target/tools/after.log.
@@ -12,6 +12,8 @@ import subprocess
 import sys
 import tempfile
 from pathlib import Path
+
+import rights
 
 from . import ROOT
 from .files import keep_inputs, read_image, reason, write_bytes
@@ -50,7 +52,7 @@ def answer(image, stream, work):
     try:
         (work / "book").write_bytes(image)
         with open(work / "answers", "wb") as answers:
-            return subprocess.run([MADE / "after", work / "book", work / "next"], stdin=stream, stdout=answers,
+            return subprocess.run([MADE / "after", work / "book", work / "next", work / "report"], stdin=stream, stdout=answers,
                                   stderr=subprocess.PIPE)
     except OSError as problem:
         raise Trouble(f"{problem.filename or work}: {reason(problem)}") from None
@@ -72,6 +74,22 @@ def judged(image, record, player, t):
                 raise Trouble(said or f"{ended.args[0]} ended with status {ended.returncode}")
         told = tuple(map(int, (work / "answers").read_text().split()))
         return told, [[word == "1" for word in line.split()] for line in listed.stdout.decode().splitlines()]
+
+
+def reported(image, records):
+    """By the library: the lines of the report after these records, handed on from zeros, and the book after them. The image must be one
+    that is accepted."""
+    with tempfile.TemporaryDirectory() as folder, tempfile.TemporaryFile() as stream:
+        build("after")
+        work = Path(folder)
+        stream.write(records)
+        stream.seek(0)
+        done = answer(image, stream, work)
+        if done.returncode != 0:
+            said = done.stderr.decode(errors="replace").strip()
+            raise Trouble(said or f"{MADE}/after ended with status {done.returncode}")
+        lines = [rights.Line(*map(int, line.split())) for line in (work / "report").read_text().splitlines()]
+        return lines, rights.read((work / "next").read_bytes())[1]
 
 
 def read_xml(text):

@@ -24,10 +24,12 @@ MEANINGS = {
     13: "refused: every entry for it is used up, out of its dates or never granted",
     14: "refused: the player has no use open",
     15: "refused: no more time can be given",
+    30: "turned away: the list that was lent for the report does not fit the book",
+    43: "refused: metering is off, and what is left for it is tracked and has no mark",
 }
 
 # A line of a text for `make` or `events`.
-TEXT = re.compile(rb"^\s*((time|asset|entry|player)\s+[0-9]|[0-9]+\.[0-9]+\s+(begin|continue|stop)\s)", re.MULTILINE)
+TEXT = re.compile(rb"^\s*((time|asset|entry|player)\s+[0-9]|metering\s+o|[0-9]+\.[0-9]+\s+(begin|continue|stop)\s)", re.MULTILINE)
 
 
 class EventText:
@@ -142,6 +144,6 @@ def line_words(line, record, latest):
     event = event_of(record)
     request = (event.number, event.operation, event.asset, event.kind)
     again = " (asked again: the same answer as before)" if latest.get(event.player) == request else ""
-    if code == 0 or code >= 10:
+    if code in rights.TAKEN:
         latest[event.player] = request
     return f"{line}: {answer_words(event.operation, event.kind, code, entry, until)}{again}"

@@ -20,9 +20,7 @@ def heirs(book, parent):
 def settled(book, t):
     """The book as a request at t finds it: the uses that are over by then have ended."""
     book = copy.deepcopy(book)
-    for player in book.players:
-        if player.open and player.until <= t:
-            rights.end_use(book, player, player.until)
+    rights.settle(book, t, rights.zeros(book))
     return book
 
 
@@ -59,6 +57,8 @@ def grounds(book, position, t):
         found.append(f"it ended {date(entry.end)}")
     if entry.has(rights.INTERVAL) and entry.started and t >= entry.first + entry.interval:
         found.append(f"its interval ended {date(entry.first + entry.interval - 1)}")
+    if rights.fails_for_switch(book, entry):
+        found.append("metering is off (it is tracked and has no mark)")
     return found
 
 
@@ -66,7 +66,7 @@ def stop_helps(book, position, t):
     """Whether somebody could be granted the entry if its open uses were stopped at t."""
     book = copy.deepcopy(book)
     for player in book.users(position):
-        rights.stop(book, player, t)
+        rights.stop(book, player, t, rights.zeros(book))
     return not grounds(book, position, t)
 
 
@@ -130,8 +130,16 @@ def date_words(entry):
 
 
 def limit_words(entry):
-    """Everything that limits the entry, and what is used of it."""
-    return used_words(entry) + date_words(entry) or ["no limits"]
+    """Everything that limits the entry, and what is used of it; its track."""
+    return (used_words(entry) + date_words(entry) or ["no limits"]) + track_words(entry)
+
+
+def track_words(entry):
+    """Whether its uses are in the report, and whether it may be used without one."""
+    if not entry.tracked:
+        return []
+    least = f", a use is a time from {span(entry.timed_value)} on" if entry.timed_value else ", every use is a time"
+    return [f"tracked{least}; {'granted with metering off too (mark 1)' if entry.mark else 'not granted with metering off (mark 0)'}"]
 
 
 def asset_words(book, asset):
@@ -154,7 +162,8 @@ def asset_words(book, asset):
 
 def show(image):
     book = load(image)
-    print(f"The book's time: {when(book.time)}, UTC\n")
+    print(f"The book's time: {when(book.time)}, UTC")
+    print(f"Metering: {'on' if book.switch else 'off'}\n")
     print(f"Assets: {len(book.assets)}")
     for asset in book.assets:
         print(f"  {asset.number:>5}  {asset_words(book, asset)}")
@@ -176,7 +185,8 @@ def player_lines(index, player):
     words = answer_words(player.operation, player.kind, player.code, player.entry, player.answer_until)
     yield f"         answer {player.code}, {words}"
     if player.open:
-        yield f"         open: entry {player.open_entry}, since {when(player.begin)}, until {when(player.until)}"
+        content = f", content {player.content}" if player.content else ""
+        yield f"         open: entry {player.open_entry}, since {when(player.begin)}, until {when(player.until)}{content}"
 
 
 # ---- left
@@ -232,6 +242,8 @@ def diff(first, second):
 def differences(a, b):
     if a.time != b.time:
         yield f"time: {when(a.time)} -> {when(b.time)}"
+    if a.switch != b.switch:
+        yield f"metering: {a.switch} -> {b.switch}"
     yield from only_in("asset", {x.number: asset_text(x) for x in a.assets}, {x.number: asset_text(x) for x in b.assets})
     orders = [[asset.number for asset in book.assets] for book in (a, b)]
     if orders[0] != orders[1] and sorted(orders[0]) == sorted(orders[1]):
@@ -268,6 +280,7 @@ def entry_fields(entry):
         value = getattr(entry, name)
         fields[name] = "none" if not entry.has(flag) else when(value) if name in ("start", "end") else value
     fields["timer"] = entry.timer
+    fields["tracked"], fields["timed value"], fields["mark"] = entry.tracked, entry.timed_value, entry.mark
     fields["used count"], fields["used timed"] = entry.used_count, entry.used_timed
     fields["used seconds"] = entry.used_seconds
     fields["first use"] = when(entry.first) if entry.started else "none"
@@ -276,8 +289,8 @@ def entry_fields(entry):
 
 def player_fields(player):
     if player.number == 0:
-        return {"number": "none", "request": "none", "answer": "none", "open use": "none"}
+        return {"number": "none", "request": "none", "answer": "none", "open use": "none", "content": "none"}
     answer = f"refused {player.code}" if player.code else f"granted entry {player.entry} until {when(player.answer_until)}"
     use = f"entry {player.open_entry}, {when(player.begin)} until {when(player.until)}" if player.open else "none"
     return {"number": player.number, "request": request_words(player.operation, player.asset, player.kind),
-            "answer": answer, "open use": use}
+            "answer": answer, "open use": use, "content": player.content or "none"}

@@ -9,6 +9,8 @@ from .words import KINDS, OPERATIONS, TOP, Mistake, Trouble, at_line, is_number,
 FLAGS = {"count": 1, "timed": 2, "start": 4, "end": 8, "interval": 16, "accumulated": 32}
 METERS = {"count": "used_count", "timed": "used_timed", "accumulated": "used_seconds"}
 COUNTS, LENGTHS = 1_000_000, 100_000_000    # the greatest count and timer; the greatest interval and accumulated
+SWITCH = {"off": 0, "on": 1}
+STORED = [code for code in rights.TAKEN if code]
 
 REFUSED = {
     20: "the file's length is wrong",
@@ -17,7 +19,7 @@ REFUSED = {
     23: "it has more than 64 assets or entries, or its time is too late",
     24: "an asset breaks the rules: number 0, a number twice, or key not 0 or 1",
     25: "an entry breaks the rules",
-    26: "a player's record breaks the rules",
+    26: "a player's record or the metering switch breaks the rules",
     27: "what is used does not fit the limits or the open uses",
 }
 
@@ -46,14 +48,18 @@ class BookText:
 
     def line(self, words):
         first = words.take("a word")
-        read = {"time": self.time, "asset": self.asset, "entry": self.entry, "player": self.player}.get(first)
+        read = {"time": self.time, "metering": self.metering, "asset": self.asset, "entry": self.entry, "player": self.player}.get(first)
         if read is None:
-            raise Mistake(f"a line begins with time, asset, entry or player, not with `{short(first)}`")
+            raise Mistake(f"a line begins with time, metering, asset, entry or player, not with `{short(first)}`")
         read(words)
 
     def time(self, words):
         self.once("the book's time", "time")
         self.book.time = words.time("the time")
+
+    def metering(self, words):
+        self.once("the metering switch", "metering")
+        self.book.switch = words.of(SWITCH, "switch")
 
     def asset(self, words):
         asset = Asset(words.number(65_535, "the asset's number", 1))
@@ -104,7 +110,14 @@ class BookText:
                     else words.number(COUNTS, "what is used"))
             setattr(entry, METERS[meter], used)
             return
+        if word == "timed" and words.accept("value"):
+            once("`timed value`", "timed value")
+            entry.timed_value = words.length("the timed value", TOP)
+            return
         once(f"`{word}`", word)
+        if word in ("tracked", "mark"):
+            setattr(entry, word, 1)
+            return
         if word in ("object", "asset"):
             setattr(entry, word, words.number(65_535, f"{what}'s number", 1))
         elif word in ("start", "end"):
@@ -140,14 +153,16 @@ class BookText:
             player.answer_until = words.time("until", TOP)
         elif words.accept("refused"):
             player.code, player.entry = words.number(TOP, "the code"), 255
-            if not 10 <= player.code <= 15:
-                raise Mistake(f"a stored refusal is 10 to 15, not {player.code}; what is turned away (1 to 6) is not stored")
+            if player.code not in STORED:
+                raise Mistake(f"a stored refusal is 10 to 15 or 43, not {player.code}; what is turned away (1 to 6, 30) is not stored")
         else:
             raise Mistake("the last answer is expected here: `granted ENTRY UNTIL` or `refused CODE`")
         if words.accept("open"):
             player.open, player.open_entry = 1, words.number(63, "the entry of the open use")
             player.begin = words.time("the begin of the open use")
             player.until = words.time("the until of the open use", rights.LATEST + rights.GRANT)
+            if words.accept("content"):
+                player.content = words.number(65_535, "the content of the open use", 1)
         self.player_lines[index] = (words.at, words.line)
 
 
@@ -166,6 +181,8 @@ def check_entry(book, entry):
         raise Mistake("the start is after the end")
     if entry.is_momentary() and (entry.has(rights.ACCUMULATED) or entry.timer):
         raise Mistake("print and export take no time: no accumulated and no timer")
+    if not entry.tracked and (entry.timed_value or entry.mark):
+        raise Mistake("a timed value and a mark belong to a tracked entry: `tracked` is missing")
     for name, meter in METERS.items():
         if getattr(entry, meter) and not entry.has(FLAGS[name]):
             raise Mistake(f"`used {name}` belongs to a limit `{name}`, which this entry does not have")
@@ -197,6 +214,10 @@ def player_fault(book, player):
         return f"it has entry {player.open_entry} open, whose interval has not started: `first` is missing there"
     if entry.has(rights.INTERVAL) and not entry.first <= player.begin < player.until <= entry.first + entry.interval:
         return f"the open use lies outside the interval of entry {player.open_entry}"
+    if player.content and book.asset(player.content) is None:
+        return f"the content of the open use is {player.content}, which is not in the book"
+    if entry.tracked and not player.content:
+        return f"entry {player.open_entry} is tracked: `content` and the asset that the open use is for are missing"
     return None
 
 
@@ -259,6 +280,8 @@ def text(image):
 
 def text_lines(book):
     yield f"time {time_text(book.time)}"
+    if book.switch:
+        yield "metering on"
     for asset in book.assets:
         yield f"asset {asset.number} {asset_text(asset)}"
     for position, entry in enumerate(book.entries):
@@ -282,6 +305,8 @@ def entry_text(entry):
             parts.append(f"{name} {time_text(value) if name in ('start', 'end') else value}")
         if name == "timed" and entry.timer:
             parts.append(f"timer {entry.timer}")
+    if entry.tracked:
+        parts += ["tracked"] + [f"timed value {entry.timed_value}"] * (entry.timed_value != 0) + ["mark"] * entry.mark
     if entry.started:
         parts.append(f"first {time_text(entry.first)}")
     parts += [f"used {name} {getattr(entry, meter)}" for name, meter in METERS.items() if getattr(entry, meter)]
@@ -298,7 +323,8 @@ def answer_text(player):
 
 
 def open_text(player):
-    return f"open {player.open_entry} {time_text(player.begin)} {time_text(player.until)}"
+    content = f" content {player.content}" if player.content else ""
+    return f"open {player.open_entry} {time_text(player.begin)} {time_text(player.until)}{content}"
 
 
 def player_text(player):

@@ -94,7 +94,8 @@ def ground_words(entry):
             f"not after {date(entry.end)}",
             f"interval over since {date(entry.first + entry.interval)}" if entry.interval else "",
             spent_words("seconds", entry.used_seconds, entry.accumulated),
-            "interval 0: never granted"]
+            "interval 0: never granted",
+            "metering is off, and it is tracked without a mark"]
 
 
 def spent_words(name, used, limit):

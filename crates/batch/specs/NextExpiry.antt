@@ -3,14 +3,15 @@ use Prim.Native.Nat.{ℕ, zero, suc, _+_, _<_, _≤_, min}
 use mathlib.Core.Path.{_≡_, refl, sym, ap, subst, _∙_}
 use mathlib.Core.Logic.{⊎-elim}
 use mathlib.Core.Bool.{Bool, true, false, not, _&&_, cond, false≢true}
-use mathlib.Core.List.{List, map}
-use lib.ListN.{length, getD, set, length-map, List·getD-map, List·getD-eq-default}
-use lib.Seq.{getD-set-same, getD-set-other, map-set-same}
+use mathlib.Core.List.{List, [], _∷_, map}
+use lib.ListN.{length, getD, set, take, length-map, List·getD-map, List·getD-eq-default}
+use lib.Seq.{getD-set-same, getD-set-other, map-set-same, take-all}
 use lib.Dec.{leb, ltb}
 use native.Mathlib.Numerals.{add-one}
 use native.Mathlib.Nat.{min-le-left, min-le-right}
 use native.Mathlib.Omega.{arith}
 use borrow.Author.Tests.{lt-leb, lt-ltb, le-leb, le-ltb, leb-true, leb-false}
+use Rattle.book.specs.declared.Line.{Line}
 use Rattle.book.specs.declared.Open.{Open}
 use Rattle.book.specs.declared.Player.{Player}
 use Rattle.book.specs.declared.Book.{Book}
@@ -19,6 +20,7 @@ use Rattle.model.specs.Book.{playerAt, latestTime}
 use Rattle.model.specs.Meters.{isOn, expired, shut}
 use Rattle.model.specs.Step.{openAt}
 use Rattle.model.specs.Choice.{anyOf}
+use Rattle.model.specs.Report.{overdue, recordedAll}
 use Rattle.numbers.proofs.Tests.{on-test, and-left, and-right}
 use Rattle.uses.specs.Due.{dueAt, anyDue}
 use Rattle.index.specs.Mapped.{mapped-at, mapped-set}
@@ -77,8 +79,8 @@ least-under t ps (suc n) i h =
 
 -- a use that settling leaves open
 left-open : (t n : ℕ) (o : Open) (w : Bool) → isOn o && leb (o .until) t ≡ w → n ≤ runsUntil t o → isOn
-    (cond w (record { on = 0; entry = 0; begin = 0; until = 0 }) o) ≡ true → n ≤ cond w
-    (record { on = 0; entry = 0; begin = 0; until = 0 }) o .until
+    (cond w (record { on = 0; entry = 0; begin = 0; until = 0; content = 0 }) o) ≡ true → n ≤ cond w
+    (record { on = 0; entry = 0; begin = 0; until = 0; content = 0 }) o .until
 unfolding runsUntil
 left-open t n o true e h on = absurd (false≢true on)
 left-open t n o false e h on =
@@ -244,3 +246,23 @@ module _ (ps : List Player) (ends : List ℕ) (is-ends : ends ≡ map endOfPlaye
 pub shut-end : (t : ℕ) (p : Player) → expired t (p .current) ≡ true → never ≡ endOf (shut t p .current)
 unfolding shut
 shut-end t p d = rw d
+
+-- ## What settling records
+
+-- nothing is due before the next expiry
+none-overdue : (t n : ℕ) (ps : List Player) → NextExpiry n ps → t < n → overdue t ps ≡ []
+unfolding overdue expired
+none-overdue t n [] q h = refl
+none-overdue t n (p ∷ ps) q h =
+    rw (not-due t (p .current) (isOn (p .current)) refl (λ on. omega (arith, h, q 0 on)))
+    (none-overdue t n ps (λ i. q (suc i)) h)
+
+pub recorded-still : (b : Book) (ls : List Line) (t n : ℕ) → NextExpiry n (b .players) → t < n
+    → ls ≡ recordedAll b ls (overdue t (b .players))
+unfolding recordedAll
+recorded-still b ls t n q h = rw (none-overdue t n (b .players) q h) refl
+
+-- all players in turn
+pub recorded-by : (b : Book) (ls : List Line) (t p : ℕ) (A : List Line) → length (b .players) ≤ p
+    → A ≡ recordedAll b ls (overdue t (take p (b .players))) → A ≡ recordedAll b ls (overdue t (b .players))
+recorded-by b ls t p A h e = e ∙ ap (λ (ps : List Player). recordedAll b ls (overdue t ps)) (take-all p (b .players) h)

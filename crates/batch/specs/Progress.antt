@@ -1,4 +1,4 @@
--- How far a block of records is answered: the book and the text after the first i records, and the law of one more record.
+-- How far a block of records is answered: the book, the lines and the text after the first i records, and the law of one more record.
 use Prim.Native.Nat.{ℕ, _+_, _*_, _-_, _≤_, min}
 use mathlib.Core.Path.{_≡_, refl, sym, ap, _∙_}
 use mathlib.Core.Bool.{true}
@@ -14,109 +14,131 @@ use Rattle.numbers.specs.Count.{listed}
 use Rattle.numbers.specs.Buffer.{lay}
 use Rattle.numbers.proofs.BufferLaws.{lay-nil, lay-lay, lay-front}
 use Rattle.book.specs.declared.Answer.{Answer}
+use Rattle.book.specs.declared.Line.{Line}
 use Rattle.book.specs.declared.Book.{Book}
-use Rattle.book.specs.declared.Outcome.{Outcome}
-use Rattle.model.specs.Step.{stepRecord}
-use Rattle.model.specs.History.{recordAnswers, recordFinal}
-use Rattle.model.specs.Run.{line, lines, recordCount, recordAt, recordsIn, runText, runBook}
+use Rattle.book.specs.declared.Reported.{Reported}
+use Rattle.model.specs.Run.{line, lines, recordCount, recordAt, recordsIn}
+use Rattle.batch.specs.Block.{stepOn, answersOn, bookOn, linesOn, blockText}
 use Rattle.text.specs.Lines.{lineEnd, lineBuffer}
 use Rattle.text.specs.Digits.{below, length-lay}
 
--- the book and the text after the first i records of s
-unfoldable pub bookTo : Book → List ℕ → ℕ → Book
-bookTo b s i = recordFinal b (listed (recordAt s) i)
+-- the book, the lines and the text after the first i records of s
+unfoldable pub bookTo : Book → List Line → ℕ → List ℕ → ℕ → Book
+bookTo b ls count s i = bookOn b ls count (listed (recordAt s) i)
 
-unfoldable pub textTo : Book → List ℕ → ℕ → List ℕ
-textTo b s i = lines (recordAnswers b (listed (recordAt s) i))
+unfoldable pub linesTo : Book → List Line → ℕ → List ℕ → ℕ → List Line
+linesTo b ls count s i = linesOn b ls count (listed (recordAt s) i)
 
-final-next : (b : Book) (rs : List (List ℕ)) (r : List ℕ) → recordFinal b (rs ++ (r ∷ [])) ≡ stepRecord (recordFinal b rs) r .book
-unfolding recordFinal
-final-next b [] r = refl
-final-next b (x ∷ rs) r = final-next (stepRecord b x .book) rs r
-
-answers-next : (b : Book) (rs : List (List ℕ)) (r : List ℕ) → recordAnswers b (rs ++ (r ∷ [])) ≡ recordAnswers b rs ++
-    (stepRecord (recordFinal b rs) r .answer ∷ [])
-unfolding recordFinal recordAnswers
-answers-next b [] r = refl
-answers-next b (x ∷ rs) r = ap (λ (as′ : List Answer). stepRecord b x .answer ∷ as′) (answers-next (stepRecord b x .book) rs r)
+unfoldable pub textTo : Book → List Line → ℕ → List ℕ → ℕ → List ℕ
+textTo b ls count s i = lines (answersOn b ls count (listed (recordAt s) i))
 
 lines-next : (as′ : List Answer) (a : Answer) → lines (as′ ++ (a ∷ [])) ≡ lines as′ ++ line a
 unfolding lines
 lines-next [] a = append-nil (line a)
 lines-next (x ∷ as′) a = ap (λ (t : List ℕ). line x ++ t) (lines-next as′ a) ∙ sym (append-assoc (line x) (lines as′) (line a))
 
-book-next : (b : Book) (s : List ℕ) (i : ℕ) → bookTo b s (i + 1) ≡ stepRecord (bookTo b s i) (recordAt s i) .book
-unfolding bookTo listed
-book-next b s i = rw add-one (final-next b (listed (recordAt s) i) (recordAt s i))
+module _ (count : ℕ) where
+  -- what record r gives after some others
+  abbrev nextOn : Book → List Line → List (List ℕ) → List ℕ → Reported
+  nextOn b ls rs r = stepOn (bookOn b ls count rs) (linesOn b ls count rs) count r
 
-text-next : (b : Book) (s : List ℕ) (i : ℕ) → textTo b s (i + 1) ≡ textTo b s i ++ line (stepRecord (bookTo b s i) (recordAt s i) .answer)
-unfolding bookTo textTo listed
-text-next b s i =
-    rw add-one
-    (ap lines (answers-next b (listed (recordAt s) i) (recordAt s i))
-    ∙ lines-next (recordAnswers b (listed (recordAt s) i)) (stepRecord (recordFinal b (listed (recordAt s) i)) (recordAt s i) .answer))
+  on-next : (rs : List (List ℕ)) (b : Book) (ls : List Line) (r : List ℕ)
+      → (bookOn b ls count (rs ++ (r ∷ [])) ≡ nextOn b ls rs r .book) × (linesOn b ls count (rs ++ (r ∷ [])) ≡ nextOn b ls rs r .lines)
+      × (answersOn b ls count (rs ++ (r ∷ [])) ≡ answersOn b ls count rs ++ (nextOn b ls rs r .answer ∷ []))
+  unfolding bookOn linesOn answersOn
+  on-next [] b ls r = (refl, refl, refl)
+  on-next (x ∷ rs) b ls r =
+      let y = stepOn b ls count x in
+      let h = on-next rs (y .book) (y .lines) r in
+      (h .0, h .1, ap (λ (as′ : List Answer). y .answer ∷ as′) (h .2))
 
--- b and the buffer old at the start, book and out after i records, with at bytes written
-pub record Progress (b : Book) (s old : List ℕ) (i : ℕ) (book : Book) (out : List ℕ) (at : ℕ) : Type 0 where
-  pub is-book : book ≡ bookTo b s i
-  pub text : out ≡ lay old 0 (textTo b s i)
-  pub end : at ≡ length (textTo b s i)
+  module _ (b : Book) (ls : List Line) (s : List ℕ) (i : ℕ) where
+    abbrev turnOf : Reported
+    turnOf = stepOn (bookTo b ls count s i) (linesTo b ls count s i) count (recordAt s i)
+
+    book-next : bookTo b ls count s (i + 1) ≡ turnOf .book
+    unfolding bookTo linesTo listed
+    book-next = rw add-one (on-next (listed (recordAt s) i) b ls (recordAt s i) .0)
+
+    held-next : linesTo b ls count s (i + 1) ≡ turnOf .lines
+    unfolding bookTo linesTo listed
+    held-next = rw add-one (on-next (listed (recordAt s) i) b ls (recordAt s i) .1)
+
+    text-next : textTo b ls count s (i + 1) ≡ textTo b ls count s i ++ line (turnOf .answer)
+    unfolding bookTo linesTo textTo listed
+    text-next =
+        rw add-one
+        (ap lines (on-next (listed (recordAt s) i) b ls (recordAt s i) .2)
+        ∙ lines-next (answersOn b ls count (listed (recordAt s) i)) (nextOn b ls (listed (recordAt s) i) (recordAt s i) .answer))
+
+-- b, the lines ls and the buffer old at the start; book, held and out after i records, with at bytes written
+pub record Progress (b : Book) (ls : List Line) (count : ℕ) (s old : List ℕ) (i : ℕ) (book : Book) (held : List Line) (out : List ℕ)
+    (at : ℕ) : Type 0 where
+  pub is-book : book ≡ bookTo b ls count s i
+  pub is-lines : held ≡ linesTo b ls count s i
+  pub text : out ≡ lay old 0 (textTo b ls count s i)
+  pub end : at ≡ length (textTo b ls count s i)
   pub room : at ≤ 19 * i
 
-pub progress-none : (b : Book) (s old : List ℕ) → Progress b s old 0 b old 0
-unfolding bookTo textTo listed recordFinal recordAnswers lines
-progress-none b s old = record { is-book = refl; text = sym (lay-nil old 0); end = refl; room = omega arith }
+module _ (b : Book) (ls : List Line) (count : ℕ) (s old : List ℕ) where
+  pub progress-none : Progress b ls count s old 0 b ls old 0
+  unfolding bookTo linesTo textTo listed bookOn linesOn answersOn lines
+  progress-none = record { is-book = refl; is-lines = refl; text = sym (lay-nil old 0); end = refl; room = omega arith }
 
-pub progress-length : (b : Book) (s old : List ℕ) (i : ℕ) (book : Book) (out : List ℕ) (at : ℕ) → Progress b s old i book out at → 19 *
-    i ≤ length old → length out ≡ length old
-progress-length b s old i book out at u h = ap length (u .text) ∙ length-lay old 0 (textTo b s i) (omega arith)
+  module _ (i : ℕ) (book : Book) (held : List Line) (out : List ℕ) (at : ℕ) (u : Progress b ls count s old i book held out at) where
+    abbrev so-far : List ℕ
+    so-far = textTo b ls count s i
 
--- one more record: its answer and book are those of the step, and its line is put after the text
-pub progress-next :
-    (b : Book) (s old : List ℕ) (i : ℕ) (book : Book) (out : List ℕ) (at : ℕ) →
-    Progress b s old i book out at →
-    19 * (i + 1) ≤ length old →
-    (a : Answer) (book′ : Book) (out′ : List ℕ) (at′ : ℕ) →
-    stepRecord book (recordAt s i) ≡ record { answer = a; book = book′ } →
-    (at′ ≡ lineEnd a at (length out)) × (out′ ≡ lineBuffer a at out) × (at′ ≤ at + 19) →
-    Progress b s old (i + 1) book′ out′ at′
-unfolding lineEnd lineBuffer
-progress-next b s old i book out at u h a book′ out′ at′ e p =
-    let l : length out ≡ length old = progress-length b s old i book out at u (omega arith) in
-    let w : leb (at + 19) (length out) ≡ true = le-leb (at + 19) (length out) (omega arith) in
-    let f : stepRecord (bookTo b s i) (recordAt s i) ≡ record { answer = a; book = book′ } = ap
-    (λ (x : Book). stepRecord x (recordAt s i)) (sym (u .is-book)) ∙ e in
-    let t : textTo b s (i + 1) ≡ textTo b s i ++ line a = text-next b s i ∙ ap (λ (o : Outcome). textTo b s i ++ line (o .answer)) f in
-    let n : at′ ≡ at + length (line a) = p .0 ∙ rw w refl in
-    let o : out′ ≡ lay out at (line a) = p .1 ∙ rw w refl in
-    let k : length (textTo b s (i + 1)) ≡ length (textTo b s i) + length (line a) = ap length t ∙ length-append (textTo b s i) (line a) in
-    record {
-      is-book = sym (book-next b s i ∙ ap (λ (o : Outcome). o .book) f);
-      text =
-          o
-          ∙ ap (λ (x : List ℕ). lay x at (line a)) (u .text)
-          ∙ lay-lay old 0 (textTo b s i) (line a) at (omega arith) (omega arith)
-          ∙ ap (λ (x : List ℕ). lay old 0 x) (sym t);
-      end = omega arith;
-      room = omega arith;
-    }
+    pub progress-length : 19 * i ≤ length old → length out ≡ length old
+    progress-length h = ap length (u .text) ∙ length-lay old 0 so-far (omega (arith, h, u .end, u .room))
 
--- all records
-pub progress-all :
-    (b : Book) (s old : List ℕ) (i : ℕ) (book : Book) (out : List ℕ) (at : ℕ) →
-    Progress b s old i book out at →
-    i ≡ recordCount s →
-    (book ≡ runBook b s) × (at ≡ length (runText b s)) × (out ≡ runText b s ++ drop (length (runText b s)) old)
-unfolding runBook runText recordsIn bookTo textTo
-progress-all b s old i book out at u e =
-    let k : listed (recordAt s) i ≡ listed (recordAt s) (recordCount s) = ap (listed (recordAt s)) e in (
-      u .is-book ∙ ap (recordFinal b) k,
-      u .end ∙ ap (λ (rs : List (List ℕ)). length (lines (recordAnswers b rs))) k,
-      u .text
-          ∙ ap (λ (rs : List (List ℕ)). lay old 0 (lines (recordAnswers b rs))) k
-          ∙ lay-front old (lines (recordAnswers b (listed (recordAt s) (recordCount s))))
-          (length (lines (recordAnswers b (listed (recordAt s) (recordCount s))))) refl,
-    )
+    -- one more record: its answer, book and lines are those of the step, and its line is put after the text
+    pub progress-next :
+        19 * (i + 1) ≤ length old →
+        (a : Answer) (book′ : Book) (held′ : List Line) (out′ : List ℕ) (at′ : ℕ) →
+        stepOn book held count (recordAt s i) ≡ record { answer = a; book = book′; lines = held′ } →
+        (at′ ≡ lineEnd a at (length out)) × (out′ ≡ lineBuffer a at out) × (at′ ≤ at + 19) →
+        Progress b ls count s old (i + 1) book′ held′ out′ at′
+    unfolding lineEnd lineBuffer
+    progress-next h a book′ held′ out′ at′ e p =
+        let l : length out ≡ length old = progress-length (omega arith) in
+        let w : leb (at + 19) (length out) ≡ true = le-leb (at + 19) (length out) (omega (arith, l, u .room, h)) in
+        let f : turnOf count b ls s i ≡ record { answer = a; book = book′; lines = held′ } =
+        ap (λ (x : Book). stepOn x (linesTo b ls count s i) count (recordAt s i)) (sym (u .is-book))
+        ∙ ap (λ (x : List Line). stepOn book x count (recordAt s i)) (sym (u .is-lines)) ∙ e in
+        let t : textTo b ls count s (i + 1) ≡ so-far ++ line a = text-next count b ls s i ∙ ap
+        (λ (o : Reported). so-far ++ line (o .answer)) f in
+        let n : at′ ≡ at + length (line a) = p .0 ∙ rw w refl in
+        let o : out′ ≡ lay out at (line a) = p .1 ∙ rw w refl in
+        let k : length (textTo b ls count s (i + 1)) ≡ length so-far + length (line a) = ap length t ∙ length-append so-far (line a) in
+        record {
+          is-book = sym (book-next count b ls s i ∙ ap (λ (o : Reported). o .book) f);
+          is-lines = sym (held-next count b ls s i ∙ ap (λ (o : Reported). o .lines) f);
+          text =
+              o
+              ∙ ap (λ (x : List ℕ). lay x at (line a)) (u .text)
+              ∙ lay-lay old 0 so-far (line a) at (omega (arith, u .end)) (omega (arith, u .end, u .room, h))
+              ∙ ap (λ (x : List ℕ). lay old 0 x) (sym t);
+          end = omega (arith, n, k, u .end);
+          room = omega (arith, p .2, u .room);
+        }
+
+    -- all records
+    pub progress-all :
+        i ≡ recordCount s →
+        (book ≡ bookOn b ls count (recordsIn s)) × (held ≡ linesOn b ls count (recordsIn s)) × (at ≡ length (blockText b ls count s))
+        × (out ≡ blockText b ls count s ++ drop (length (blockText b ls count s)) old)
+    unfolding recordsIn bookTo linesTo textTo
+    progress-all e =
+        let k : listed (recordAt s) i ≡ listed (recordAt s) (recordCount s) = ap (listed (recordAt s)) e in (
+          u .is-book ∙ ap (bookOn b ls count) k,
+          u .is-lines ∙ ap (linesOn b ls count) k,
+          u .end ∙ ap (λ (rs : List (List ℕ)). length (lines (answersOn b ls count rs))) k,
+          u .text
+              ∙ ap (λ (rs : List (List ℕ)). lay old 0 (lines (answersOn b ls count rs))) k
+              ∙ lay-front old (lines (answersOn b ls count (listed (recordAt s) (recordCount s))))
+              (length (lines (answersOn b ls count (listed (recordAt s) (recordCount s))))) refl,
+        )
 
 -- the bytes from 13 i, as far as the record goes
 pub record-part : (s : List ℕ) (i n : ℕ) → n ≡ min (13 * i + 13) (length s) - 13 * i → take n (drop (13 * i) s) ≡ recordAt s i

@@ -1,18 +1,20 @@
 // Answers a block of event records in turn, each with one line of text.
-// The loop over the records owns the book: no function called for an event takes or returns it, and what an event changes is stored
-// in place.
+// The loop over the records owns the book and the lines of the report: no function called for an event takes or returns them, and what
+// an event changes is stored in place. The list is checked once; after that only the numbers of a raised line can leave the bound.
 // Kept beside the book is what each event would otherwise recompute: a lower bound of the next until, so that settling costs one
 // comparison when nothing is due, the end of each player's use, a row for each entry with what the choice needs to know of it, and
 // the assets by number.
 ghost use mathlib.Core.Path.{_≡_};
 ghost use mathlib.Core.Bool.{cond};
+ghost use Rattle.model.specs.Record.{decoded};
 ghost use Rattle.batch.specs.Block.{Answered};
-ghost use Rattle.batch.specs.StepCases.{looked};
+ghost use Rattle.batch.specs.StepCases.{looked, admit};
 use book::Ask;
 use book::Book;
 use book::Decoded;
 use book::Entry;
 use book::Gate;
+use book::Line;
 use book::NEVER;
 use book::Player;
 use book::RECORD_LAST;
@@ -24,6 +26,7 @@ use book::blank_entry;
 use book::refusal;
 use choice::Best;
 use choice::consider_row;
+use choice::refreshed;
 use choice::row_of;
 use index::end_of;
 use index::ends_of;
@@ -31,8 +34,15 @@ use index::fill_places;
 use index::reach_at;
 use index::rows_of;
 use lent::shut_player;
+use metering::good_after;
+use metering::good_lines;
+use metering::line_for;
+use metering::raised_for;
+use metering::request_line;
+use metering::request_seconds;
 use numbers::min_size;
 use numbers::min_time;
+use numbers::saturating_sub;
 use record::decode;
 use rules::begin_code;
 use rules::gate_of;
@@ -45,9 +55,11 @@ use uses::ended_meters;
 use uses::kept;
 use uses::stop_on;
 
-// The book after the records, and how many bytes of text were written.
+// The book and the lines after the records, how many of the lines were lent, and how many bytes of text were written.
 pub struct Block {
     pub book: Book,
+    pub lines: [Line; 64],
+    pub lent: usize,
     pub written: usize,
 }
 
@@ -69,20 +81,41 @@ fn further_code(on: bool) -> u8
     if on { 0 } else { 14 }
 }
 
+// What a record holds if its list is good, otherwise 30.
+fn received(good: bool, s: &[u8]) -> Decoded
+    ensures { λ r. ⌜ r ≡ admit good (decoded (now (s .entry))) ⌝ }
+{
+    if good {
+        decode(s)
+    } else {
+        Decoded::Invalid(30)
+    }
+}
+
 // If out has no room for 19 bytes per record, nothing is done.
 // Rules out: a record left out or answered twice, a last record cut short that gets no line, a byte touched after the text.
-pub fn answer_block(b: Book, records: &[u8], out: &mut [u8]) -> Block
-    ensures { λ r. ⌜ Answered b (now (records .entry)) (now (out .entry)) (r .book) (r .written) (now (out .exit)) ⌝ }
+pub fn answer_block(
+    b: Book,
+    records: &[u8],
+    out: &mut [u8],
+    lines: [Line; 64],
+    lent: usize,
+) -> Block
+    ensures { λ r. ⌜ Answered b lines lent (now (records .entry)) (now (out .entry))
+        (r .book) (r .lines) (r .lent) (r .written) (now (out .exit)) ⌝ }
 {
     let size = records.len();
     let count = (size + RECORD_LAST) / RECORD_SIZE;
     if out.len() / 19 < count {
         return Block {
             book: b,
+            lines: lines,
+            lent: lent,
             written: 0,
         };
     }
     let mut book = b;
+    let mut report = lines;
     let mut places = [0u8; 65536];
     let mut parents = [0u16; 64];
     let assets = book.assets;
@@ -91,6 +124,7 @@ pub fn answer_block(b: Book, records: &[u8], out: &mut [u8]) -> Block
     let mut rows = rows_of(entries);
     let players = book.players;
     let mut ends = ends_of(players);
+    let mut good = good_lines(assets, book.assetcount, lines, lent);
     let mut next: u32 = 0;
     let mut at: usize = 0;
     let mut i: usize = 0;
@@ -98,7 +132,7 @@ pub fn answer_block(b: Book, records: &[u8], out: &mut [u8]) -> Block
         let from = RECORD_SIZE * i;
         let to = min_size(from + RECORD_SIZE, size);
         i = i + 1;
-        match decode(&records[from..to]) {
+        match received(good, &records[from..to]) {
             Decoded::Invalid(code) => {
                 at = put_line(out, at, refusal(code));
             }
@@ -140,6 +174,21 @@ pub fn answer_block(b: Book, records: &[u8], out: &mut [u8]) -> Block
                                         book.entries[k] = y;
                                         let row = row_of(l, ended);
                                         rows[k] = row;
+                                        let content = o.content;
+                                        let w = line_for(
+                                            book.switch,
+                                            l,
+                                            assets,
+                                            book.assetcount,
+                                            content,
+                                        );
+                                        if w < 64 {
+                                            let seconds = saturating_sub(o.until, o.begin);
+                                            let line = report[w];
+                                            let raised = raised_for(l, line, seconds);
+                                            report[w] = raised;
+                                            good = good_after(good, raised);
+                                        }
                                     }
                                     let shutting = book.players[p];
                                     let q = shut_player(shutting, t);
@@ -156,6 +205,7 @@ pub fn answer_block(b: Book, records: &[u8], out: &mut [u8]) -> Block
                         let ask = Ask {
                             player: event.player,
                             time: t,
+                            switch: book.switch,
                         };
                         let mut k = o.entry as usize;
                         let mut code = further_code(o.on == 1);
@@ -170,6 +220,7 @@ pub fn answer_block(b: Book, records: &[u8], out: &mut [u8]) -> Block
                                 );
                                 let mut best = Best {
                                     suits: false,
+                                    switched: false,
                                     at: 64,
                                     rank: Rank {
                                         flags: 2,
@@ -193,7 +244,13 @@ pub fn answer_block(b: Book, records: &[u8], out: &mut [u8]) -> Block
                                     e = e + 1;
                                 }
                                 k = best.at;
-                                code = begin_code(o.on == 1, reach.usable, best.suits, k);
+                                code = begin_code(
+                                    o.on == 1,
+                                    reach.usable,
+                                    best.suits,
+                                    k,
+                                    best.switched,
+                                );
                             }
                             Request::Continue => {}
                             Request::Stop => {}
@@ -211,8 +268,8 @@ pub fn answer_block(b: Book, records: &[u8], out: &mut [u8]) -> Block
                             let m = x.meters;
                             let mut part = kept(0, m, o);
                             match request {
-                                Request::Begin(_, _) => {
-                                    part = begin_on(l, m, o, (k % 256) as u8, ask);
+                                Request::Begin(_, asset) => {
+                                    part = begin_on(l, m, o, (k % 256) as u8, asset, ask);
                                 }
                                 Request::Continue => {
                                     part = continue_on(l, m, o, t);
@@ -223,16 +280,31 @@ pub fn answer_block(b: Book, records: &[u8], out: &mut [u8]) -> Block
                             }
                             if k < 64 {
                                 let meters = part.meters;
-                                let y = Entry {
-                                    limits: l,
-                                    meters: meters,
-                                };
+                                let mut y = book.entries[k];
+                                y.meters = meters;
                                 book.entries[k] = y;
-                                let row = row_of(l, meters);
+                                let was = rows[k];
+                                let row = refreshed(was, l, meters);
                                 rows[k] = row;
                             }
                             answer = part.answer;
                             current = part.current;
+                            let w = request_line(
+                                request,
+                                answer,
+                                o,
+                                book.switch,
+                                l,
+                                assets,
+                                book.assetcount,
+                            );
+                            if w < 64 {
+                                let seconds = request_seconds(request, t, o);
+                                let line = report[w];
+                                let raised = raised_for(l, line, seconds);
+                                report[w] = raised;
+                                good = good_after(good, raised);
+                            }
                             let end = end_of(current);
                             ends[j] = end;
                             next = min_time(next, end);
@@ -252,6 +324,8 @@ pub fn answer_block(b: Book, records: &[u8], out: &mut [u8]) -> Block
     }
     Block {
         book: book,
+        lines: report,
+        lent: lent,
         written: at,
     }
 }

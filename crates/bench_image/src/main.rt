@@ -2,6 +2,8 @@
 // It prints the last answer and the last length.
 use book::Book;
 
+const IMAGE: usize = 4815;
+
 struct Turn {
     code: u8,
     length: usize,
@@ -10,7 +12,7 @@ struct Turn {
 
 // Reads the image, given the book held, and writes the resulting book.
 fn one_turn(held: Book, image: &[u8]) -> Turn {
-    let mut out = io::buffer();
+    let mut out = [0u8; IMAGE];
     let got = image_read::read(held, image);
     let code = got.code;
     let after = got.book;
@@ -38,7 +40,7 @@ fn turns(image: &[u8]) -> Turn {
 }
 
 fn main() {
-    let mut image = io::buffer();
+    let mut image = [0u8; IMAGE];
     let fd = os::open_read(b"full.rbk");
     let n = io::read_full(fd, &mut image);
     let t = turns(&image[..n]);

@@ -1,4 +1,5 @@
--- Answering in blocks: whole records first, and then what follows them, print the same text and leave the same book as all at once.
+-- Answering in blocks: whole records first, and then what follows them with the lines that these left, print the same text and leave
+-- the same book and the same lines as all at once.
 -- So the run program's text does not depend on how its input is split.
 use Prim.Native.Nat.{ℕ, zero, suc, _+_, _*_, _-_, _<_}
 use mathlib.Core.Path.{_≡_, refl, sym, ap, ap₂, _∙_}
@@ -10,22 +11,33 @@ use lib.Seq.{take-append-le, drop-append-le, drop-append-add}
 use Rattle.numbers.specs.Count.{listed}
 use Rattle.numbers.proofs.TableLaws.{listed-same}
 use Rattle.book.specs.declared.Answer.{Answer}
+use Rattle.book.specs.declared.Line.{Line}
 use Rattle.book.specs.declared.Book.{Book}
-use Rattle.model.specs.Step.{stepRecord}
-use Rattle.model.specs.History.{recordAnswers, recordFinal}
-use Rattle.model.specs.Run.{line, lines, recordCount, recordAt, recordsIn, runText, runBook}
+use Rattle.model.specs.Report.{receive, linesLeft, lent}
+use Rattle.model.specs.History.{recordAnswers, recordFinal, recordLines}
+use Rattle.model.specs.Run.{line, lines, recordCount, recordAt, recordsIn, runText, runBook, runLines}
 
 -- ## Lists of records
 
-final-joined : (b : Book) (rs qs : List (List ℕ)) → recordFinal b (rs ++ qs) ≡ recordFinal (recordFinal b rs) qs
-unfolding recordFinal
-final-joined b [] qs = refl
-final-joined b (r ∷ rs) qs = final-joined (stepRecord b r .book) rs qs
+final-joined : (b : Book) (ls : List Line) (rs qs : List (List ℕ))
+    → recordFinal b ls (rs ++ qs) ≡ recordFinal (recordFinal b ls rs) (recordLines b ls rs) qs
+unfolding recordFinal recordLines
+final-joined b ls [] qs = refl
+final-joined b ls (r ∷ rs) qs = final-joined (receive b (lent ls r) .book) (linesLeft b (lent ls r)) rs qs
 
-answers-joined : (b : Book) (rs qs : List (List ℕ)) → recordAnswers b (rs ++ qs) ≡ recordAnswers b rs ++ recordAnswers (recordFinal b rs) qs
-unfolding recordFinal recordAnswers
-answers-joined b [] qs = refl
-answers-joined b (r ∷ rs) qs = ap (λ (as′ : List Answer). stepRecord b r .answer ∷ as′) (answers-joined (stepRecord b r .book) rs qs)
+left-joined : (b : Book) (ls : List Line) (rs qs : List (List ℕ))
+    → recordLines b ls (rs ++ qs) ≡ recordLines (recordFinal b ls rs) (recordLines b ls rs) qs
+unfolding recordFinal recordLines
+left-joined b ls [] qs = refl
+left-joined b ls (r ∷ rs) qs = left-joined (receive b (lent ls r) .book) (linesLeft b (lent ls r)) rs qs
+
+answers-joined : (b : Book) (ls : List Line) (rs qs : List (List ℕ))
+    → recordAnswers b ls (rs ++ qs) ≡ recordAnswers b ls rs ++ recordAnswers (recordFinal b ls rs) (recordLines b ls rs) qs
+unfolding recordFinal recordLines recordAnswers
+answers-joined b ls [] qs = refl
+answers-joined b ls (r ∷ rs) qs =
+    let y = receive b (lent ls r) in
+    ap (λ (as′ : List Answer). y .answer ∷ as′) (answers-joined (y .book) (linesLeft b (lent ls r)) rs qs)
 
 lines-joined : (as′ bs : List Answer) → lines (as′ ++ bs) ≡ lines as′ ++ lines bs
 unfolding lines
@@ -73,13 +85,19 @@ module _ (s t : List ℕ) (k : ℕ) (whole : length s ≡ 13 * k) where
       (listed-same (recordAt (s ++ t)) (recordAt s) k record-before ∙ ap (listed (recordAt s)) (sym count-whole))
       (listed-same (λ (i : ℕ). recordAt (s ++ t) (k + i)) (recordAt t) (recordCount t) (λ i h. record-behind i))
 
-  pub block-book : (b : Book) → runBook b (s ++ t) ≡ runBook (runBook b s) t
-  unfolding runBook
-  block-book b = ap (recordFinal b) records-joined ∙ final-joined b (recordsIn s) (recordsIn t)
+  module _ (b : Book) (ls : List Line) where
+    pub block-book : runBook b ls (s ++ t) ≡ runBook (runBook b ls s) (runLines b ls s) t
+    unfolding runBook runLines
+    block-book = ap (recordFinal b ls) records-joined ∙ final-joined b ls (recordsIn s) (recordsIn t)
 
-  pub block-text : (b : Book) → runText b (s ++ t) ≡ runText b s ++ runText (runBook b s) t
-  unfolding runBook runText
-  block-text b =
-      ap (λ (rs : List (List ℕ)). lines (recordAnswers b rs)) records-joined
-      ∙ ap lines (answers-joined b (recordsIn s) (recordsIn t))
-      ∙ lines-joined (recordAnswers b (recordsIn s)) (recordAnswers (recordFinal b (recordsIn s)) (recordsIn t))
+    pub block-lines : runLines b ls (s ++ t) ≡ runLines (runBook b ls s) (runLines b ls s) t
+    unfolding runBook runLines
+    block-lines = ap (recordLines b ls) records-joined ∙ left-joined b ls (recordsIn s) (recordsIn t)
+
+    pub block-text : runText b ls (s ++ t) ≡ runText b ls s ++ runText (runBook b ls s) (runLines b ls s) t
+    unfolding runBook runLines runText
+    block-text =
+        ap (λ (rs : List (List ℕ)). lines (recordAnswers b ls rs)) records-joined
+        ∙ ap lines (answers-joined b ls (recordsIn s) (recordsIn t))
+        ∙ lines-joined (recordAnswers b ls (recordsIn s)) (recordAnswers (recordFinal b ls (recordsIn s))
+        (recordLines b ls (recordsIn s)) (recordsIn t))

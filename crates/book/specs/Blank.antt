@@ -9,6 +9,7 @@ use Rattle.book.specs.declared.Last.{Last}
 use Rattle.book.specs.declared.Open.{Open}
 use Rattle.book.specs.declared.Player.{Player}
 use Rattle.book.specs.declared.Book.{Book}
+use Rattle.book.specs.declared.Line.{Line}
 
 abbrev pub noAsset : Asset
 noAsset = record { number = 0; inherit = 0; key = 0 }
@@ -26,6 +27,9 @@ noLimits = record {
   end = 0;
   interval = 0;
   accumulated = 0;
+  tracked = 0;
+  timedvalue = 0;
+  mark = 0;
 }
 
 abbrev pub noMeters : Meters
@@ -41,7 +45,7 @@ abbrev pub noLast : Last
 noLast = record { number = 0; operation = 0; asset = 0; kind = 0; answer = noAnswer }
 
 abbrev pub closed : Open
-closed = record { on = 0; entry = 0; begin = 0; until = 0 }
+closed = record { on = 0; entry = 0; begin = 0; until = 0; content = 0 }
 
 abbrev pub noPlayer : Player
 noPlayer = record { last = noLast; current = closed }
@@ -49,9 +53,13 @@ noPlayer = record { last = noLast; current = closed }
 abbrev pub noBook : Book
 noBook = record {
   time = 0;
+  switch = 0;
   assetcount = 0;
   entrycount = 0;
   assets = replicate 64 noAsset;
   entries = replicate 64 noEntry;
   players = replicate 16 noPlayer;
 }
+
+abbrev pub noLine : Line
+noLine = record { content = 0; times = 0; seconds = 0 }

@@ -1,4 +1,5 @@
--- The one way in which a book is rebuilt: another time, other entries, other players. No event changes the assets or the counts.
+-- The one way in which a book is rebuilt: another time, other entries, other players. No event changes the switch, the assets or the
+-- counts.
 use Prim.Native.Nat.{ℕ}
 use mathlib.Core.List.{List}
 use Rattle.book.specs.declared.Entry.{Entry}
@@ -8,6 +9,7 @@ use Rattle.book.specs.declared.Book.{Book}
 abbrev pub changed : Book → ℕ → List Entry → List Player → Book
 changed b t es ps = record {
   time = t;
+  switch = b .switch;
   assetcount = b .assetcount;
   entrycount = b .entrycount;
   assets = b .assets;

@@ -4,7 +4,7 @@
 ghost use mathlib.Core.Path.{_≡_};
 ghost use Prim.Native.Nat.{min};
 ghost use lib.ListN.{getD};
-ghost use Rattle.book.specs.Blank.{noAsset, noEntry, noPlayer, noBook, closed};
+ghost use Rattle.book.specs.Blank.{noAsset, noEntry, noPlayer, noBook, closed, noLine};
 
 // The latest time that an event can have.
 pub const LATEST_TIME: u32 = 4000000000;
@@ -32,7 +32,8 @@ pub struct Asset {
     pub key: u8,
 }
 
-// What an entry allows. The flags say which limits hold.
+// What an entry allows. The flags say which limits hold. Tracked is 1 if its uses count in the report: one time for a use of at least
+// timedvalue seconds. Mark is contentAccessGranted.
 pub struct Limits {
     pub object: u16,
     pub asset: u16,
@@ -45,6 +46,9 @@ pub struct Limits {
     pub end: u32,
     pub interval: u32,
     pub accumulated: u32,
+    pub tracked: u32,
+    pub timedvalue: u32,
+    pub mark: u32,
 }
 
 // An entry's usage so far. Started is 0 or 1, first is the time at which the interval began.
@@ -77,12 +81,13 @@ pub struct Last {
     pub answer: Answer,
 }
 
-// The use that a player has open, if on is 1.
+// The use that a player has open, if on is 1. Content is the asset that its begin asked for.
 pub struct Open {
     pub on: u8,
     pub entry: u8,
     pub begin: u32,
     pub until: u32,
+    pub content: u32,
 }
 
 pub struct Player {
@@ -90,9 +95,18 @@ pub struct Player {
     pub current: Open,
 }
 
-// Slots past the counts are blank in a legal book, so that equal books are equal values.
+// One line of the usage report: how often and for how many seconds a content was used.
+#[repr(C)]
+pub struct Line {
+    pub content: u64,
+    pub times: u64,
+    pub seconds: u64,
+}
+
+// Slots past the counts are blank in a legal book, so that equal books are equal values. Switch is 1 if uses are metered for the report.
 pub struct Book {
     pub time: u32,
+    pub switch: u32,
     pub assetcount: u8,
     pub entrycount: u8,
     pub assets: [Asset; 64],
@@ -121,10 +135,11 @@ pub struct Event {
     pub time: u32,
 }
 
-// Who asks, and when: what the choice of an entry reads of an event.
+// Who asks, and when, and the book's switch: what the choice of an entry reads besides the entries.
 pub struct Ask {
     pub player: u8,
     pub time: u32,
+    pub switch: u32,
 }
 
 // What stands against granting an entry, each ground under its name.
@@ -136,6 +151,7 @@ pub struct Grounds {
     pub intervalover: bool,
     pub secondsspent: bool,
     pub intervalzero: bool,
+    pub switchoff: bool,
 }
 
 // What the bytes of an event record decode to: an event, or the code that refuses them.
@@ -163,6 +179,13 @@ pub struct Rank {
 pub struct Outcome {
     pub answer: Answer,
     pub book: Book,
+}
+
+// The same with the lines of the report after it.
+pub struct Reported {
+    pub answer: Answer,
+    pub book: Book,
+    pub lines: [Line; 64],
 }
 
 // Rules out: a number or a key that is not 0.
@@ -193,6 +216,9 @@ pub fn blank_entry() -> Entry
             end: 0,
             interval: 0,
             accumulated: 0,
+            tracked: 0,
+            timedvalue: 0,
+            mark: 0,
         },
         meters: Meters {
             count: 0,
@@ -225,6 +251,7 @@ pub fn blank_player() -> Player
             entry: 0,
             begin: 0,
             until: 0,
+            content: 0,
         },
     }
 }
@@ -249,6 +276,18 @@ pub fn at_most_64(count: u8) -> usize
     if n < 64 { n } else { 64 }
 }
 
+// A line that names no content.
+// Rules out: a time or a second in it.
+pub fn blank_line() -> Line
+    ensures { λ r. ⌜ r ≡ noLine ⌝ }
+{
+    Line {
+        content: 0,
+        times: 0,
+        seconds: 0,
+    }
+}
+
 // The empty book.
 // Rules out: a time or a count that is not 0.
 pub fn blank_book() -> Book
@@ -256,6 +295,7 @@ pub fn blank_book() -> Book
 {
     Book {
         time: 0,
+        switch: 0,
         assetcount: 0,
         entrycount: 0,
         assets: [blank_asset(); 64],
@@ -274,10 +314,11 @@ pub fn closed_use() -> Open
         entry: 0,
         begin: 0,
         until: 0,
+        content: 0,
     }
 }
 
-// "Each of 1 to 15 returns entry 255 and until 0."
+// "Each of 1 to 15 returns entry 255 and until 0.", and so do 30 and 43.
 // Rules out: entry 0, the code in another place.
 pub fn refusal(code: u8) -> Answer
     ensures { λ r. ⌜ r ≡ record { code = code; entry = 255; until = 0 } ⌝ }

@@ -8,6 +8,7 @@ use Rattle.book.specs.declared.Ask.{Ask}
 use Rattle.book.specs.declared.Entry.{Entry}
 use Rattle.model.specs.Book.{limitsAt, metersAt}
 use Rattle.model.specs.Choice.{Catalog, Choice, nobody, chosen, prefer, chooseOf, anyOf, choose, suits, grantable, goesBefore, parentOf}
+use Rattle.model.specs.Choice.{failsForSwitch}
 use Rattle.numbers.proofs.Tests.{and-right}
 use Rattle.choice.specs.declared.Best.{Best}
 use Rattle.choice.specs.Best.{position, suitsAt, allowedAt, choiceAfter, bestAfter}
@@ -52,6 +53,11 @@ module _ (c : Catalog) (es : List Entry) (ask : Ask) (asset kind : ℕ) where
   pub best-suits : best .suits ≡ anyOf (suits c es asset kind) (c .entryCount)
   unfolding bestAfter
   best-suits = refl
+
+  -- 43 in place of 13 if this is true
+  pub best-switched : best .switched ≡ anyOf (failsForSwitch c es ask asset kind) (c .entryCount)
+  unfolding bestAfter
+  best-switched = refl
 
   pub best-some :
       best .at < 64 →

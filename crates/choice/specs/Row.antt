@@ -1,20 +1,23 @@
 -- What the choice needs to know of an entry, as a row: a turn of the choice on a row is a turn on its entry.
 use Prim.Native.Nat.{ℕ, _+_, _<_, min}
-use mathlib.Core.Path.{_≡_, refl, sym, _∙_}
-use mathlib.Core.Bool.{Bool, true, false, not, _&&_, _||_, cond, Bool·not-not}
+use mathlib.Core.Path.{_≡_, refl, sym, ap, _∙_}
+use mathlib.Core.Bool.{Bool, true, false, not, _&&_, _||_, cond, Bool·not-not, and-true, and-false}
+use mathlib.Core.List.{List, [], _∷_, _++_}
 use native.Mathlib.Omega.{arith}
+use native.Mathlib.Nat.{add-zero}
 use lib.Dec.{leb, ltb, eqb}
-use borrow.Author.Tests.{ltb-true, ltb-false, leb-true, leb-false, lt-ltb, le-ltb, le-leb}
-use Rattle.numbers.specs.Count.{one}
+use borrow.Author.Tests.{ltb-true, ltb-false, leb-true, leb-false, lt-ltb, le-ltb, le-leb, eq-eqb, ne-eqb}
+use Rattle.numbers.specs.Count.{one, howMany}
 use Rattle.book.specs.declared.Ask.{Ask}
+use Rattle.book.specs.declared.Grounds.{Grounds}
 use Rattle.book.specs.declared.Limits.{Limits}
 use Rattle.book.specs.declared.Meters.{Meters}
 use Rattle.model.specs.Book.{flagged}
 use Rattle.model.specs.Book.{countFlag, timedFlag, startFlag, endFlag, intervalFlag, accumulatedFlag}
 use Rattle.model.specs.Meters.{where-flagged, isStarted}
-use Rattle.model.specs.Choice.{noEnd, own, suitable, fails, groundsOf, groundList, grantable, rankOf, ranksBefore}
+use Rattle.model.specs.Choice.{noEnd, own, suitable, fails, groundsOf, grantable, switchOnly, rankOf, ranksBefore}
 use Rattle.model.proofs.Ledger.Facts.{not-positive}
-use Rattle.numbers.proofs.Tests.{on-test, none-row}
+use Rattle.numbers.proofs.Tests.{on-test, on-same, none-row}
 use Rattle.book.specs.declared.Rank.{Rank}
 use Rattle.choice.specs.declared.Best.{Best}
 use Rattle.choice.specs.declared.Row.{Row}
@@ -47,7 +50,25 @@ rowOf l m = record {
   start = startOf l;
   window = windowOf l m;
   end = cond (flagged endFlag l) (l .end) noEnd;
+  guarded = eqb (l .tracked) 1 && not (eqb (l .mark) 1);
 }
+
+-- the row of an entry whose meters have become m
+abbrev pub refreshedRow : Limits → Meters → Row → Row
+refreshedRow l m row = record {
+  asset = row .asset;
+  kind = row .kind;
+  flags = row .flags;
+  fresh = one (not (isStarted m));
+  start = row .start;
+  window = windowOf l m;
+  end = row .end;
+  guarded = row .guarded;
+}
+
+pub row-refreshed : (l : Limits) (m n : Meters) → refreshedRow l n (rowOf l m) ≡ rowOf l n
+unfolding rowOf
+row-refreshed l m n = refl
 
 -- the rank of the row's entry, as the code holds it
 abbrev pub rowRank : ℕ → Row → Rank
@@ -65,16 +86,20 @@ rowBelongs asset parent row = eqb (row .asset) asset || (not (eqb parent 0) && e
 abbrev pub rowSuits : ℕ → ℕ → ℕ → Row → Bool
 rowSuits asset parent kind row = eqb (row .kind) kind && rowBelongs asset parent row
 
-abbrev pub rowGrants : Ask → Row → Bool
-rowGrants ask row = leb (row .start) (ask .time) && ltb (ask .time) (row .window)
+abbrev pub rowOpen : Ask → Row → Bool
+rowOpen ask row = leb (row .start) (ask .time) && ltb (ask .time) (row .window)
+
+-- the switch stands against the row's entry
+abbrev pub rowBarred : Ask → Row → Bool
+rowBarred ask row = row .guarded && not (eqb (ask .switch) 1)
 
 -- entry i, with that row, against the best so far
 unfoldable pub rowConsidered : ℕ → ℕ → ℕ → Ask → ℕ → Row → Best → Best
 rowConsidered asset parent kind ask i row best =
     cond (rowSuits asset parent kind row)
-    (cond (ranksBefore (rowRank asset row) (best .rank) && rowGrants ask row)
-    (record { suits = true; at = i; rank = rowRank asset row })
-    (record { suits = true; at = best .at; rank = best .rank }))
+    (cond (ranksBefore (rowRank asset row) (best .rank) && (rowOpen ask row && not (rowBarred ask row)))
+    (record { suits = true; switched = best .switched; at = i; rank = rowRank asset row })
+    (record { suits = true; switched = best .switched || (rowOpen ask row && rowBarred ask row); at = best .at; rank = best .rank }))
     best
 
 -- ## A turn on a row is a turn on its entry
@@ -144,11 +169,50 @@ ordered false false false false true false false = refl
 ordered false false false false false false true = refl
 ordered false false false false false false false = refl
 
--- from the start until before the window ends, an entry is grantable
-pub window-grants : (ask : Ask) (l : Limits) (m : Meters) → ask .time < noEnd
-    → (leb (startOf l) (ask .time) && ltb (ask .time) (windowOf l m)) ≡ grantable ask l m
-unfolding startOf windowOf spent groundsOf grantable
-window-grants ask l m h =
+-- the grounds but the switch
+abbrev others : Grounds → List Bool
+others g =
+    g .countspent ∷ g .timedspent ∷ g .beforestart ∷ g .afterend ∷ g .intervalover ∷ g .secondsspent ∷ g .intervalzero ∷ []
+
+how-many-last : (bs : List Bool) (w : Bool) → howMany (bs ++ (w ∷ [])) ≡ howMany bs + one w
+how-many-last [] w = omega arith
+how-many-last (b ∷ bs) w = omega (arith, how-many-last bs w)
+
+-- the last stands alone
+only-last : (bs : List Bool) (w : Bool) → (w && eqb (howMany (bs ++ (w ∷ []))) 1) ≡ (eqb (howMany bs) 0 && w)
+only-last bs false = sym (and-false (eqb (howMany bs) 0))
+only-last bs true =
+    let n = how-many-last bs true in
+    on-same (howMany bs) 0
+    (λ z. rw (eq-eqb (howMany (bs ++ (true ∷ []))) 1 (omega (arith, n)), eq-eqb (howMany bs) 0 z))
+    (λ z. rw (ne-eqb (howMany (bs ++ (true ∷ []))) 1 (λ y. z (omega (arith, n, y))), ne-eqb (howMany bs) 0 z))
+
+-- none stands
+none-last : (bs : List Bool) (w : Bool) → eqb (howMany (bs ++ (w ∷ []))) 0 ≡ (eqb (howMany bs) 0 && not w)
+none-last bs w = go w (how-many-last bs w)
+  where
+    go : (w : Bool) → howMany (bs ++ (w ∷ [])) ≡ howMany bs + one w → eqb (howMany (bs ++ (w ∷ []))) 0 ≡ (eqb (howMany bs) 0 && not w)
+    go false n = ap (λ (k : ℕ). eqb k 0) (n ∙ add-zero (howMany bs)) ∙ sym (and-true (eqb (howMany bs) 0))
+    go true n = ne-eqb (howMany (bs ++ (true ∷ []))) 0 (λ y. absurd (omega (arith, n, y))) ∙ sym (and-false (eqb (howMany bs) 0))
+
+-- the switch, as the row has it
+barred-is : (ask : Ask) (l : Limits) (m : Meters)
+    → (eqb (l .tracked) 1 && not (eqb (l .mark) 1) && not (eqb (ask .switch) 1)) ≡ groundsOf ask l m .switchoff
+unfolding groundsOf
+barred-is ask l m = go (eqb (l .tracked) 1) (eqb (l .mark) 1) (eqb (ask .switch) 1)
+  where
+    go : (t k w : Bool) → (t && not k && not w) ≡ fails t (w || k)
+    go false k w = refl
+    go true true true = refl
+    go true true false = refl
+    go true false true = refl
+    go true false false = refl
+
+-- from the start until before the window ends, no other ground stands
+pub window-open : (ask : Ask) (l : Limits) (m : Meters) → ask .time < noEnd
+    → (leb (startOf l) (ask .time) && ltb (ask .time) (windowOf l m)) ≡ eqb (howMany (others (groundsOf ask l m))) 0
+unfolding startOf windowOf spent groundsOf
+window-open ask l m h =
     let g = groundsOf ask l m in
     rw (
       below-zero,
@@ -162,11 +226,13 @@ window-grants ask l m h =
       is-zero (flagged intervalFlag l) (l .interval),
     )
     (ordered (g .countspent) (g .timedspent) (g .beforestart) (g .afterend) (g .intervalover) (g .secondsspent) (g .intervalzero)
-    ∙ none-row true (groundList g))
+    ∙ none-row true (others g))
 
 pub row-considered :
     (asset parent kind : ℕ) (ask : Ask) (i : ℕ) (l : Limits) (m : Meters) (best : Best) →
     ask .time < noEnd →
     rowConsidered asset parent kind ask i (rowOf l m) best ≡ considered asset parent kind ask i l m best
-unfolding rowConsidered rowOf considered rankOf suitable own
-row-considered asset parent kind ask i l m best h = rw (window-grants ask l m h) refl
+unfolding rowConsidered rowOf considered rankOf suitable own grantable switchOnly
+row-considered asset parent kind ask i l m best h =
+    let g = groundsOf ask l m in
+    rw (window-open ask l m h, barred-is ask l m, none-last (others g) (g .switchoff), only-last (others g) (g .switchoff)) refl

@@ -9,7 +9,7 @@ ghost use Rattle.choice.specs.Reach.{tableOf, foundIn, reachIn};
 ghost use Prim.Native.Nat.{min};
 ghost use Rattle.model.specs.Choice.{noEnd};
 ghost use Rattle.choice.specs.Best.{bestAfter};
-ghost use Rattle.choice.specs.Row.{windowOf, rowOf, rowGrants, rowConsidered};
+ghost use Rattle.choice.specs.Row.{windowOf, rowOf, refreshedRow, rowOpen, rowConsidered};
 use book::Ask;
 use book::Asset;
 use book::Entry;
@@ -86,21 +86,24 @@ pub fn reach_of(assets: [Asset; 64], count: u8, number: u16) -> Reach
     }
 }
 
-// Whether any entry is suitable, the position of the best grantable one (64 if there is none), and its rank.
+// Whether any entry is suitable, whether one of them fails for the switch only, the position of the best grantable one (64 if there is
+// none), and its rank.
 pub struct Best {
     pub suits: bool,
+    pub switched: bool,
     pub at: usize,
     pub rank: Rank,
 }
 
 // Flags, end and fresh are from the entry's rank; whether it is inherited depends on the asset asked for.
 // The entry is grantable from start (0 if none is flagged) until before window (0 if a count or the seconds are spent, or the interval
-// is 0).
+// is 0); if it is guarded, only with the switch on.
 pub struct Row {
     pub asset: u16,
     pub kind: u8,
     pub flags: u8,
     pub fresh: u8,
+    pub guarded: bool,
     pub start: u32,
     pub window: u64,
     pub end: u64,
@@ -147,12 +150,24 @@ pub fn row_of(l: Limits, m: Meters) -> Row
         start: start,
         window: window,
         end: r.end,
+        guarded: (l.tracked == 1) & !(l.mark == 1),
     }
 }
 
-// Whether nothing stands against granting the row's entry to who asks.
-fn row_grants(row: Row, ask: Ask) -> bool
-    ensures { λ r. ⌜ r ≡ rowGrants ask row ⌝ }
+// The row of an entry when its meters have changed: no event changes its limits.
+// Rules out: the window of the meters before.
+pub fn refreshed(row: Row, l: Limits, m: Meters) -> Row
+    ensures { λ r. ⌜ r ≡ refreshedRow l m row ⌝ }
+{
+    let mut r = row;
+    r.fresh = one(!(m.started == 1));
+    r.window = window_of(l, m);
+    r
+}
+
+// Whether nothing but the switch can stand against granting the row's entry to who asks.
+fn row_open(row: Row, ask: Ask) -> bool
+    ensures { λ r. ⌜ r ≡ rowOpen ask row ⌝ }
 {
     let t = ask.time;
     let now = t as u64;
@@ -160,7 +175,8 @@ fn row_grants(row: Row, ask: Ask) -> bool
 }
 
 // One turn of the choice, on the entry's row. The dates are tested first: that takes two comparisons, and comparing ranks takes more.
-// Rules out: every entry taken as inherited, the later entry at equal ranks, an entry that is suitable but not grantable.
+// Rules out: every entry taken as inherited, the later entry at equal ranks, an entry that is suitable but not grantable, the switch held
+// against an entry that is spent.
 pub fn consider_row(
     best: Best,
     row: Row,
@@ -179,9 +195,18 @@ pub fn consider_row(
         return best;
     }
     let held = best.rank;
-    if !row_grants(row, ask) {
+    if !row_open(row, ask) {
         return Best {
             suits: true,
+            switched: best.switched,
+            at: best.at,
+            rank: held,
+        };
+    }
+    if row.guarded & !(ask.switch == 1) {
+        return Best {
+            suits: true,
+            switched: true,
             at: best.at,
             rank: held,
         };
@@ -195,12 +220,14 @@ pub fn consider_row(
     if !ranks_before(rank, held) {
         return Best {
             suits: true,
+            switched: best.switched,
             at: best.at,
             rank: held,
         };
     }
     Best {
         suits: true,
+        switched: best.switched,
         at: i,
         rank: rank,
     }
@@ -213,6 +240,7 @@ pub fn chosen(es: [Entry; 64], count: u8, asset: u16, parent: u16, kind: u8, ask
     let n = at_most_64(count);
     let mut best = Best {
         suits: false,
+        switched: false,
         at: 64,
         rank: Rank {
             flags: 2,

@@ -7,13 +7,14 @@ use lib.ListN.{length}
 use lib.Dec.{eqb, leb}
 use borrow.Author.Tests.{ne-eqb}
 use Rattle.model.specs.Image.{lengthOf, writeBuffer}
+use Rattle.fill.specs.Fill.{noRoom}
 use Rattle.xml_model.specs.declared.Reading.{Reading}
 use Rattle.xml_image.specs.declared.Imported.{Imported}
 use Rattle.xml_image.specs.Imported.{importCode, importedFrom, bufferFrom, imported, importBuffer}
 use Rattle.embed.specs.FromXml.{xmlCode, xmlImage, xmlSize, xmlElements}
 
 -- a text that is refused, and an image that does not fit, leave the buffer
-kept : (accepted fits : Bool) (code : ℕ) (x old : List ℕ) → (cond accepted (cond fits 0 30) code ≡ 0 → ⊥)
+kept : (accepted fits : Bool) (code : ℕ) (x old : List ℕ) → (cond accepted (cond fits 0 noRoom) code ≡ 0 → ⊥)
     → cond accepted (cond fits x old) old ≡ old
 kept true true code x old n = absurd (n refl)
 kept true false code x old n = refl

@@ -1,4 +1,5 @@
 -- What a call returns and leaves.
+pub mod ByValue
 pub mod Calls
 pub mod FromXml
 pub mod One

@@ -54,13 +54,13 @@ playerSeen s p = playerValues (playerAt (heldBook s .players) p)
 unfoldable pub entryFound : List ℕ → ℕ → ℕ → Entry
 entryFound s t i = getD (settled t (heldBook s .players) (heldBook s .entries)) i noEntry
 
--- what is left of it at that time, or at the book's time if that is later
+-- what is left of it at that time, or at the book's time if that is later, under the book's switch
 unfoldable pub leftSeen : List ℕ → ℕ → ℕ → List ℕ
-leftSeen s time i = leftValues (viewTime (heldBook s .time) time) (entryFound s (viewTime (heldBook s .time) time) i)
+leftSeen s time i = leftValues (viewTime (heldBook s .time) time) (heldBook s .switch) (entryFound s (viewTime (heldBook s .time) time) i)
 
--- who asks at that time, or at the book's time if that is later
+-- who asks at that time, or at the book's time if that is later, under the book's switch
 abbrev pub askSeen : List ℕ → ℕ → ℕ → Ask
-askSeen s player time = record { player = player; time = viewTime (heldBook s .time) time }
+askSeen s player time = record { player = player; time = viewTime (heldBook s .time) time; switch = heldBook s .switch }
 
 -- what stands against it for that player, at the same time
 unfoldable pub groundsSeen : List ℕ → ℕ → ℕ → ℕ → List ℕ

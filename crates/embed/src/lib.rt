@@ -7,17 +7,22 @@ ghost use Rattle.model.specs.Meters.{settled};
 ghost use Rattle.model.specs.Image.{readCode};
 ghost use Rattle.encode.specs.Record.{recordBytes};
 ghost use Rattle.fill.specs.Fill.{fillCode, filled};
-ghost use Rattle.embed.specs.Calls.{imageIn, heldBook, answerCode, imageAfter, sizeAfter, outAfter, writtenAfter};
-ghost use Rattle.embed.specs.One.{oneResult, oneImage, oneSize, oneCode, oneEntry, oneUntil};
+ghost use Rattle.embed.specs.Calls.{imageIn, heldBook, answerCode, imageAfter, sizeAfter, outAfter, writtenAfter, reportAfter};
+ghost use Rattle.embed.specs.One.{oneResult, oneImage, oneSize, oneCode, oneEntry, oneUntil, oneReport};
+ghost use Rattle.embed.specs.ByValue.{AnsweredBy, OneBy};
 ghost use Rattle.embed.specs.Seen.{bookCode, bookOut, assetCode, assetOut, entryCode, entryOut, playerCode, playerOut, leftCode};
 ghost use Rattle.embed.specs.Seen.{leftOut, groundsCode, groundsOut};
 ghost use Rattle.embed.specs.FromXml.{xmlCode, xmlImage, xmlSize, xmlElements};
 use book::Ask;
 use book::Book;
 use book::Entry;
+use book::Line;
 use book::RECORD_LAST;
 use book::RECORD_SIZE;
+use fill::NO_ROOM;
 use image_read::Loaded;
+use report::give_lines;
+use report::take_lines;
 
 // The code of an image, and the book in it; blank if the image is refused.
 fn load(image: &[u8]) -> Loaded
@@ -51,12 +56,81 @@ pub extern "C" fn rights_check(image: &[u8]) -> u8
     loaded.code
 }
 
+// What a call leaves whose lines are held by value: its result, and the lines.
+struct Returned {
+    code: u8,
+    lines: [Line; 64],
+}
+
+// The two parts of it. The proofs of the functions that take the list step through their code by hand, and pass a struct on whole.
+fn code_in(x: Returned) -> u8
+    ensures { λ r. ⌜ r ≡ x .code ⌝ }
+{
+    x.code
+}
+
+fn lines_in(x: Returned) -> [Line; 64]
+    ensures { λ r. ⌜ r ≡ x .lines ⌝ }
+{
+    let lines = x.lines;
+    lines
+}
+
+// rights_answer with the lines by value, of which `lent` were lent.
+// No event changes how many assets and entries there are, so the next image has the length of the one that the book now has, and its
+// room is known before anything is written.
+// Rules out: a refusal that touches a byte, a number or a line.
+fn answer_image(
+    image: &mut [u8],
+    size: &mut u64,
+    records: &[u8],
+    out: &mut [u8],
+    written: &mut u64,
+    lines: [Line; 64],
+    lent: usize,
+) -> Returned
+    ensures { λ r. ⌜ AnsweredBy (now (image .entry)) (now (size .entry)) (now (records .entry)) (now (out .entry)) (now (written .entry))
+        lines lent (r .code) (now (image .exit)) (now (size .exit)) (now (out .exit)) (now (written .exit)) (r .lines) ⌝ }
+{
+    let loaded = load_from(image, *size);
+    if loaded.code != 0 {
+        return Returned {
+            code: loaded.code,
+            lines: lines,
+        };
+    }
+    let count = (records.len() + RECORD_LAST) / RECORD_SIZE;
+    if out.len() / 19 < count {
+        return Returned {
+            code: NO_ROOM,
+            lines: lines,
+        };
+    }
+    let needed = image_write::image_length(loaded.book.assetcount, loaded.book.entrycount);
+    if image.len() < needed {
+        return Returned {
+            code: NO_ROOM,
+            lines: lines,
+        };
+    }
+    let block = batch::answer_block(loaded.book, records, out, lines, lent);
+    image_write::write(block.book, image);
+    *size = needed as u64;
+    *written = block.written as u64;
+    let after = block.lines;
+    Returned {
+        code: 0,
+        lines: after,
+    }
+}
+
 // Answers the records in turn, as lines of text in out, and puts the text's length into written. image is a buffer, and its
 // first `size` bytes are the image: the next image takes their place, its length goes into size, and what is behind it stays.
+// report is the list of lines that is lent to the first record, and to each next one as the one before it left it; what the records
+// record goes into it. A list that is not good is answered: each record gets 30 255 0.
 // Returns 0, or 20 to 27 if the image is refused (20 too if size is more than the buffer has), or 30 if out has no room for
-// 19 bytes per record or the buffer none for the next image. No event changes how many assets and entries there are, so the
-// next image has the length of the one that the book now has, and its room is known before anything is written.
-// Rules out: a refusal that touches a byte or a number, a next image that is not the image of the book after the last record, a
+// 19 bytes per record or the buffer none for the next image.
+// Rules out: a refusal that touches a byte, a number or a line, a next image that is not the image of the book after the last record, a
 // byte touched after the text or after the next image, a length that is not the text's or the next image's.
 #[no_mangle]
 pub extern "C" fn rights_answer(
@@ -65,41 +139,82 @@ pub extern "C" fn rights_answer(
     records: &[u8],
     out: &mut [u8],
     written: &mut u64,
+    report: &mut [Line],
 ) -> u8
-    ensures { λ r. ⌜ r ≡ answerCode (now (image .entry)) (now (size .entry)) (now (records .entry)) (length (now (out .entry))) ⌝ }
-    ensures { λ _. ⌜ now (image .exit)
-        ≡ imageAfter (now (image .entry)) (now (size .entry)) (now (records .entry)) (length (now (out .entry))) ⌝ }
-    ensures { λ _. ⌜ now (size .exit)
-        ≡ sizeAfter (now (image .entry)) (now (size .entry)) (now (records .entry)) (length (now (out .entry))) ⌝ }
-    ensures { λ _. ⌜ now (out .exit)
-        ≡ outAfter (now (image .entry)) (now (size .entry)) (now (records .entry)) (now (out .entry)) ⌝ }
-    ensures { λ _. ⌜ now (written .exit)
-        ≡ writtenAfter (now (image .entry)) (now (size .entry)) (now (records .entry)) (length (now (out .entry)))
-        (now (written .entry)) ⌝ }
+    ensures { λ r. ⌜ (r ≡ answerCode
+        (now (image .entry)) (now (size .entry)) (now (report .entry)) (now (records .entry)) (length (now (out .entry))))
+        × (now (image .exit) ≡ imageAfter
+        (now (image .entry)) (now (size .entry)) (now (report .entry)) (now (records .entry)) (length (now (out .entry))))
+        × (now (size .exit) ≡ sizeAfter
+        (now (image .entry)) (now (size .entry)) (now (report .entry)) (now (records .entry)) (length (now (out .entry))))
+        × (now (out .exit) ≡ outAfter
+        (now (image .entry)) (now (size .entry)) (now (report .entry)) (now (records .entry)) (now (out .entry)))
+        × (now (written .exit) ≡ writtenAfter
+        (now (image .entry)) (now (size .entry)) (now (report .entry)) (now (records .entry)) (length (now (out .entry)))
+        (now (written .entry)))
+        × (now (report .exit) ≡ reportAfter
+        (now (image .entry)) (now (size .entry)) (now (report .entry)) (now (records .entry)) (length (now (out .entry)))) ⌝ }
+{
+    let count = report.len();
+    let lines = take_lines(report);
+    let after = answer_image(image, size, records, out, written, lines, count);
+    give_lines(report, lines_in(after));
+    code_in(after)
+}
+
+// rights_answer_one with the lines by value, of which `lent` were lent.
+// Rules out: a refusal that touches a byte, a number or a line.
+fn answer_event(
+    image: &mut [u8],
+    size: &mut u64,
+    player: u8,
+    number: u32,
+    operation: u8,
+    asset: u16,
+    kind: u8,
+    time: u32,
+    code: &mut u8,
+    entry: &mut u8,
+    until: &mut u32,
+    lines: [Line; 64],
+    lent: usize,
+) -> Returned
+    ensures { λ r. ⌜ OneBy (now (image .entry)) (now (size .entry)) (recordBytes player number operation asset kind time)
+        (now (code .entry)) (now (entry .entry)) (now (until .entry)) lines lent (r .code) (now (image .exit)) (now (size .exit))
+        (now (code .exit)) (now (entry .exit)) (now (until .exit)) (r .lines) ⌝ }
 {
     let loaded = load_from(image, *size);
     if loaded.code != 0 {
-        return loaded.code;
+        return Returned {
+            code: loaded.code,
+            lines: lines,
+        };
     }
-    let count = (records.len() + RECORD_LAST) / RECORD_SIZE;
-    if out.len() / 19 < count {
-        return 30;
+    let record = encode::record_bytes(player, number, operation, asset, kind, time);
+    let after = step::step_lines(loaded.book, &record, lines, lent);
+    let next_length = image_write::image_length(after.book.assetcount, after.book.entrycount);
+    if image.len() < next_length {
+        return Returned {
+            code: NO_ROOM,
+            lines: lines,
+        };
     }
-    let needed = image_write::image_length(loaded.book.assetcount, loaded.book.entrycount);
-    if image.len() < needed {
-        return 30;
+    image_write::write(after.book, image);
+    *size = next_length as u64;
+    *code = after.answer.code;
+    *entry = after.answer.entry;
+    *until = after.answer.until;
+    let next = after.lines;
+    Returned {
+        code: 0,
+        lines: next,
     }
-    let block = batch::answer_block(loaded.book, records, out);
-    image_write::write(block.book, image);
-    *size = needed as u64;
-    *written = block.written as u64;
-    0
 }
 
-// One event given as numbers: the answer's code, entry and until as numbers, and the next image, the same as the record's step leaves.
-// image and size are those of rights_answer.
+// One event given as numbers: the answer's code, entry and until as numbers, the next image, and the lines, the same as the record's
+// step leaves. image, size and report are those of rights_answer; a list that is not good is answered 30 255 0.
 // Returns 0, or 20 to 27 if the image is refused, or 30 if the buffer has no room for the next image.
-// Rules out: a refusal that touches a byte or a number, the image of the book before the event, an answer other than the record's.
+// Rules out: a refusal that touches a byte, a number or a line, the image of the book before the event, an answer other than the record's.
 #[no_mangle]
 pub extern "C" fn rights_answer_one(
     image: &mut [u8],
@@ -113,35 +228,45 @@ pub extern "C" fn rights_answer_one(
     code: &mut u8,
     entry: &mut u8,
     until: &mut u32,
+    report: &mut [Line],
 ) -> u8
-    ensures { λ r. ⌜ r ≡ oneResult (now (image .entry)) (now (size .entry)) (recordBytes player number operation asset kind time) ⌝ }
-    ensures { λ _. ⌜ now (image .exit)
-        ≡ oneImage (now (image .entry)) (now (size .entry)) (recordBytes player number operation asset kind time) ⌝ }
-    ensures { λ _. ⌜ now (size .exit)
-        ≡ oneSize (now (image .entry)) (now (size .entry)) (recordBytes player number operation asset kind time) ⌝ }
-    ensures { λ _. ⌜ now (code .exit)
-        ≡ oneCode (now (image .entry)) (now (size .entry)) (recordBytes player number operation asset kind time) (now (code .entry)) ⌝ }
-    ensures { λ _. ⌜ now (entry .exit)
-        ≡ oneEntry (now (image .entry)) (now (size .entry)) (recordBytes player number operation asset kind time) (now (entry .entry)) ⌝ }
-    ensures { λ _. ⌜ now (until .exit)
-        ≡ oneUntil (now (image .entry)) (now (size .entry)) (recordBytes player number operation asset kind time) (now (until .entry)) ⌝ }
+    ensures { λ r. ⌜ (r ≡ oneResult
+        (now (image .entry)) (now (size .entry)) (now (report .entry)) (recordBytes player number operation asset kind time))
+        × (now (image .exit) ≡ oneImage
+        (now (image .entry)) (now (size .entry)) (now (report .entry)) (recordBytes player number operation asset kind time))
+        × (now (size .exit) ≡ oneSize
+        (now (image .entry)) (now (size .entry)) (now (report .entry)) (recordBytes player number operation asset kind time))
+        × (now (code .exit) ≡ oneCode
+        (now (image .entry)) (now (size .entry)) (now (report .entry)) (recordBytes player number operation asset kind time)
+        (now (code .entry)))
+        × (now (entry .exit) ≡ oneEntry
+        (now (image .entry)) (now (size .entry)) (now (report .entry)) (recordBytes player number operation asset kind time)
+        (now (entry .entry)))
+        × (now (until .exit) ≡ oneUntil
+        (now (image .entry)) (now (size .entry)) (now (report .entry)) (recordBytes player number operation asset kind time)
+        (now (until .entry)))
+        × (now (report .exit) ≡ oneReport
+        (now (image .entry)) (now (size .entry)) (now (report .entry)) (recordBytes player number operation asset kind time)) ⌝ }
 {
-    let loaded = load_from(image, *size);
-    if loaded.code != 0 {
-        return loaded.code;
-    }
-    let record = encode::record_bytes(player, number, operation, asset, kind, time);
-    let outcome = step::step_record(loaded.book, &record);
-    let next_length = image_write::image_length(outcome.book.assetcount, outcome.book.entrycount);
-    if image.len() < next_length {
-        return 30;
-    }
-    image_write::write(outcome.book, image);
-    *size = next_length as u64;
-    *code = outcome.answer.code;
-    *entry = outcome.answer.entry;
-    *until = outcome.answer.until;
-    0
+    let count = report.len();
+    let lines = take_lines(report);
+    let after = answer_event(
+        image,
+        size,
+        player,
+        number,
+        operation,
+        asset,
+        kind,
+        time,
+        code,
+        entry,
+        until,
+        lines,
+        count,
+    );
+    give_lines(report, lines_in(after));
+    code_in(after)
 }
 
 // Writes the 13 bytes of the record that holds these numbers to the start of out. Returns 0, or 30 if out is too short.
@@ -163,7 +288,7 @@ pub extern "C" fn rights_record(
     fill::fill8(out, &bytes)
 }
 
-// How many assets and entries the book in the image has, and its time.
+// How many assets and entries the book in the image has, its time, and its switch.
 // Rules out: numbers from an image that is refused.
 #[no_mangle]
 pub extern "C" fn rights_book(image: &[u8], out: &mut [u32]) -> u8
@@ -263,7 +388,7 @@ pub extern "C" fn rights_left(image: &[u8], position: u32, time: u32, out: &mut 
         return 31;
     }
     let when = views::view_time(loaded.book.time, time);
-    let values = views::left_values(entry_then(loaded.book, at, when), when);
+    let values = views::left_values(entry_then(loaded.book, at, when), when, loaded.book.switch);
     fill::fill32(out, &values)
 }
 
@@ -293,6 +418,7 @@ pub extern "C" fn rights_grounds(
     let ask = Ask {
         player: player,
         time: when,
+        switch: loaded.book.switch,
     };
     let values = views::ground_values(entry_then(loaded.book, at, when), ask);
     fill::fill32(out, &values)

@@ -1,7 +1,7 @@
 -- A call's next image is accepted by the next call and holds the book after the records, so calls on the records piece by
--- piece answer what one call on all of them would.
+-- piece, each lent the lines that the one before it left, answer what one call on all of them would, and leave the same lines.
 use Prim.Native.Nat.{ℕ, zero, suc, _*_, _≤_, _<_}
-use mathlib.Core.Path.{_≡_, refl, sym, ap, _∙_}
+use mathlib.Core.Path.{_≡_, refl, sym, ap, ap₂, _∙_}
 use mathlib.Core.Bool.{true, cond}
 use mathlib.Core.List.{List, [], _∷_, _++_}
 use native.Mathlib.Omega.{arith}
@@ -12,19 +12,21 @@ use borrow.Author.Tests.{le-leb, lt-leb, leb-true}
 use Rattle.numbers.specs.Count.{listed}
 use Rattle.numbers.proofs.FieldLaws.{drop-bytes}
 use Rattle.numbers.proofs.Tests.{on-test, both-zero}
+use Rattle.book.specs.declared.Line.{Line}
 use Rattle.book.specs.declared.Book.{Book}
 use Rattle.book.specs.Blank.{noBook}
 use Rattle.model.specs.Book.{Legal}
 use Rattle.model.specs.Image.{newest, versionIn, Typed, Bytes, image, lengthOf, writeBuffer, headerBroken, readCode}
 use Rattle.model.specs.Record.{decoded}
-use Rattle.model.specs.Step.{stepRecord}
+use Rattle.model.specs.Report.{receive, linesLeft, lent}
 use Rattle.model.specs.History.{recordFinal}
-use Rattle.model.specs.Run.{recordAt, recordCount, recordsIn, runText, runBook}
+use Rattle.model.specs.Run.{recordAt, recordCount, recordsIn, runText, runBook, runLines}
 use Rattle.model.proofs.Image.RoundTrip.{demand2}
-use Rattle.model.proofs.Legal.Step.{saved, arrive-typed}
+use Rattle.model.proofs.Legal.Step.{saved, receive-legal, receive-typed}
+use Rattle.fill.specs.Fill.{noRoom}
 use Rattle.batch.specs.Block.{fits}
-use Rattle.blocks.specs.Blocks.{block-book, block-text}
-use Rattle.embed.specs.Calls.{imageIn, heldBook, roomCode, answerCode, imageAfter, sizeAfter}
+use Rattle.blocks.specs.Blocks.{block-book, block-text, block-lines}
+use Rattle.embed.specs.Calls.{imageIn, heldBook, roomCode, callCode, answerCode, imageAfter, sizeAfter, reportAfter}
 use Rattle.embed.proofs.Left.{run-length, room-there}
 
 -- ## A book stays legal through a block of records
@@ -49,16 +51,17 @@ records-bytes s b zero = tt
 records-bytes s b (suc n) =
     one-more (listed (recordAt s) n) (recordAt s n) (records-bytes s b n) (take-bytes 13 (drop (13 * n) s) (drop-bytes (13 * n) s b))
 
-final-kept : (b : Book) (rs : List (List ℕ)) → Legal b → Typed b → AllBytes rs
-    → Legal (recordFinal b rs) × Typed (recordFinal b rs)
-unfolding recordFinal stepRecord
-final-kept b [] l y h = (l, y)
-final-kept b (r ∷ rs) l y (h, hs) =
-    final-kept (stepRecord b r .book) rs (saved .arriveLegal b (decoded r) l) (arrive-typed b (decoded r) l y (saved .decodedFits r h)) hs
+final-kept : (b : Book) (ls : List Line) (rs : List (List ℕ)) → Legal b → Typed b → AllBytes rs
+    → Legal (recordFinal b ls rs) × Typed (recordFinal b ls rs)
+unfolding recordFinal
+final-kept b ls [] l y h = (l, y)
+final-kept b ls (r ∷ rs) l y (h, hs) =
+    final-kept (receive b (lent ls r) .book) (linesLeft b (lent ls r)) rs (receive-legal b (lent ls r) l)
+    (receive-typed b (lent ls r) l y (saved .decodedFits r h)) hs
 
-run-kept : (b : Book) (s : List ℕ) → Legal b → Typed b → Bytes s → Legal (runBook b s) × Typed (runBook b s)
+run-kept : (b : Book) (ls : List Line) (s : List ℕ) → Legal b → Typed b → Bytes s → Legal (runBook b ls s) × Typed (runBook b ls s)
 unfolding runBook recordsIn
-run-kept b s l y h = final-kept b (recordsIn s) l y (records-bytes s h (recordCount s))
+run-kept b ls s l y h = final-kept b ls (recordsIn s) l y (records-bytes s h (recordCount s))
 
 -- ## The next call
 
@@ -77,21 +80,21 @@ image-bytes buffer size b =
     on-test (leb size (length buffer)) (λ w. rw w (take-bytes size buffer b)) (λ w. rw w (take-bytes 0 buffer b))
 
 -- a length above the room is refused as no image at all is
-pub above-room : (buffer : List ℕ) (size : ℕ) (records : List ℕ) (room : ℕ) → length buffer < size
-    → answerCode buffer size records room ≡ 20
-unfolding answerCode imageIn readCode headerBroken
-above-room buffer size records room h = rw (lt-leb size (length buffer) h) refl
+pub above-room : (buffer : List ℕ) (size : ℕ) (ls : List Line) (records : List ℕ) (room : ℕ) → length buffer < size
+    → answerCode buffer size ls records room ≡ 20
+unfolding answerCode callCode imageIn readCode headerBroken
+above-room buffer size ls records room h = rw (lt-leb size (length buffer) h) refl
 
--- a buffer of 3,979 bytes has room for every next image
-pub room-enough : (b : Book) (buffer : List ℕ) → 3979 ≤ length buffer → roomCode b buffer ≡ 0
+-- a buffer of 4,815 bytes has room for every next image
+pub room-enough : (b : Book) (buffer : List ℕ) → 4815 ≤ length buffer → roomCode b buffer ≡ 0
 room-enough b buffer h = let most = demand2 .lengthBounds b .1 in room-there b buffer (omega arith)
 
 -- of an accepted image of the newest version the next one has the same length ("an accepted image writes the same bytes", and no
 -- event adds to a book), so a call lacks room for its text alone
-module _ (buffer : List ℕ) (size : ℕ) (records : List ℕ) (bytes : Bytes buffer) (accepted : readCode (imageIn buffer size) ≡ 0)
-    (latest : versionIn (imageIn buffer size) ≡ newest) where
-  abbrev lent : List ℕ
-  lent = imageIn buffer size
+module _ (buffer : List ℕ) (size : ℕ) (ls : List Line) (records : List ℕ) (bytes : Bytes buffer)
+    (accepted : readCode (imageIn buffer size) ≡ 0) (latest : versionIn (imageIn buffer size) ≡ newest) where
+  abbrev lent-image : List ℕ
+  lent-image = imageIn buffer size
 
   within : size ≤ length buffer
   unfolding imageIn readCode headerBroken
@@ -100,38 +103,46 @@ module _ (buffer : List ℕ) (size : ℕ) (records : List ℕ) (bytes : Bytes bu
       (λ w. leb-true size (length buffer) w)
       (λ w. let z = rw w at accepted in omega (arith, z))
 
-  lent-length : length lent ≡ size
+  lent-length : length lent-image ≡ size
   unfolding imageIn
   lent-length = rw (le-leb size (length buffer) within) (length-take-le size buffer within)
 
-  pub next-length : lengthOf (runBook (heldBook lent) records) ≡ size
+  pub next-length : lengthOf (runBook (heldBook lent-image) ls records) ≡ size
   unfolding heldBook
   next-length =
-      run-length (heldBook lent) records
-      ∙ sym (demand2 .writtenLength (heldBook lent))
-      ∙ ap length (demand2 .writesBack noBook lent (image-bytes buffer size bytes) accepted latest)
+      run-length (heldBook lent-image) ls records
+      ∙ sym (demand2 .writtenLength (heldBook lent-image))
+      ∙ ap length (demand2 .writesBack noBook lent-image (image-bytes buffer size bytes) accepted latest)
       ∙ lent-length
 
-  pub text-room-enough : (room : ℕ) → fits records room ≡ true → answerCode buffer size records room ≡ 0
-  unfolding answerCode
+  pub text-room-enough : (room : ℕ) → fits records room ≡ true → answerCode buffer size ls records room ≡ 0
+  unfolding answerCode callCode
   text-room-enough room f =
-      rw (accepted, f) (room-there (runBook (heldBook lent) records) buffer (rw (next-length) within))
+      rw (accepted, f) (room-there (runBook (heldBook lent-image) ls records) buffer (rw (next-length) within))
 
-module _ (buffer : List ℕ) (size : ℕ) (records : List ℕ) (room : ℕ) (bytes : Bytes buffer) (bytes′ : Bytes records)
-    (answered : answerCode buffer size records room ≡ 0) where
+module _ (buffer : List ℕ) (size : ℕ) (ls : List Line) (records : List ℕ) (room : ℕ) (bytes : Bytes buffer) (bytes′ : Bytes records)
+    (answered : answerCode buffer size ls records room ≡ 0) where
   abbrev s : List ℕ
   s = imageIn buffer size
 
   abbrev next : Book
-  next = runBook (heldBook s) records
+  next = runBook (heldBook s) ls records
 
   -- what the next call finds
   abbrev pub nextImage : List ℕ
-  nextImage = imageIn (imageAfter buffer size records room) (sizeAfter buffer size records room)
+  nextImage = imageIn (imageAfter buffer size ls records room) (sizeAfter buffer size ls records room)
 
-  passed : (readCode s ≡ 0) × (cond (fits records room) (roomCode next buffer) 30 ≡ 0)
-  unfolding answerCode
-  passed = both-zero (readCode s) (cond (fits records room) (roomCode next buffer) 30) answered
+  -- and what it is lent
+  abbrev pub nextLines : List Line
+  nextLines = reportAfter buffer size ls records room
+
+  next-lines : nextLines ≡ runLines (heldBook s) ls records
+  unfolding reportAfter
+  next-lines = rw answered refl
+
+  passed : (readCode s ≡ 0) × (cond (fits records room) (roomCode next buffer) noRoom ≡ 0)
+  unfolding answerCode callCode
+  passed = both-zero (readCode s) (cond (fits records room) (roomCode next buffer) noRoom) answered
 
   has-room : lengthOf next ≤ length buffer
   unfolding roomCode
@@ -150,7 +161,7 @@ module _ (buffer : List ℕ) (size : ℕ) (records : List ℕ) (room : ℕ) (byt
   unfolding heldBook
   kept =
       let h = demand2 .acceptedLegal noBook s (image-bytes buffer size bytes) (passed .0) in
-      run-kept (heldBook s) records (h .0) (h .1) bytes′
+      run-kept (heldBook s) ls records (h .0) (h .1) bytes′
 
   pub next-accepted : readCode nextImage ≡ 0
   next-accepted = ap readCode next-is ∙ demand2 .readsBack noBook next (kept .0) (kept .1) .0
@@ -160,28 +171,34 @@ module _ (buffer : List ℕ) (size : ℕ) (records : List ℕ) (room : ℕ) (byt
   next-book = ap heldBook next-is ∙ demand2 .readsBack noBook next (kept .0) (kept .1) .1
 
   -- the next call has room for its image too, so it answers, if there is room for its text
-  same-room : length (imageAfter buffer size records room) ≡ length buffer
+  same-room : length (imageAfter buffer size ls records room) ≡ length buffer
   unfolding imageAfter writeBuffer
   same-room =
       rw (answered, le-leb (lengthOf next) (length buffer) has-room, length-append, demand2 .writtenLength next, length-drop)
       (omega (arith, has-room))
 
-  pub next-answered : (more : List ℕ) (room′ : ℕ) → fits more room′ ≡ true
-      → answerCode (imageAfter buffer size records room) (sizeAfter buffer size records room) more room′ ≡ 0
-  unfolding answerCode
-  next-answered more room′ f =
-      let long : lengthOf (runBook (heldBook nextImage) more) ≡ lengthOf next =
-      run-length (heldBook nextImage) more ∙ ap lengthOf next-book in
-      let there : lengthOf (runBook (heldBook nextImage) more) ≤ length (imageAfter buffer size records room) =
+  pub next-answered : (ms : List Line) (more : List ℕ) (room′ : ℕ) → fits more room′ ≡ true
+      → answerCode (imageAfter buffer size ls records room) (sizeAfter buffer size ls records room) ms more room′ ≡ 0
+  unfolding answerCode callCode
+  next-answered ms more room′ f =
+      let long : lengthOf (runBook (heldBook nextImage) ms more) ≡ lengthOf next =
+      run-length (heldBook nextImage) ms more ∙ ap lengthOf next-book in
+      let there : lengthOf (runBook (heldBook nextImage) ms more) ≤ length (imageAfter buffer size ls records room) =
       rw (long, same-room) has-room in
-      rw (next-accepted, f) (room-there (runBook (heldBook nextImage) more) (imageAfter buffer size records room) there)
+      rw (next-accepted, f) (room-there (runBook (heldBook nextImage) ms more) (imageAfter buffer size ls records room) there)
 
   -- whole records, and then any more bytes
   module _ (more : List ℕ) (k : ℕ) (whole : length records ≡ 13 * k) where
-    pub pieces-text : runText (heldBook s) records ++ runText (heldBook nextImage) more ≡ runText (heldBook s) (records ++ more)
+    pub pieces-text :
+        runText (heldBook s) ls records ++ runText (heldBook nextImage) nextLines more ≡ runText (heldBook s) ls (records ++ more)
     pieces-text =
-        ap (λ (b : Book). runText (heldBook s) records ++ runText b more) next-book
-        ∙ sym (block-text records more k whole (heldBook s))
+        ap₂ (λ (b : Book). λ (m : List Line). runText (heldBook s) ls records ++ runText b m more) next-book next-lines
+        ∙ sym (block-text records more k whole (heldBook s) ls)
 
-    pub pieces-book : runBook (heldBook nextImage) more ≡ runBook (heldBook s) (records ++ more)
-    pieces-book = ap (λ (b : Book). runBook b more) next-book ∙ sym (block-book records more k whole (heldBook s))
+    pub pieces-book : runBook (heldBook nextImage) nextLines more ≡ runBook (heldBook s) ls (records ++ more)
+    pieces-book = ap₂ (λ (b : Book). λ (m : List Line). runBook b m more) next-book next-lines
+        ∙ sym (block-book records more k whole (heldBook s) ls)
+
+    pub pieces-lines : runLines (heldBook nextImage) nextLines more ≡ runLines (heldBook s) ls (records ++ more)
+    pieces-lines = ap₂ (λ (b : Book). λ (m : List Line). runLines b m more) next-book next-lines
+        ∙ sym (block-lines records more k whole (heldBook s) ls)

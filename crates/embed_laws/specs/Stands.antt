@@ -1,4 +1,4 @@
--- What is left at the book's own time follows from the image's limits and meters alone: no use in an accepted image is over
+-- What is left at the book's own time follows from the image's limits, meters and switch alone: no use in an accepted image is over
 -- at its time, so viewing it settles nothing. A caller that asks for time 0 gets this.
 use Prim.Native.Nat.{ℕ, zero, suc, _+_, _<_, _≤_}
 use mathlib.Core.Path.{_≡_, refl, ap, _∙_}
@@ -13,7 +13,8 @@ use Rattle.book.specs.declared.Entry.{Entry}
 use Rattle.book.specs.declared.Open.{Open}
 use Rattle.book.specs.declared.Book.{Book}
 use Rattle.book.specs.Blank.{noBook, noEntry}
-use Rattle.model.specs.Book.{playerAt, entriesIn, between, insideDates, insideInterval, grantLength, useLegal, openLegal, Legal}
+use Rattle.model.specs.Book.{playerAt, entriesIn, inBook, between, insideDates, insideInterval, contentLegal, grantLength, useLegal}
+use Rattle.model.specs.Book.{openLegal, Legal}
 use Rattle.model.specs.Image.{Bytes, readCode}
 use Rattle.model.specs.Meters.{isOn, expired, settled}
 use Rattle.model.specs.Step.{openAt}
@@ -33,7 +34,7 @@ none-of f (suc n) h = rw (none-of f n (λ p k. h p (omega arith)), h n (omega ar
 module _ (b : Book) (legal : Legal b) where
   -- "begin ≤ book time < until"
   running : (o : Open) → openPasses b o ≡ true → isOn o ≡ true → b .time < o .until
-  unfolding openLegal useLegal insideDates insideInterval
+  unfolding openLegal useLegal insideDates insideInterval contentLegal
   running o e on =
       let use-passes = rw (eqb-true (o .on) 1 on) at e in
       let l = getD (b .entries) (o .entry) noEntry .limits in
@@ -42,7 +43,7 @@ module _ (b : Book) (legal : Legal b) where
       (row-passed
       (leb (o .begin) (b .time))
       (ltb (b .time) (o .until) ∷ leb (o .until) (b .time + grantLength (l .kind)) ∷ ltb (o .entry) (entriesIn b)
-      ∷ between 1 3 (l .kind) ∷ insideDates o l ∷ insideInterval o l m ∷ [])
+      ∷ between 1 3 (l .kind) ∷ insideDates o l ∷ insideInterval o l m ∷ contentLegal (inBook b (o .content)) l o ∷ [])
       use-passes .1 .0)
 
   not-over : (p : ℕ) → p < 16 → expired (b .time) (openAt (b .players) p) ≡ false
@@ -73,9 +74,10 @@ module _ (s : List ℕ) (bytes : Bytes s) (accepted : readCode s ≡ 0) (time : 
   unfolding heldBook
   held-legal = demand2 .acceptedLegal noBook s bytes accepted .0
 
-  pub left-now : (i : ℕ) → leftSeen s time i ≡ leftValues (heldBook s .time) (getD (heldBook s .entries) i noEntry)
+  pub left-now : (i : ℕ) → leftSeen s time i ≡ leftValues (heldBook s .time) (heldBook s .switch) (getD (heldBook s .entries) i noEntry)
   unfolding leftSeen entryFound
   left-now i =
-      ap (λ (t : ℕ). leftValues t (getD (settled t (heldBook s .players) (heldBook s .entries)) i noEntry))
+      ap (λ (t : ℕ). leftValues t (heldBook s .switch) (getD (settled t (heldBook s .players) (heldBook s .entries)) i noEntry))
       (view-now (heldBook s .time) time past)
-      ∙ ap (λ (es : List Entry). leftValues (heldBook s .time) (getD es i noEntry)) (settled-now (heldBook s) held-legal)
+      ∙ ap (λ (es : List Entry). leftValues (heldBook s .time) (heldBook s .switch) (getD es i noEntry))
+      (settled-now (heldBook s) held-legal)

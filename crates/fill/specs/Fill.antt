@@ -1,5 +1,6 @@
 -- Values at the start of a buffer, and after them what was there before; a buffer that is too short stays as it was.
--- "30 | writer's buffer too short | buffer untouched", here for any lent buffer.
+-- "writer's buffer too short | buffer untouched", here for any lent buffer, with a number of its own: 30 is an answer since order 3 of
+-- document 02.
 use Prim.Native.Nat.{ℕ, _+_, _<_, _≤_}
 use mathlib.Core.Path.{_≡_, refl, sym, ap, _∙_}
 use mathlib.Core.Bool.{cond}
@@ -12,8 +13,12 @@ use borrow.Author.Tests.{le-leb, lt-leb}
 use Rattle.numbers.specs.Buffer.{lay}
 use Rattle.numbers.proofs.BufferLaws.{lay-front, lay-byte, lay-all}
 
+-- the result of a call that lacks room: "30 | writer's buffer too short | buffer untouched"
+abbrev pub noRoom : ℕ
+noRoom = 30
+
 unfoldable pub fillCode : List ℕ → ℕ → ℕ
-fillCode values room = cond (leb (length values) room) 0 30
+fillCode values room = cond (leb (length values) room) 0 noRoom
 
 unfoldable pub filled : List ℕ → List ℕ → List ℕ
 filled values old = cond (leb (length values) (length old)) (values ++ drop (length values) old) old
@@ -31,7 +36,7 @@ module _ (values old : List ℕ) where
   abbrev pub Filled : ℕ → List ℕ → Type 0
   Filled code out = (code ≡ fillCode values (length old)) × (out ≡ filled values old)
 
-  pub fill-short : length old < length values → Filled 30 old
+  pub fill-short : length old < length values → Filled noRoom old
   unfolding fillCode filled
   fill-short h = rw (lt-leb (length values) (length old) h) (refl, refl)
 

@@ -1,7 +1,7 @@
 // Reading an image, stages 24 and 25: the rules for assets and for the limits of entries.
 // Each function is defined for every value of its types, whether or not an image can hold it.
 ghost use mathlib.Core.Path.{_≡_};
-ghost use Rattle.model.specs.Book.{assetPosition, assetLegal, assetsLegal, limit, rangesLegal, limitsLegal, entriesLegal};
+ghost use Rattle.model.specs.Book.{assetPosition, assetLegal, assetsLegal, limit, rangesLegal, trackLegal, limitsLegal, entriesLegal};
 use book::Asset;
 use book::Book;
 use book::LATEST_TIME;
@@ -15,14 +15,14 @@ use rules::momentary;
 
 // The position of the asset with that number among the first n; n if there is none. Slots past the table's end read as blank.
 // Rules out: the last of two with that number; a position past the table's end for a number that no asset has.
-pub fn asset_position(assets: [Asset; 64], n: usize, number: u16) -> usize
+pub fn asset_position(assets: [Asset; 64], n: usize, number: u32) -> usize
     ensures { λ r. ⌜ r ≡ assetPosition assets n number ⌝ }
 {
     let m = min_size(n, 64);
     let mut i: usize = 0;
     while i < m {
         let a = assets[i];
-        if a.number == number {
+        if a.number as u32 == number {
             return i;
         }
         i = i + 1;
@@ -38,7 +38,7 @@ pub fn asset_legal(assets: [Asset; 64], n: usize, i: usize, a: Asset) -> bool
     ensures { λ r. ⌜ r ≡ assetLegal assets n i a ⌝ }
 {
     ((1 <= a.number) & (a.number <= 65535))
-        & (asset_position(assets, n, a.number) == i)
+        & (asset_position(assets, n, a.number as u32) == i)
         & (a.key <= 1)
 }
 
@@ -79,6 +79,13 @@ fn ranges_legal(l: Limits) -> bool
         & limit_legal(f.accumulated, MOST_SECONDS, l.accumulated)
 }
 
+// Rules out: true for a mark or a timed value of an untracked entry, false for any timed value of a tracked one.
+fn track_legal(l: Limits) -> bool
+    ensures { λ r. ⌜ r ≡ trackLegal l ⌝ }
+{
+    (l.tracked <= 1) & (l.mark <= 1) & ((l.tracked == 1) | ((l.timedvalue == 0) & (l.mark == 0)))
+}
+
 // Rules out: true for a start after the end, for an accumulated of a momentary kind.
 pub fn limits_legal(known: bool, l: Limits) -> bool
     ensures { λ r. ⌜ r ≡ limitsLegal known l ⌝ }
@@ -92,6 +99,7 @@ pub fn limits_legal(known: bool, l: Limits) -> bool
         & ranges_legal(l)
         & (!(f.start & f.end) | (l.start <= l.end))
         & (!momentary | (!f.accumulated & (l.timer == 0)))
+        & track_legal(l)
 }
 
 // Rules out: true for an entry of an asset that the book lacks; true for an unflagged count that is not 0.
@@ -107,7 +115,7 @@ pub fn entries_legal(b: Book) -> bool
     while i < m {
         let e = entries[i];
         let l = e.limits;
-        let w = limits_legal(asset_position(assets, n, l.asset) < n, l);
+        let w = limits_legal(asset_position(assets, n, l.asset as u32) < n, l);
         legal = legal & w;
         i = i + 1;
     }

@@ -1,7 +1,11 @@
 -- Records by version: where each field is read, and the least number of bytes. A new version is a case of `by-version`.
 use Prim.Native.Nat.{ℕ, _≤_}
 use mathlib.Core.Path.{_≡_, refl}
+use mathlib.Core.Bool.{cond}
 use mathlib.Core.List.{List}
+use lib.Dec.{leb}
+use lib.ListN.{getD}
+use borrow.Author.Tests.{le-leb}
 use native.Mathlib.Omega.{arith}
 use Rattle.numbers.specs.Fields.{bits8, bits16, bits32, numberAt}
 use Rattle.book.specs.declared.Asset.{Asset}
@@ -9,10 +13,14 @@ use Rattle.book.specs.declared.Limits.{Limits}
 use Rattle.book.specs.declared.Meters.{Meters}
 use Rattle.book.specs.declared.Last.{Last}
 use Rattle.book.specs.declared.Open.{Open}
-use Rattle.model.specs.Image.{newest, headerSize, assetSize, entrySize, playerSize, assetIn, entryIn, playerIn}
+use Rattle.model.specs.Image.{newest, headerSize, assetSize, entrySize, playerSize, assetIn, entryIn, playerIn, tailIn}
 use Rattle.model.proofs.Image.Header.{by-version}
 
 -- ## Where each field is read
+
+-- a number that version 2 added
+abbrev pub added : ℕ → ℕ → List ℕ → ℕ
+added v at s = cond (leb 2 v) (numberAt bits32 at s) 0
 
 abbrev pub assetRead : ℕ → List ℕ → Asset
 assetRead v s = record { number = numberAt bits16 0 s; inherit = numberAt bits16 2 s; key = numberAt bits8 4 s }
@@ -30,6 +38,9 @@ limitsRead v s = record {
   end = numberAt bits32 22 s;
   interval = numberAt bits32 26 s;
   accumulated = numberAt bits32 30 s;
+  tracked = added v 51 s;
+  timedvalue = added v 55 s;
+  mark = added v 59 s;
 }
 
 abbrev pub metersRead : ℕ → List ℕ → Meters
@@ -56,44 +67,62 @@ openRead v s = record {
   entry = numberAt bits8 15 s;
   begin = numberAt bits32 16 s;
   until = numberAt bits32 20 s;
+  content = added v 24 s;
 }
 
 module _ (s : List ℕ) (v : ℕ) (h : 1 ≤ v) (k : v ≤ newest) where
   pub asset-read : assetRead v s ≡ assetIn v s
   unfolding assetIn
-  asset-read = by-version (λ v. assetRead v s ≡ assetIn v s) refl v h k
+  asset-read = by-version (λ v. assetRead v s ≡ assetIn v s) refl refl v h k
 
   pub limits-read : limitsRead v s ≡ entryIn v s .limits
   unfolding entryIn
-  limits-read = by-version (λ v. limitsRead v s ≡ entryIn v s .limits) refl v h k
+  limits-read = by-version (λ v. limitsRead v s ≡ entryIn v s .limits) refl refl v h k
 
   pub meters-read : metersRead v s ≡ entryIn v s .meters
   unfolding entryIn
-  meters-read = by-version (λ v. metersRead v s ≡ entryIn v s .meters) refl v h k
+  meters-read = by-version (λ v. metersRead v s ≡ entryIn v s .meters) refl refl v h k
 
   pub last-read : lastRead v s ≡ playerIn v s .last
   unfolding playerIn
-  last-read = by-version (λ v. lastRead v s ≡ playerIn v s .last) refl v h k
+  last-read = by-version (λ v. lastRead v s ≡ playerIn v s .last) refl refl v h k
 
   pub open-read : openRead v s ≡ playerIn v s .current
   unfolding playerIn
-  open-read = by-version (λ v. openRead v s ≡ playerIn v s .current) refl v h k
+  open-read = by-version (λ v. openRead v s ≡ playerIn v s .current) refl refl v h k
+
+  pub switch-read : added v 11 s ≡ getD (tailIn v s) 0 0
+  switch-read = by-version (λ v. added v 11 s ≡ getD (tailIn v s) 0 0) refl refl v h k
+
+-- ## What version 2 adds is there
+
+pub header-two : (v : ℕ) → 2 ≤ v → headerSize v ≡ 15
+unfolding headerSize
+header-two v h = rw (le-leb 2 v h)
+
+pub entry-two : (v : ℕ) → 2 ≤ v → entrySize v ≡ 63
+unfolding entrySize
+entry-two v h = rw (le-leb 2 v h)
+
+pub player-two : (v : ℕ) → 2 ≤ v → playerSize v ≡ 28
+unfolding playerSize
+player-two v h = rw (le-leb 2 v h)
 
 -- ## The fields that every version has are there
 
 module _ (v : ℕ) (h : 1 ≤ v) (k : v ≤ newest) where
   pub header-least : 11 ≤ headerSize v
   unfolding headerSize
-  header-least = by-version (λ v. 11 ≤ headerSize v) (omega arith) v h k
+  header-least = by-version (λ v. 11 ≤ headerSize v) (omega arith) (omega arith) v h k
 
   pub asset-least : 5 ≤ assetSize v
   unfolding assetSize
-  asset-least = by-version (λ v. 5 ≤ assetSize v) (omega arith) v h k
+  asset-least = by-version (λ v. 5 ≤ assetSize v) (omega arith) (omega arith) v h k
 
   pub entry-least : 51 ≤ entrySize v
   unfolding entrySize
-  entry-least = by-version (λ v. 51 ≤ entrySize v) (omega arith) v h k
+  entry-least = by-version (λ v. 51 ≤ entrySize v) (omega arith) (omega arith) v h k
 
   pub player-least : 24 ≤ playerSize v
   unfolding playerSize
-  player-least = by-version (λ v. 24 ≤ playerSize v) (omega arith) v h k
+  player-least = by-version (λ v. 24 ≤ playerSize v) (omega arith) (omega arith) v h k

@@ -4,7 +4,7 @@ ghost use mathlib.Core.Path.{_≡_};
 ghost use mathlib.Core.Bool.{cond};
 ghost use Prim.Native.Nat.{_+_, _*_, _<_, _≤_};
 ghost use lib.ListN.{length};
-ghost use lib.Dec.{eqb};
+ghost use lib.Dec.{leb, eqb};
 ghost use Rattle.numbers.specs.Fields.{bits8, bits16, bits32, numberAt};
 ghost use Rattle.book.specs.Blank.{noBook};
 ghost use Rattle.model.specs.Image.{newest, assetSize, entrySize, playerSize, assetIn, entryIn, playerIn};
@@ -56,6 +56,17 @@ fn read32(s: &[u8], at: usize) -> u32
     numbers::join32(s[at], s[at + 1], s[at + 2], s[at + 3])
 }
 
+// A number that version 2 added, 0 in version 1.
+fn added32(s: &[u8], v: u16, at: usize) -> u32
+    requires { ⌜ (2 ≤ v → at + 4 ≤ length (now s)) ⌝ }
+    ensures { λ r. ⌜ r ≡ cond (leb 2 v) (numberAt bits32 at (now (s .entry))) 0 ⌝ }
+{
+    if 2 <= v {
+        return read32(s, at);
+    }
+    0
+}
+
 // A record of version v at the start of the bytes. A field that the version lacks is 0.
 fn asset_in(s: &[u8], v: u16) -> Asset
     requires { ⌜ (1 ≤ v) × (v ≤ newest) × (5 ≤ length (now s)) × (assetSize v ≤ length (now s)) ⌝ }
@@ -72,6 +83,9 @@ fn limits_in(s: &[u8], v: u16) -> Limits
     requires { ⌜ (1 ≤ v) × (v ≤ newest) × (51 ≤ length (now s)) × (entrySize v ≤ length (now s)) ⌝ }
     ensures { λ r. ⌜ r ≡ entryIn v (now (s .entry)) .limits ⌝ }
 {
+    let tracked = added32(s, v, 51);
+    let timedvalue = added32(s, v, 55);
+    let mark = added32(s, v, 59);
     Limits {
         object: read16(s, 0),
         asset: read16(s, 2),
@@ -84,6 +98,9 @@ fn limits_in(s: &[u8], v: u16) -> Limits
         end: read32(s, 22),
         interval: read32(s, 26),
         accumulated: read32(s, 30),
+        tracked: tracked,
+        timedvalue: timedvalue,
+        mark: mark,
     }
 }
 
@@ -131,11 +148,13 @@ fn open_in(s: &[u8], v: u16) -> Open
     requires { ⌜ (1 ≤ v) × (v ≤ newest) × (24 ≤ length (now s)) × (playerSize v ≤ length (now s)) ⌝ }
     ensures { λ r. ⌜ r ≡ playerIn v (now (s .entry)) .current ⌝ }
 {
+    let content = added32(s, v, 24);
     Open {
         on: read8(s, 14),
         entry: read8(s, 15),
         begin: read32(s, 16),
         until: read32(s, 20),
+        content: content,
     }
 }
 
@@ -236,8 +255,10 @@ fn book_in(s: &[u8]) -> Book
     let assetsfrom = header_size(v);
     let entriesfrom = entries_from(v, assets);
     let playersfrom = players_from(v, assets, entries);
+    let switch = added32(s, v, HEADER_START);
     Book {
         time: read32(s, 7),
+        switch: switch,
         assetcount: assets,
         entrycount: entries,
         assets: assets_in(s, v, assetsfrom, assets as usize),

@@ -1,9 +1,9 @@
 -- The bytes of each piece and record, under the name that callers use, and their number.
 use mathlib.Core.Path.{_≡_, refl}
 use Prim.Native.Nat.{ℕ}
-use mathlib.Core.List.{List, _++_}
+use mathlib.Core.List.{List, [], _∷_, _++_}
 use lib.ListN.{length}
-use Rattle.numbers.specs.Fields.{laidOut}
+use Rattle.numbers.specs.Fields.{bits32, laidOut}
 use Rattle.book.specs.declared.Asset.{Asset}
 use Rattle.book.specs.declared.Limits.{Limits}
 use Rattle.book.specs.declared.Meters.{Meters}
@@ -13,7 +13,8 @@ use Rattle.book.specs.declared.Open.{Open}
 use Rattle.book.specs.declared.Player.{Player}
 use Rattle.book.specs.declared.Book.{Book}
 use Rattle.model.specs.Image.{newest, headerStart, startValues, headerBytes, assetWidths, assetValues, assetBytes, limitsWidths}
-use Rattle.model.specs.Image.{limitsValues, metersWidths, metersValues, entryBytes, lastWidths, lastValues, openWidths, openValues}
+use Rattle.model.specs.Image.{trackWidths, trackValues, limitsValues, metersWidths, metersValues, entryBytes, lastWidths, lastValues}
+use Rattle.model.specs.Image.{openWidths, openValues}
 use Rattle.model.specs.Image.{playerBytes, headerSize, assetSize, entrySize, playerSize}
 
 -- ## The header
@@ -25,13 +26,26 @@ pub start-shut : (assets entries time : ℕ) → laidOut headerStart (startValue
 unfolding startBytes
 start-shut assets entries time = refl
 
-pub start-length : (assets entries time : ℕ) → length (startBytes assets entries time) ≡ headerSize newest
-unfolding startBytes headerSize
+pub start-length : (assets entries time : ℕ) → length (startBytes assets entries time) ≡ 11
+unfolding startBytes
 start-length assets entries time = refl
 
--- the start is the whole header as long as no version has added to it
-pub header-pieces : (assets entries : ℕ) (b : Book) → startBytes assets entries (b .time) ≡ headerBytes assets entries b
-unfolding startBytes headerBytes
+-- a number that a version adds
+unfoldable pub numberBytes : ℕ → List ℕ
+numberBytes n = laidOut (bits32 ∷ []) (n ∷ [])
+
+pub number-shut : (n : ℕ) → laidOut (bits32 ∷ []) (n ∷ []) ≡ numberBytes n
+unfolding numberBytes
+number-shut n = refl
+
+pub number-length : (n : ℕ) → length (numberBytes n) ≡ 4
+unfolding numberBytes
+number-length n = refl
+
+-- the start and the switch are the whole header
+pub header-pieces : (assets entries : ℕ) (b : Book) → startBytes assets entries (b .time) ++ numberBytes (b .switch)
+    ≡ headerBytes assets entries b
+unfolding startBytes numberBytes headerBytes
 header-pieces assets entries b = refl
 
 pub header-length : (assets entries : ℕ) (b : Book) → length (headerBytes assets entries b) ≡ headerSize newest
@@ -64,6 +78,17 @@ pub meters-shut : (m : Meters) → laidOut metersWidths (metersValues m) ≡ met
 unfolding metersBytes
 meters-shut m = refl
 
+unfoldable pub trackBytes : Limits → List ℕ
+trackBytes l = laidOut (trackWidths newest) (trackValues l)
+
+pub track-shut : (l : Limits) → laidOut (trackWidths newest) (trackValues l) ≡ trackBytes l
+unfolding trackBytes
+track-shut l = refl
+
+pub track-length : (l : Limits) → length (trackBytes l) ≡ 12
+unfolding trackBytes
+track-length l = refl
+
 pub limits-length : (l : Limits) → length (limitsBytes l) ≡ 34
 unfolding limitsBytes
 limits-length l = refl
@@ -73,8 +98,8 @@ unfolding metersBytes
 meters-length m = refl
 
 -- the pieces one after the other are the entry
-pub entry-pieces : (e : Entry) → limitsBytes (e .limits) ++ metersBytes (e .meters) ≡ entryBytes e
-unfolding entryBytes limitsBytes metersBytes
+pub entry-pieces : (e : Entry) → limitsBytes (e .limits) ++ metersBytes (e .meters) ++ trackBytes (e .limits) ≡ entryBytes e
+unfolding entryBytes limitsBytes metersBytes trackBytes
 entry-pieces e = refl
 
 pub entry-length : (e : Entry) → length (entryBytes e) ≡ entrySize newest
@@ -105,8 +130,8 @@ pub open-length : (o : Open) → length (openBytes o) ≡ 10
 unfolding openBytes
 open-length o = refl
 
-pub player-pieces : (p : Player) → lastBytes (p .last) ++ openBytes (p .current) ≡ playerBytes p
-unfolding playerBytes lastBytes openBytes
+pub player-pieces : (p : Player) → lastBytes (p .last) ++ openBytes (p .current) ++ numberBytes (p .current .content) ≡ playerBytes p
+unfolding playerBytes lastBytes openBytes numberBytes
 player-pieces p = refl
 
 pub player-length : (p : Player) → length (playerBytes p) ≡ playerSize newest

@@ -1,14 +1,16 @@
 // The layout of an image: the newest version, how many bytes each record has by version, and the pieces of a record as bytes: the
-// header, an asset, two pieces of an entry, two of a player. Big-endian, each field in its place.
+// header, an asset, two pieces of an entry, two of a player, and what version 2 adds to header, entry and player. Big-endian, each
+// field in its place.
 // Each contract gives the whole array: the piece's values in its widths. A piece has few bytes, since the checker takes only some
 // fifty such casts in one literal; what a version adds to a record is a piece of its own.
 ghost use mathlib.Core.Path.{_≡_};
 ghost use Prim.Native.Nat.{_*_, _≤_};
-ghost use Rattle.numbers.specs.Fields.{laidOut};
+ghost use mathlib.Core.List.{[], _∷_};
+ghost use Rattle.numbers.specs.Fields.{bits32, laidOut};
 ghost use Rattle.model.specs.Image.{headerSize, assetSize, entrySize, playerSize, imageLength};
 ghost use Rattle.image_pieces.specs.Sizes.{entriesAt, playersAt};
 ghost use Rattle.model.specs.Image.{newest, headerStart, startValues, assetWidths, assetValues, limitsWidths, limitsValues, metersWidths};
-ghost use Rattle.model.specs.Image.{metersValues, lastWidths, lastValues, openWidths, openValues};
+ghost use Rattle.model.specs.Image.{metersValues, trackWidths, trackValues, lastWidths, lastValues, openWidths, openValues};
 use book::Asset;
 use book::Last;
 use book::Limits;
@@ -16,7 +18,7 @@ use book::Meters;
 use book::Open;
 
 // The version that is written. The reader knows it and all before it.
-pub const NEWEST: u16 = 1;
+pub const NEWEST: u16 = 2;
 
 // The bytes of each piece. The header begins in the same way in every version.
 pub const HEADER_START: usize = 11;
@@ -31,11 +33,19 @@ const LAST: usize = 14;
 
 const CURRENT: usize = 10;
 
+// What version 2 adds: the switch or the content, a number each; the track of an entry.
+const NUMBER: usize = 4;
+
+const TRACK: usize = 12;
+
 // The bytes of a header, an asset, an entry and a player: the sum of the pieces that the version has.
 // Rules out: a piece left out, or one that the version lacks.
 pub fn header_size(v: u16) -> usize
     ensures { λ r. ⌜ (r ≡ headerSize v) × (r ≤ 200) ⌝ }
 {
+    if 2 <= v {
+        return HEADER_START + NUMBER;
+    }
     HEADER_START
 }
 
@@ -48,12 +58,18 @@ pub fn asset_size(v: u16) -> usize
 pub fn entry_size(v: u16) -> usize
     ensures { λ r. ⌜ (r ≡ entrySize v) × (r ≤ 200) ⌝ }
 {
+    if 2 <= v {
+        return LIMITS + METERS + TRACK;
+    }
     LIMITS + METERS
 }
 
 pub fn player_size(v: u16) -> usize
     ensures { λ r. ⌜ (r ≡ playerSize v) × (r ≤ 200) ⌝ }
 {
+    if 2 <= v {
+        return LAST + CURRENT + NUMBER;
+    }
     LAST + CURRENT
 }
 
@@ -227,5 +243,38 @@ pub fn open_bytes(c: Open) -> [u8; CURRENT]
         (c.until / 65536 % 256) as u8,
         (c.until / 256 % 256) as u8,
         (c.until % 256) as u8,
+    ]
+}
+
+// A number of its own: the book's switch, the content of an open use.
+// Rules out: the bytes in another order.
+pub fn number_bytes(n: u32) -> [u8; NUMBER]
+    ensures { λ r. ⌜ r ≡ laidOut (bits32 ∷ []) (n ∷ []) ⌝ }
+{
+    [
+        (n / 16777216 % 256) as u8,
+        (n / 65536 % 256) as u8,
+        (n / 256 % 256) as u8,
+        (n % 256) as u8,
+    ]
+}
+
+// Rules out: the timed value for the mark.
+pub fn track_bytes(l: Limits) -> [u8; TRACK]
+    ensures { λ r. ⌜ r ≡ laidOut (trackWidths newest) (trackValues l) ⌝ }
+{
+    [
+        (l.tracked / 16777216 % 256) as u8,
+        (l.tracked / 65536 % 256) as u8,
+        (l.tracked / 256 % 256) as u8,
+        (l.tracked % 256) as u8,
+        (l.timedvalue / 16777216 % 256) as u8,
+        (l.timedvalue / 65536 % 256) as u8,
+        (l.timedvalue / 256 % 256) as u8,
+        (l.timedvalue % 256) as u8,
+        (l.mark / 16777216 % 256) as u8,
+        (l.mark / 65536 % 256) as u8,
+        (l.mark / 256 % 256) as u8,
+        (l.mark % 256) as u8,
     ]
 }

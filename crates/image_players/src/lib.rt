@@ -2,7 +2,8 @@
 // Each function is defined for every value of its types, whether or not an image can hold it.
 ghost use mathlib.Core.Path.{_≡_};
 ghost use mathlib.Core.Bool.{cond};
-ghost use Rattle.model.specs.Book.{playerBlank, answerLegal, insideDates, insideInterval, useLegal, openLegal, playerLegal, playersLegal};
+ghost use Rattle.model.specs.Book.{playerBlank, answerLegal, insideDates, insideInterval, contentLegal, useLegal, openLegal};
+ghost use Rattle.model.specs.Book.{playerLegal, playersLegal};
 use book::Answer;
 use book::Book;
 use book::Entry;
@@ -11,6 +12,7 @@ use book::Meters;
 use book::Open;
 use book::Player;
 use book::at_most_64;
+use image_limits::asset_position;
 use rules::flags_of;
 use rules::grant_length;
 
@@ -37,13 +39,14 @@ fn player_blank(p: Player) -> bool
         & (o.entry == 0)
         & (o.begin == 0)
         & (o.until == 0)
+        & (o.content == 0)
 }
 
 fn answer_legal(n: usize, a: Answer) -> bool
     ensures { λ r. ⌜ r ≡ answerLegal n a ⌝ }
 {
     let entry = a.entry as usize;
-    ((a.code == 0) | ((10 <= a.code) & (a.code <= 15)))
+    ((a.code == 0) | ((10 <= a.code) & (a.code <= 15)) | (a.code == 43))
         & pick(a.code == 0, entry < n, (a.entry == 255) & (a.until == 0))
 }
 
@@ -68,8 +71,15 @@ fn inside_interval(o: Open, l: Limits, m: Meters) -> bool
     !f.interval | ((m.started == 1) & (m.first <= o.begin) & (until <= past))
 }
 
-fn use_legal(time: u32, n: usize, e: Entry, o: Open) -> bool
-    ensures { λ r. ⌜ r ≡ useLegal time n e o ⌝ }
+// Rules out: a tracked entry's use without its content, a content that the book lacks.
+fn content_legal(known: bool, l: Limits, o: Open) -> bool
+    ensures { λ r. ⌜ r ≡ contentLegal known l o ⌝ }
+{
+    known | ((o.content == 0) & (l.tracked == 0))
+}
+
+fn use_legal(time: u32, n: usize, known: bool, e: Entry, o: Open) -> bool
+    ensures { λ r. ⌜ r ≡ useLegal time n known e o ⌝ }
 {
     let until = o.until as u64;
     let l = e.limits;
@@ -85,42 +95,51 @@ fn use_legal(time: u32, n: usize, e: Entry, o: Open) -> bool
         & ((1 <= l.kind) & (l.kind <= 3))
         & inside_dates(o, l)
         & inside_interval(o, l, m)
+        & content_legal(known, l, o)
 }
 
-fn open_legal(time: u32, n: usize, e: Entry, o: Open) -> bool
-    ensures { λ r. ⌜ r ≡ openLegal time n e o ⌝ }
+fn open_legal(time: u32, n: usize, known: bool, e: Entry, o: Open) -> bool
+    ensures { λ r. ⌜ r ≡ openLegal time n known e o ⌝ }
 {
-    let closed = (o.entry == 0) & (o.begin == 0) & (o.until == 0);
-    pick(o.on == 0, closed, (o.on == 1) & use_legal(time, n, e, o))
+    let closed = (o.entry == 0) & (o.begin == 0) & (o.until == 0) & (o.content == 0);
+    pick(
+        o.on == 0,
+        closed,
+        (o.on == 1) & use_legal(time, n, known, e, o),
+    )
 }
 
-fn player_legal(time: u32, n: usize, e: Entry, p: Player) -> bool
-    ensures { λ r. ⌜ r ≡ playerLegal time n e p ⌝ }
+fn player_legal(time: u32, n: usize, known: bool, e: Entry, p: Player) -> bool
+    ensures { λ r. ⌜ r ≡ playerLegal time n known e p ⌝ }
 {
     let l = p.last;
     let a = l.answer;
     let o = p.current;
     let judged = record::request_legal(l.operation, l.asset, l.kind)
         & answer_legal(n, a)
-        & open_legal(time, n, e, o);
+        & open_legal(time, n, known, e, o);
     pick(l.number == 0, player_blank(p), judged)
 }
 
-// Rules out: true for a use that is open past the book's time + 60; true for an answer 13 with an until.
+// Rules out: true for a use that is open past the book's time + 60; true for an answer 13 with an until; true for a content that the book
+// lacks.
 pub fn players_legal(b: Book) -> bool
     ensures { λ r. ⌜ r ≡ playersLegal b ⌝ }
 {
     let time = b.time;
     let entries = b.entries;
     let players = b.players;
+    let assets = b.assets;
     let n = at_most_64(b.entrycount);
+    let count = at_most_64(b.assetcount);
     let mut legal = true;
     let mut i: usize = 0;
     while i < 16 {
         let p = players[i];
         let o = p.current;
         let e = book::entry_at(entries, o.entry as usize);
-        let w = player_legal(time, n, e, p);
+        let known = asset_position(assets, count, o.content) < count;
+        let w = player_legal(time, n, known, e, p);
         legal = legal & w;
         i = i + 1;
     }

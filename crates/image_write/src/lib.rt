@@ -6,7 +6,8 @@ ghost use lib.ListN.{length, getD};
 ghost use Rattle.numbers.specs.Count.{joined};
 ghost use Rattle.numbers.specs.Buffer.{lay};
 ghost use Rattle.book.specs.Blank.{noEntry};
-ghost use Rattle.image_pieces.specs.Pieces.{startBytes};
+ghost use mathlib.Core.List.{_++_};
+ghost use Rattle.image_pieces.specs.Pieces.{startBytes, numberBytes};
 ghost use Rattle.model.specs.Book.{assetAt, playerAt};
 ghost use Rattle.model.specs.Image.{newest, headerSize, assetSize, entrySize, playerSize, assetBytes, entryBytes, playerBytes, imageLength};
 ghost use Rattle.model.specs.Image.{writeAnswer, writeBuffer};
@@ -30,12 +31,15 @@ fn put(buf: &mut [u8], at: usize, src: &[u8]) -> usize
 }
 
 // The header, and then one record of each sort: the bytes, and the end offset.
-fn put_header(buf: &mut [u8], assets: u8, entries: u8, time: u32) -> usize
+fn put_header(buf: &mut [u8], assets: u8, entries: u8, time: u32, switch: u32) -> usize
     requires { ⌜ headerSize newest ≤ length (now buf) ⌝ }
-    ensures { λ r. ⌜ (r ≡ headerSize newest) × (now (buf .exit) ≡ lay (now (buf .entry)) 0 (startBytes assets entries time)) ⌝ }
+    ensures { λ r. ⌜ r ≡ headerSize newest ⌝ }
+    ensures { λ _. ⌜ now (buf .exit) ≡ lay (now (buf .entry)) 0 (startBytes assets entries time ++ numberBytes switch) ⌝ }
 {
-    let s = image_pieces::header_bytes(assets, entries, time);
-    put(buf, 0, &s)
+    let start = image_pieces::header_bytes(assets, entries, time);
+    let tail = image_pieces::number_bytes(switch);
+    let o = put(buf, 0, &start);
+    put(buf, o, &tail)
 }
 
 fn put_asset(buf: &mut [u8], at: usize, a: Asset) -> usize
@@ -55,8 +59,10 @@ fn put_entry(buf: &mut [u8], at: usize, e: Entry) -> usize
     let m = e.meters;
     let limits = image_pieces::limits_bytes(l);
     let meters = image_pieces::meters_bytes(m);
+    let track = image_pieces::track_bytes(l);
     let o = put(buf, at, &limits);
-    put(buf, o, &meters)
+    let o = put(buf, o, &meters);
+    put(buf, o, &track)
 }
 
 fn put_player(buf: &mut [u8], at: usize, p: Player) -> usize
@@ -67,8 +73,10 @@ fn put_player(buf: &mut [u8], at: usize, p: Player) -> usize
     let c = p.current;
     let last = image_pieces::last_bytes(l);
     let current = image_pieces::open_bytes(c);
+    let content = image_pieces::number_bytes(c.content);
     let o = put(buf, at, &last);
-    put(buf, o, &current)
+    let o = put(buf, o, &current);
+    put(buf, o, &content)
 }
 
 // The three tables: writes the first n records at offset `at`, and returns the end offset.
@@ -138,7 +146,7 @@ pub fn write(b: Book, buf: &mut [u8]) -> usize
     }
     let a = at_most_64(b.assetcount);
     let n = at_most_64(b.entrycount);
-    let o = put_header(buf, a as u8, n as u8, b.time);
+    let o = put_header(buf, a as u8, n as u8, b.time, b.switch);
     let ats = b.assets;
     let o = put_assets(buf, o, ats, a);
     let es = b.entries;

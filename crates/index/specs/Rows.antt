@@ -1,6 +1,7 @@
 -- The rows of a book's entries are a map over them: what is at a position, and what a store does to both.
 use Prim.Native.Nat.{ℕ, _<_}
 use mathlib.Core.Path.{_≡_}
+use mathlib.Core.Bool.{false}
 use mathlib.Core.List.{List, map}
 use lib.ListN.{length, getD, set, length-map}
 use Rattle.book.specs.declared.Entry.{Entry}
@@ -15,7 +16,7 @@ rowOfEntry e = rowOf (e .limits) (e .meters)
 
 -- what a position without a row reads as
 abbrev pub noRow : Row
-noRow = record { asset = 0; kind = 0; flags = 0; fresh = 0; start = 0; window = 0; end = 0 }
+noRow = record { asset = 0; kind = 0; flags = 0; fresh = 0; start = 0; window = 0; end = 0; guarded = false }
 
 pub row-at : (es : List Entry) (k : ℕ) → k < length es → getD (map rowOfEntry es) k noRow ≡ rowOf (limitsAt es k) (metersAt es k)
 row-at es k h = mapped-at rowOfEntry es k noEntry noRow h

@@ -34,6 +34,7 @@ pub fn rows_of(es: [Entry; 64]) -> [Row; 64]
         start: 0,
         window: 0,
         end: 0,
+        guarded: false,
     }; 64];
     let mut i: usize = 0;
     while i < 64 {

@@ -1,9 +1,13 @@
 -- Demand 3 for every list of events.
 pub mod Checks
 pub mod Suitable
+pub mod Lines
 pub mod Choice
 pub mod Until
 pub mod History
+pub mod Gains
+pub mod Zeros
 pub mod Current
 pub mod Proof
 pub mod Premises
+pub mod ReportPremises

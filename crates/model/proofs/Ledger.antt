@@ -3,6 +3,8 @@ pub mod Facts
 pub mod Sums
 pub mod Figures
 pub mod Invariant
+pub mod Reports
 pub mod Concrete
 pub mod WellFormed
 pub mod Steps
+pub mod Bounded

@@ -96,6 +96,13 @@ accumulatedFlag = 32
 unfoldable pub flagged : ℕ → Limits → Bool
 flagged w l = eqb (l .flags / w % 2) 1
 
+-- order 3 of document 02: "An entry may be tracked (1, else 0)"; the switch for metering is on if it is 1
+abbrev pub isTracked : Limits → Bool
+isTracked l = eqb (l .tracked) 1
+
+abbrev pub isMetered : ℕ → Bool
+isMetered switch = eqb switch 1
+
 -- "kind (1 play, 2 display, 3 execute, 4 print, 5 export)"; "Print and export are momentary"
 unfoldable pub momentary : ℕ → Bool
 momentary kind = between 4 5 kind
@@ -140,8 +147,16 @@ rangesLegal l =
     && limit (flagged intervalFlag l) mostSeconds (l .interval)
     && limit (flagged accumulatedFlag l) mostSeconds (l .accumulated)
 
+-- Order 3 of document 02: "An entry may be tracked (1, else 0), with a timed value in seconds and the contentAccessGranted mark (0 or 1),
+-- both 0 if untracked"
+unfoldable pub trackLegal : Limits → Bool
+trackLegal l =
+    leb (l .tracked) 1
+    && leb (l .mark) 1
+    && (isTracked l || (eqb (l .timedvalue) 0 && eqb (l .mark) 0))
+
 -- "rights object number (1 to 65535), asset (in the book), kind ..., flags, limits"; "start at most end where both are flagged";
--- momentary: "no accumulated, timer 0". Whether the asset is in the book is passed in.
+-- momentary: "no accumulated, timer 0"; the track. Whether the asset is in the book is passed in.
 unfoldable pub limitsLegal : Bool → Limits → Bool
 limitsLegal known l =
     between 1 65535 (l .object)
@@ -151,12 +166,17 @@ limitsLegal known l =
     && rangesLegal l
     && (not (flagged startFlag l && flagged endFlag l) || leb (l .start) (l .end))
     && (not (momentary (l .kind)) || (not (flagged accumulatedFlag l) && eqb (l .timer) 0))
+    && trackLegal l
 
 -- all entries of the book
 unfoldable pub entriesLegal : Book → Bool
 entriesLegal b = all (λ i. limitsLegal (inBook b (limitsAt (b .entries) i .asset)) (limitsAt (b .entries) i)) (entriesIn b)
 
--- ## 26, players
+-- ## 26, header and players
+
+-- Order 3 of document 02: "the book has one switch for metering (0 or 1)"
+unfoldable pub switchLegal : Book → Bool
+switchLegal b = leb (b .switch) 1
 
 -- "number 0 means all 0"
 unfoldable pub playerBlank : Player → Bool
@@ -172,6 +192,7 @@ playerBlank p =
     && eqb (p .current .entry) 0
     && eqb (p .current .begin) 0
     && eqb (p .current .until) 0
+    && eqb (p .current .content) 0
 
 -- "request as for events": "operation (1 begin, 2 continue, 3 stop)"; "Kind is 1 to 5 for begin; asset and kind are 0 otherwise."
 unfoldable pub requestLegal : ℕ → ℕ → ℕ → Bool
@@ -179,9 +200,9 @@ requestLegal operation asset kind =
     (eqb operation 1 && between 1 5 kind)
     || (between 2 3 operation && eqb asset 0 && eqb kind 0)
 
--- "code 0 or 10 to 15": the codes that a taken event leaves
+-- "code 0 or 10 to 15": the codes that a taken event leaves; "An added *taken* answer .. may be a stored code": 43
 unfoldable pub takenCode : ℕ → Bool
-takenCode c = eqb c 0 || between 10 15 c
+takenCode c = eqb c 0 || between 10 15 c || eqb c 43
 
 -- "entry a position if code 0, else entry 255 and until 0"; n entries
 unfoldable pub answerLegal : ℕ → Answer → Bool
@@ -202,10 +223,15 @@ insideInterval o l m =
     not (flagged intervalFlag l)
     || (eqb (m .started) 1 && leb (m .first) (o .begin) && leb (o .until) (m .first + l .interval))
 
+-- Order 3 of document 02: "The content, an asset of the book, is kept with every open use: .. on reading allowed 0 if untracked."
+-- Whether the content is in the book is passed in.
+unfoldable pub contentLegal : Bool → Limits → Open → Bool
+contentLegal known l o = known || (eqb (o .content) 0 && eqb (l .tracked) 0)
+
 -- "begin ≤ book time < until ≤ book time + 60, an open entry that is a position of kind 1 to 3, and ..."
 -- The open entry is e, of n entries.
-unfoldable pub useLegal : ℕ → ℕ → Entry → Open → Bool
-useLegal time n e o =
+unfoldable pub useLegal : ℕ → ℕ → Bool → Entry → Open → Bool
+useLegal time n known e o =
     leb (o .begin) time
     && ltb time (o .until)
     && leb (o .until) (time + grantLength (e .limits .kind))
@@ -213,33 +239,35 @@ useLegal time n e o =
     && between 1 3 (e .limits .kind)
     && insideDates o (e .limits)
     && insideInterval o (e .limits) (e .meters)
+    && contentLegal known (e .limits) o
 
--- "open 0 or 1, closed means its fields 0; open means ..."
-unfoldable pub openLegal : ℕ → ℕ → Entry → Open → Bool
-openLegal time n e o =
+-- "open 0 or 1, closed means its fields 0; open means ..."; the content "0 if closed"
+unfoldable pub openLegal : ℕ → ℕ → Bool → Entry → Open → Bool
+openLegal time n known e o =
     cond (eqb (o .on) 0)
-    (eqb (o .entry) 0 && eqb (o .begin) 0 && eqb (o .until) 0)
-    (eqb (o .on) 1 && useLegal time n e o)
+    (eqb (o .entry) 0 && eqb (o .begin) 0 && eqb (o .until) 0 && eqb (o .content) 0)
+    (eqb (o .on) 1 && useLegal time n known e o)
 
 -- "number 0 means all 0 and is not judged further; request as for events; code ...; open ..."
-unfoldable pub playerLegal : ℕ → ℕ → Entry → Player → Bool
-playerLegal time n e p =
+unfoldable pub playerLegal : ℕ → ℕ → Bool → Entry → Player → Bool
+playerLegal time n known e p =
     cond (eqb (p .last .number) 0)
     (playerBlank p)
     (requestLegal (p .last .operation) (p .last .asset) (p .last .kind)
     && answerLegal n (p .last .answer)
-    && openLegal time n e (p .current))
+    && openLegal time n known e (p .current))
 
 -- the entry that a player's open use names
 abbrev pub openEntry : List Entry → Player → Entry
 openEntry es p = getD es (p .current .entry) noEntry
 
+-- a player of the book
+abbrev pub playerPasses : Book → Player → Bool
+playerPasses b p = playerLegal (b .time) (entriesIn b) (inBook b (p .current .content)) (openEntry (b .entries) p) p
+
 -- all players
 unfoldable pub playersLegal : Book → Bool
-playersLegal b =
-    all
-    (λ p. playerLegal (b .time) (entriesIn b) (openEntry (b .entries) (playerAt (b .players) p)) (playerAt (b .players) p))
-    16
+playersLegal b = all (λ p. playerPasses b (playerAt (b .players) p)) 16
 
 -- ## 27, meters
 
@@ -292,12 +320,13 @@ metersLegal b = all (λ i. entryMetersLegal (b .time) (b .players) i (getD (b .e
 
 -- ## The stages in order
 
--- "24 asset rules, 25 entry rules, 26 players, 27 meters": the first that fails; 0 if none does
+-- "24 asset rules, 25 entry rules, 26 players, 27 meters": the first that fails; 0 if none does. "An added field against its rule gets
+-- 24, 25 or, in header and players, 26".
 unfoldable pub ruleBroken : Book → ℕ
 ruleBroken b =
     cond (not (assetsLegal b)) 24
     (cond (not (entriesLegal b)) 25
-    (cond (not (playersLegal b)) 26
+    (cond (not (switchLegal b && playersLegal b)) 26
     (cond (not (metersLegal b)) 27
     0)))
 

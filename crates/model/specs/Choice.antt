@@ -17,7 +17,7 @@ use Rattle.book.specs.declared.Rank.{Rank}
 use Rattle.book.specs.Blank.{noAsset}
 use Rattle.model.specs.Book.{assetAt, limitsAt, metersAt, assetsIn, entriesIn, grantLength, isParent, assetPosition, flagged}
 use Rattle.model.specs.Book.{countFlag, timedFlag, startFlag, endFlag, intervalFlag, accumulatedFlag}
-use Rattle.model.specs.Book.{momentary}
+use Rattle.model.specs.Book.{momentary, isTracked, isMetered}
 use Rattle.model.specs.Meters.{isStarted, intervalFrom}
 
 -- ## Suitable
@@ -61,9 +61,9 @@ suitable asset parent kind l = eqb (l .kind) kind && (own asset l || (not (eqb p
 
 -- ## Grantable
 
--- who asks, and when: all that grantable reads besides the entry
-abbrev pub asks : Event → Ask
-asks e = record { player = e .player; time = e .time }
+-- who asks, and when, and the switch: all that grantable reads besides the entry
+abbrev pub asks : Book → Event → Ask
+asks b e = record { player = e .player; time = e .time; switch = b .switch }
 
 -- a flagged limit whose test fails
 abbrev pub fails : Bool → Bool → Bool
@@ -72,7 +72,8 @@ fails flag test = flag && not test
 -- "**Grantable** at t, all flagged limits: used count < count; used timed < timed; start ≤ t ≤ end; not started or t < first + interval;
 -- used seconds < accumulated.": by name, which of these fail. Order 2 of document 02, of an entry with a flagged limit of 0: "such an
 -- entry is never grantable". For a count, a timed count and the seconds that follows, since nothing is below 0. An interval of 0 is a
--- ground by itself: not started, it would be granted once, until t.
+-- ground by itself: not started, it would be granted once, until t. Order 3: "With the switch off a tracked entry is grantable only with
+-- mark 1".
 unfoldable pub groundsOf : Ask → Limits → Meters → Grounds
 groundsOf ask l m = record {
   countspent = fails (flagged countFlag l) (ltb (m .count) (l .count));
@@ -82,16 +83,22 @@ groundsOf ask l m = record {
   intervalover = fails (flagged intervalFlag l) (not (isStarted m) || ltb (ask .time) (m .first + l .interval));
   secondsspent = fails (flagged accumulatedFlag l) (ltb (m .seconds) (l .accumulated));
   intervalzero = fails (flagged intervalFlag l) (ltb 0 (l .interval));
+  switchoff = fails (isTracked l) (isMetered (ask .switch) || eqb (l .mark) 1);
 }
 
 -- the grounds one after the other, in that order
 abbrev pub groundList : Grounds → List Bool
 groundList g =
-    g .countspent ∷ g .timedspent ∷ g .beforestart ∷ g .afterend ∷ g .intervalover ∷ g .secondsspent ∷ g .intervalzero ∷ []
+    g .countspent ∷ g .timedspent ∷ g .beforestart ∷ g .afterend ∷ g .intervalover ∷ g .secondsspent ∷ g .intervalzero
+    ∷ g .switchoff ∷ []
 
 -- no ground stands
 unfoldable pub grantable : Ask → Limits → Meters → Bool
 grantable ask l m = eqb (howMany (groundList (groundsOf ask l m))) 0
+
+-- the switch stands, and no other ground
+unfoldable pub switchOnly : Ask → Limits → Meters → Bool
+switchOnly ask l m = groundsOf ask l m .switchoff && eqb (howMany (groundList (groundsOf ask l m))) 1
 
 -- ## The choice
 
@@ -149,6 +156,14 @@ suits c es asset kind i = suitable asset (parentOf c asset) kind (limitsAt es i)
 -- entry i is suitable and grantable
 abbrev pub allowed : Catalog → List Entry → Ask → ℕ → ℕ → ℕ → Bool
 allowed c es ask asset kind i = suits c es asset kind i && grantable ask (limitsAt es i) (metersAt es i)
+
+-- entry i is suitable and fails for the switch only
+abbrev pub failsForSwitch : Catalog → List Entry → Ask → ℕ → ℕ → ℕ → Bool
+failsForSwitch c es ask asset kind i = suits c es asset kind i && switchOnly ask (limitsAt es i) (metersAt es i)
+
+-- "13 | suitable, none grantable"; order 3: "43, taken, in place of 13 when some suitable entry fails for the switch only"
+unfoldable pub noneGrantable : Catalog → List Entry → Ask → ℕ → ℕ → ℕ
+noneGrantable c es ask asset kind = cond (anyOf (failsForSwitch c es ask asset kind) (c .entryCount)) 43 13
 
 -- entry i goes before entry j, (i) to (iv)
 abbrev pub goesBefore : List Entry → ℕ → ℕ → ℕ → Bool

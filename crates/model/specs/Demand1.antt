@@ -1,12 +1,11 @@
 -- Demand 1 as a statement: "Every event and every book image that meets the rules of document 01 is accepted, and gets the answer and
 -- the new book that those rules fix. Everything else is turned away with the number in its table, and the book and every byte lent to
--- the server are then what they were." Claimed of every book, legal or not, and of every list of numbers as a record. It is proved in
--- `proofs/Demand1`. This file imports no proofs. What a record says and the checks before an event is taken are stated here a second
--- time, in terms of
--- byte positions and numbers. Of the rules only the step itself and the settling of entries are used.
--- Which of 10 to 15 a taken event gets, which entry a begin gets, until when, and what that entry's meters become, is stated by
--- `Demand3`, in terms of
--- the ledger.
+-- the server are then what they were." Claimed of every book, legal or not, of every list of lines lent for the report (order 3 of document
+-- 02), and of every list of numbers as a record. It is proved in `proofs/Demand1`. This file imports no proofs. What a record says and the
+-- checks before an event is taken are stated here a second time, in terms of byte positions and numbers. Of the rules only the step itself
+-- and the settling of entries are used.
+-- Which of 10 to 15 and 43 a taken event gets, which entry a begin gets, until when, and what that entry's meters become, is stated by
+-- `Demand3`, in terms of the ledger.
 use mathlib.Core.Path.{_≡_}
 use mathlib.Core.Logic.{_↔_, _⊎_}
 use Prim.Native.Nat.{ℕ, _+_, _*_, _≤_, _<_}
@@ -16,13 +15,14 @@ use Rattle.book.specs.declared.Answer.{Answer}
 use Rattle.book.specs.declared.Entry.{Entry}
 use Rattle.book.specs.declared.Open.{Open}
 use Rattle.book.specs.declared.Player.{Player}
+use Rattle.book.specs.declared.Line.{Line}
 use Rattle.book.specs.declared.Book.{Book}
 use Rattle.book.specs.declared.Outcome.{Outcome}
 use Rattle.book.specs.Blank.{noEntry, closed}
-use Rattle.model.specs.Book.{limitsAt, playerAt, Legal}
+use Rattle.model.specs.Book.{assetAt, assetsIn, limitsAt, playerAt, Legal}
 use Rattle.model.specs.Image.{Typed, Bytes, newest, versionIn, image, readCode}
 use Rattle.model.specs.Meters.{settled}
-use Rattle.model.specs.Step.{stepRecord}
+use Rattle.model.specs.Report.{lineAt, receive, linesLeft, lent}
 
 -- ## What a record says
 
@@ -60,6 +60,26 @@ pub record IsEvent (s : List ℕ) : Type 0 where
   pub player : askedPlayer s ≤ 15
   pub request : LegalRequest (askedOperation s) (askedAsset s) (askedKind s)
 
+-- ## The list that it is lent
+
+-- order 3: "The report is a lent list of up to 64 lines, each with content, times and seconds in 64 bits, the first naming the assets in
+-- the book's order. .. Any other list, or one holding 2 to the 62 or more, gets 30 255 0": what a list must be for another answer
+pub record GoodList (b : Book) (ls : List Line) : Type 0 where
+  pub enough : assetsIn b ≤ length ls
+  pub most : length ls ≤ 64
+  pub names : (k : ℕ) → k < assetsIn b → lineAt ls k .content ≡ assetAt (b .assets) k .number
+  pub contents : (k : ℕ) → lineAt ls k .content < 4611686018427387904
+  pub times : (k : ℕ) → lineAt ls k .times < 4611686018427387904
+  pub seconds : (k : ℕ) → lineAt ls k .seconds < 4611686018427387904
+
+-- the record, lent these lines: answer and book
+abbrev pub received : Book → List Line → List ℕ → Outcome
+received b ls s = receive b (lent ls s)
+
+-- and the lines after it
+abbrev pub left : Book → List Line → List ℕ → List Line
+left b ls s = linesLeft b (lent ls s)
+
 -- ## What the book says of its player
 
 abbrev pub asker : Book → List ℕ → Player
@@ -88,43 +108,48 @@ pub record InTime (b : Book) (s : List ℕ) : Type 0 where
 
 -- ## Turned away, a resend, or taken
 
--- "Order of checks: 2, 1, then the number. ... else 4. Anything but last + 1: 3 ... Then ... 5.": when each of 1 to 6 is returned
-pub data Against (b : Book) (s : List ℕ) (code : ℕ) : Type 0 where
-  cut : code ≡ 6 → (length s ≡ 13 → ⊥) → Against b s code
-  no-player : code ≡ 2 → length s ≡ 13 → 15 < askedPlayer s → Against b s code
-  no-request : code ≡ 1 → length s ≡ 13 → askedPlayer s ≤ 15 → (LegalRequest (askedOperation s) (askedAsset s) (askedKind s) → ⊥)
-      → Against b s code
-  unlike : code ≡ 4 → IsEvent s → SameNumber b s → (SameRequest b s → ⊥) → Against b s code
-  out-of-line : code ≡ 3 → IsEvent s → (SameNumber b s → ⊥) → (InLine b s → ⊥) → Against b s code
-  out-of-time : code ≡ 5 → IsEvent s → InLine b s → (InTime b s → ⊥) → Against b s code
+-- "Order of checks: 2, 1, then the number. ... else 4. Anything but last + 1: 3 ... Then ... 5.": when each of 1 to 6 is returned; order 3:
+-- "30 255 0 before all checks"
+pub data Against (b : Book) (ls : List Line) (s : List ℕ) (code : ℕ) : Type 0 where
+  bad-list : code ≡ 30 → (GoodList b ls → ⊥) → Against b ls s code
+  cut : code ≡ 6 → GoodList b ls → (length s ≡ 13 → ⊥) → Against b ls s code
+  no-player : code ≡ 2 → GoodList b ls → length s ≡ 13 → 15 < askedPlayer s → Against b ls s code
+  no-request : code ≡ 1 → GoodList b ls → length s ≡ 13 → askedPlayer s ≤ 15
+      → (LegalRequest (askedOperation s) (askedAsset s) (askedKind s) → ⊥)
+      → Against b ls s code
+  unlike : code ≡ 4 → GoodList b ls → IsEvent s → SameNumber b s → (SameRequest b s → ⊥) → Against b ls s code
+  out-of-line : code ≡ 3 → GoodList b ls → IsEvent s → (SameNumber b s → ⊥) → (InLine b s → ⊥) → Against b ls s code
+  out-of-time : code ≡ 5 → GoodList b ls → IsEvent s → InLine b s → (InTime b s → ⊥) → Against b ls s code
 
 -- "a *resend* if operation, asset and kind are equal"
-pub record IsResend (b : Book) (s : List ℕ) : Type 0 where
+pub record IsResend (b : Book) (ls : List Line) (s : List ℕ) : Type 0 where
+  pub list : GoodList b ls
   pub event : IsEvent s
   pub number : SameNumber b s
   pub request : SameRequest b s
 
 -- "From here the event is *taken*"
-pub record IsTaken (b : Book) (s : List ℕ) : Type 0 where
+pub record IsTaken (b : Book) (ls : List Line) (s : List ℕ) : Type 0 where
+  pub list : GoodList b ls
   pub event : IsEvent s
   pub line : InLine b s
   pub time : InTime b s
 
 -- there is no fourth case
-pub data Verdict (b : Book) (s : List ℕ) : Type 0 where
-  turned-away : (code : ℕ) → Against b s code → Verdict b s
-  resend : IsResend b s → Verdict b s
-  taken : IsTaken b s → Verdict b s
+pub data Verdict (b : Book) (ls : List Line) (s : List ℕ) : Type 0 where
+  turned-away : (code : ℕ) → Against b ls s code → Verdict b ls s
+  resend : IsResend b ls s → Verdict b ls s
+  taken : IsTaken b ls s → Verdict b ls s
 
 -- ## What a taken event leaves
 
--- "Each of 1 to 15 returns entry 255 and until 0."
+-- "Each of 1 to 15 returns entry 255 and until 0."; order 3: "30 255 0"; 43 is "an added *taken* answer", which "returns 255 and 0"
 abbrev pub refused : ℕ → Answer
 refused code = record { code = code; entry = 255; until = 0 }
 
--- 0, or a code that the table calls taken
+-- 0, or a code that the table or order 3 calls taken
 abbrev pub TakenCode : ℕ → Type 0
-TakenCode code = (code ≡ 0) ⊎ ((10 ≤ code) × (code ≤ 15))
+TakenCode code = (code ≡ 0) ⊎ ((10 ≤ code) × (code ≤ 15)) ⊎ (code ≡ 43)
 
 -- "each open use of any player with until ≤ t ends": a player's open use before and after
 pub record Settles (t : ℕ) (old new : Open) : Type 0 where
@@ -141,18 +166,25 @@ pub record LeavesSettled (b : Book) (s : List ℕ) (o : Outcome) : Type 0 where
   pub entries : o .book .entries ≡ settledEntries b s
   pub current : length (b .players) ≡ 16 → Settles (askedTime s) (asker b s .current) (asker (o .book) s .current)
 
--- what its player has open if the answer is 0: "Momentary: ... nothing opens."; "The new until ..."; "The use ends at t"
+-- what its player has open if the answer is 0: "Momentary: ... nothing opens."; "The new until ..."; "The use ends at t". Order 3: the
+-- content, "the asset its begin asked for", "is kept with every open use".
 pub record Opens (b : Book) (s : List ℕ) (o : Outcome) : Type 0 where
   pub begun : askedOperation s ≡ 1 → askedKind s ≤ 3
-      → asker (o .book) s .current ≡ record { on = 1; entry = o .answer .entry; begin = askedTime s; until = o .answer .until }
+      → asker (o .book) s .current ≡ record {
+        on = 1;
+        entry = o .answer .entry;
+        begin = askedTime s;
+        until = o .answer .until;
+        content = askedAsset s;
+      }
   pub momentary : askedOperation s ≡ 1 → 4 ≤ askedKind s → Settles (askedTime s) (asker b s .current) (asker (o .book) s .current)
   pub continued : askedOperation s ≡ 2
       → asker (o .book) s .current ≡ record {
         on = 1;
         entry = o .answer .entry;
         begin = asker b s .current .begin;
-        until = o .answer
-            .until;
+        until = o .answer .until;
+        content = asker b s .current .content;
       }
   pub stopped : askedOperation s ≡ 3 → asker (o .book) s .current ≡ closed
 
@@ -167,14 +199,15 @@ pub record Stored (b : Book) (s : List ℕ) (o : Outcome) : Type 0 where
   pub lasts : (p : ℕ) → (p ≡ askedPlayer s → ⊥) → playerAt (o .book .players) p .last ≡ playerAt (b .players) p .last
   pub currents : (p : ℕ) → (p ≡ askedPlayer s → ⊥)
       → Settles (askedTime s) (playerAt (b .players) p .current) (playerAt (o .book .players) p .current)
-  -- what no event changes
+  -- what no event changes; order 3: "one switch for metering (0 or 1) that no event changes"
+  pub switch : o .book .switch ≡ b .switch
   pub assets : o .book .assets ≡ b .assets
   pub assetcount : o .book .assetcount ≡ b .assetcount
   pub entrycount : o .book .entrycount ≡ b .entrycount
   pub limits : (i : ℕ) → limitsAt (o .book .entries) i ≡ limitsAt (b .entries) i
   pub entrySlots : length (o .book .entries) ≡ length (b .entries)
   pub playerSlots : length (o .book .players) ≡ length (b .players)
-  -- the answer: 0, which changes no entry but the one it names, or one of 10 to 15, which changes none
+  -- the answer: 0, which changes no entry but the one it names, or one of 10 to 15 or 43, which changes none
   pub code : TakenCode (o .answer .code)
   pub grants : o .answer .code ≡ 0 → (i : ℕ) → (i ≡ o .answer .entry → ⊥)
       → getD (o .book .entries) i noEntry ≡ getD (settledEntries b s) i noEntry
@@ -183,25 +216,32 @@ pub record Stored (b : Book) (s : List ℕ) (o : Outcome) : Type 0 where
 
 -- ## The demand
 
--- 0 to 6 and 10 to 15
+-- 0 to 6, 10 to 15, 30 and 43
 abbrev pub TableCode : ℕ → Type 0
-TableCode code = (code ≤ 6) ⊎ ((10 ≤ code) × (code ≤ 15))
+TableCode code = (code ≤ 6) ⊎ ((10 ≤ code) × (code ≤ 15)) ⊎ (code ≡ 30) ⊎ (code ≡ 43)
 
 -- a record on a book
-pub record Answered (b : Book) (s : List ℕ) : Type 0 where
+pub record Answered (b : Book) (ls : List Line) (s : List ℕ) : Type 0 where
   -- it is one of the three
-  pub verdict : Verdict b s
+  pub verdict : Verdict b ls s
   -- "nothing changed"
-  pub turned-away : (code : ℕ) → Against b s code → stepRecord b s ≡ record { answer = refused code; book = b }
-  -- and 1 to 6 are returned in no other case, except that a resend gets what is stored
-  pub only : (code : ℕ) → 1 ≤ code → code ≤ 6 → stepRecord b s .answer .code ≡ code → (IsResend b s → ⊥) → Against b s code
+  pub turned-away : (code : ℕ) → Against b ls s code
+      → (received b ls s ≡ record { answer = refused code; book = b }) × (left b ls s ≡ ls)
+  -- and 1 to 6 and 30 are returned in no other case, except that a resend gets what is stored
+  pub only : (code : ℕ) → ((1 ≤ code) × (code ≤ 6)) ⊎ (code ≡ 30) → received b ls s .answer .code ≡ code → (IsResend b ls s → ⊥)
+      → Against b ls s code
   -- "It gets the stored answer, t is not read, and nothing changes"
-  pub again : IsResend b s → stepRecord b s ≡ record { answer = asker b s .last .answer; book = b }
-  -- a legal book stores none of 1 to 6, so on it there is no exception
-  pub stored-code : Legal b → IsResend b s → TakenCode (asker b s .last .answer .code)
-  pub taken : IsTaken b s → Stored b s (stepRecord b s)
+  pub again : IsResend b ls s → (received b ls s ≡ record { answer = asker b s .last .answer; book = b }) × (left b ls s ≡ ls)
+  -- a legal book stores none of 1 to 6 nor 30, so on it there is no exception
+  pub stored-code : Legal b → IsResend b ls s → TakenCode (asker b s .last .answer .code)
+  pub taken : IsTaken b ls s → Stored b s (received b ls s)
+  -- of the list, only times and seconds of the first lines change; how is stated by `Demand3`
+  pub further : (k : ℕ) → assetsIn b ≤ k → lineAt (left b ls s) k ≡ lineAt ls k
+  pub contents : (k : ℕ) → lineAt (left b ls s) k .content ≡ lineAt ls k .content
+  pub size : length (left b ls s) ≡ length ls
+  pub off : b .switch ≡ 0 → left b ls s ≡ ls
   -- every answer's code is 0 or one of the table's
-  pub code : (IsResend b s → Legal b) → TableCode (stepRecord b s .answer .code)
+  pub code : (IsResend b ls s → Legal b) → TableCode (received b ls s .answer .code)
 
 -- 0, or a row of the table
 abbrev pub ImageCode : ℕ → Type 0
@@ -216,7 +256,7 @@ pub record IsImage (s : List ℕ) : Type 0 where
 
 -- What an accepted image gives, and what a refused one and a short buffer leave, is stated by `Demand2`.
 pub record Demand1 : Type 0 where
-  pub records : (b : Book) (s : List ℕ) → Answered b s
+  pub records : (b : Book) (ls : List Line) (s : List ℕ) → Answered b ls s
   pub images : (s : List ℕ) → ImageCode (readCode s)
   -- 22 for any other version
   pub versions : (s : List ℕ) → readCode s ≡ 0 → (1 ≤ versionIn s) × (versionIn s ≤ newest)

@@ -1,14 +1,16 @@
--- Demand 3 as a statement: what is claimed of every list of events run from a fresh legal book. It is proved in `proofs/Demand3`.
+-- Demand 3 as a statement: what is claimed of every list of events run from a fresh legal book, each event lent any list of lines (order 3
+-- of document 02). It is proved in `proofs/Demand3`.
 -- This file imports no proofs. The rules are used here only where document 01 says so ("with the ledger's figures for the meters");
--- the checks before an event is taken, which of 10 to 13 a begin is answered, suitable, the grounds against an entry, the order of the
--- choice,
--- until, and what a continue and a stop are answered are stated a second time, worded separately.
+-- the checks before an event is taken, which of 10 to 13 and 43 a begin is answered, suitable, the grounds against an entry, the order of
+-- the choice, until, and what a continue and a stop are answered are stated a second time, worded separately.
 use mathlib.Core.Path.{_≡_}
 use mathlib.Core.Logic.{_↔_, _⊎_}
 use Prim.Native.Nat.{ℕ, suc, _+_, _-_, _≤_, _<_}
-use mathlib.Core.Bool.{Bool, true, false, _&&_, cond}
+use mathlib.Core.Bool.{Bool, true, false, not, _&&_, cond}
 use mathlib.Core.List.{List, [], _∷_, map}
 use mathlib.Core.Option.{Option, none, some}
+use lib.ListN.{length}
+use lib.Dec.{eqb}
 use Rattle.numbers.specs.Count.{one}
 use Rattle.book.specs.declared.Limits.{Limits}
 use Rattle.book.specs.declared.Meters.{Meters}
@@ -16,6 +18,7 @@ use Rattle.book.specs.declared.Entry.{Entry}
 use Rattle.book.specs.declared.Answer.{Answer}
 use Rattle.book.specs.declared.Last.{Last}
 use Rattle.book.specs.declared.Open.{Open}
+use Rattle.book.specs.declared.Line.{Line}
 use Rattle.book.specs.declared.Book.{Book}
 use Rattle.book.specs.declared.Event.{Event}
 use Rattle.book.specs.declared.Kind.{Kind}
@@ -30,13 +33,17 @@ use Rattle.model.specs.Book.{assetAt, limitsAt, metersAt, assetsIn, entr
 use Rattle.model.specs.Book.{countFlag, timedFlag, startFlag, endFlag, intervalFlag, accumulatedFlag}
 use Rattle.model.specs.Record.{kindNumber, decoded}
 use Rattle.model.specs.Meters.{where-flagged}
-use Rattle.model.specs.Choice.{catalogOf, Choice, nobody, chosen, asks, choose, grantUntil}
-use Rattle.model.specs.Step.{done, refusal, noneGrantable, noted, step, arrive}
+use Rattle.model.specs.Choice.{catalogOf, Choice, nobody, chosen, asks, choose, noneGrantable, grantUntil}
+use Rattle.model.specs.Step.{done, refusal, noted, step, arrive}
+use Rattle.model.specs.Report.{lineAt, Arrival, admitted, receive, linesLeft}
 use Rattle.model.specs.Gate.{gate}
 use Rattle.model.specs.Ledger.{Use, Taken, Account, empty, latestTaken, resent, calledTaken, timeOf, latest, isOpen, spentCount}
 use Rattle.model.specs.Ledger.{spentTimed, spentSeconds, countsTimed, sumOf, earliest, Ground, count-spent, timed-spent}
-use Rattle.model.specs.Ledger.{seconds-spent, interval-over, interval-zero, before-start, after-end, stands, noteArrival}
-use Rattle.model.specs.History.{answers, final, recordAnswers, recordFinal}
+use Rattle.model.specs.Ledger.{seconds-spent, interval-over, interval-zero, before-start, after-end, switch-off, stands, noteArrival}
+use Rattle.model.specs.Ledger.{reportTimes, reportSeconds}
+use Rattle.model.specs.History.{answers, final, handed, handedLines, recordAnswers, recordFinal, recordLines}
+use Rattle.model.specs.Run.{zeroLines}
+use Rattle.model.specs.Demand1.{GoodList}
 
 -- ## The run
 
@@ -45,17 +52,17 @@ pub record State : Type 0 where
   pub book : Book
   pub account : Account
 
--- "each later one the book that the one before it left"
-unfoldable pub advance : State → Decoded → State
-advance s d = record {
-  book = arrive (s .book) d .book;
-  account = noteArrival (s .account) d (arrive (s .book) d .answer);
+-- "each later one the book that the one before it left"; order 3: "whatever list each event is lent"
+unfoldable pub advance : State → Arrival → State
+advance s x = record {
+  book = receive (s .book) x .book;
+  account = noteArrival (s .account) (x .event) (receive (s .book) x .answer);
 }
 
 -- all events of a list in turn
-unfoldable pub after : State → List Decoded → State
+unfoldable pub after : State → List Arrival → State
 after s [] = s
-after s (d ∷ ds) = after (advance s d) ds
+after s (x ∷ xs) = after (advance s x) xs
 
 -- "The first gets a fresh book"
 abbrev pub starting : Book → State
@@ -184,9 +191,10 @@ RefusedWhen P code a = (a .code ≡ code → P) × (P → a ≡ refusal code)
 
 -- by the ledger, that ground stands against entry i
 abbrev pub against : Event → State → ℕ → Ground → Bool
-against e s i g = stands e (s .account .uses) i (limitsAt (s .book .entries) i) g
+against e s i g = stands (s .book .switch) e (s .account .uses) i (limitsAt (s .book .entries) i) g
 
--- entry i "is out of its dates or spent": some ground stands
+-- entry i "is out of its dates or spent": some ground stands. "Any ground against a grant that a request adds counts in demand 3, by the
+-- ledger, like out of its dates or spent."
 pub record OutOrSpent (e : Event) (s : State) (i : ℕ) : Type 0 where
   pub ground : Ground
   pub holds : against e s i ground ≡ true
@@ -198,6 +206,13 @@ Left e s i = (g : Ground) → against e s i g ≡ false
 -- "every suitable entry is out of its dates or spent"
 abbrev pub NoneLeft : State → Event → ℕ → ℕ → Type 0
 NoneLeft s e asset kind = (i : ℕ) → Suits (s .book) asset kind i → OutOrSpent e s i
+
+-- order 3: "some suitable entry fails for the switch only": that ground stands against it, and no other
+pub record ForSwitch (s : State) (e : Event) (asset kind : ℕ) : Type 0 where
+  pub entry : ℕ
+  pub suits : Suits (s .book) asset kind entry
+  pub stands : against e s entry switch-off ≡ true
+  pub only : (g : Ground) → against e s entry g ≡ true → g ≡ switch-off
 
 -- whether the entry's interval has started, by the ledger
 abbrev pub isSome : Option ℕ → Bool
@@ -282,21 +297,25 @@ filledFrom T us i (x ∷ xs) = record { limits = x .limits; meters = figures (λ
 abbrev pub filled : ℕ → List Use → List Entry → List Entry
 filled T us es = filledFrom T us 0 es
 
--- the answer for a choice
-abbrev pub chosenAnswer : ℕ → List Entry → Choice → Answer
-chosenAnswer t es nobody = refusal noneGrantable
-chosenAnswer t es (chosen i) = record { code = 0; entry = i; until = grantUntil t (limitsAt es i) (metersAt es i) }
+-- the answer for a choice; `code` is that if nothing is grantable
+abbrev pub chosenAnswer : ℕ → ℕ → List Entry → Choice → Answer
+chosenAnswer code t es nobody = refusal code
+chosenAnswer code t es (chosen i) = record { code = 0; entry = i; until = grantUntil t (limitsAt es i) (metersAt es i) }
 
 -- A begin that reaches the choice "is answered "none grantable" exactly when by the ledger every suitable entry is out of its dates or
--- spent,
--- and else is granted": once in words, and once by the rules' own choice "judged by the ledger before it, with T = its t and the
--- ledger's figures for the meters".
+-- spent, and else is granted": once in words, and once by the rules' own choice "judged by the ledger before it, with T = its t and the
+-- ledger's figures for the meters". "None grantable" is 13, or 43: order 3, "43, taken, in place of 13 when some suitable entry fails for
+-- the switch only".
 pub record Chosen (s : State) (e : Event) (kind : Kind) (asset : ℕ) : Type 0 where
-  pub none : RefusedWhen (NoneLeft s e asset (kindNumber kind)) 13 (step (s .book) e .answer)
-  pub granted : (step (s .book) e .answer .code ≡ 13 → ⊥) → Granted s e kind asset (step (s .book) e .answer)
+  pub none : RefusedWhen (NoneLeft s e asset (kindNumber kind) × (ForSwitch s e asset (kindNumber kind) → ⊥)) 13 (step (s .book) e .answer)
+  pub switch : RefusedWhen (NoneLeft s e asset (kindNumber kind) × ForSwitch s e asset (kindNumber kind)) 43 (step (s .book) e .answer)
+  pub either : NoneLeft s e asset (kindNumber kind) → (step (s .book) e .answer ≡ refusal 13) ⊎ (step (s .book) e .answer ≡ refusal 43)
+  pub granted : (step (s .book) e .answer .code ≡ 13 → ⊥) → (step (s .book) e .answer .code ≡ 43 → ⊥)
+      → Granted s e kind asset (step (s .book) e .answer)
   pub answer : step (s .book) e .answer ≡
-      chosenAnswer (e .time) (filled (e .time) (s .account .uses) (s .book .entries))
-      (choose (catalogOf (s .book)) (filled (e .time) (s .account .uses) (s .book .entries)) (asks e) asset (kindNumber kind))
+      chosenAnswer (noneGrantable (catalogOf (s .book)) (filled (e .time) (s .account .uses) (s .book .entries)) (asks (s .book) e) asset
+      (kindNumber kind)) (e .time) (filled (e .time) (s .account .uses) (s .book .entries))
+      (choose (catalogOf (s .book)) (filled (e .time) (s .account .uses) (s .book .entries)) (asks (s .book) e) asset (kindNumber kind))
 
 -- "10 | asset not in book, or key 0": checked after 11, so nothing is open
 pub record Unknown (s : State) (e : Event) (asset : ℕ) : Type 0 where
@@ -353,25 +372,29 @@ pub record Stops (s : State) (e : Event) : Type 0 where
 
 -- ## f. Resends struck out
 
-abbrev pub isResend : Account → Decoded → Bool
-isResend a (Invalid code) = false
-isResend a (Valid e) = resent a e
+abbrev pub readResend : Account → Decoded → Bool
+readResend a (Invalid code) = false
+readResend a (Valid e) = resent a e
 
--- "The list with every resend struck out", and the answers to what is left
-unfoldable pub struck : State → List Decoded → List Decoded
+-- order 3: "an event answered 30 is no resend"
+abbrev pub isResend : State → Arrival → Bool
+isResend s x = not (eqb (receive (s .book) x .answer .code) 30) && readResend (s .account) (x .event)
+
+-- "The list with every resend struck out", and the answers to what is left. Order 3: each event keeps its list, "the same in both runs".
+unfoldable pub struck : State → List Arrival → List Arrival
 struck s [] = []
-struck s (d ∷ ds) = cond (isResend (s .account) d) (struck (advance s d) ds) (d ∷ struck (advance s d) ds)
+struck s (x ∷ xs) = cond (isResend s x) (struck (advance s x) xs) (x ∷ struck (advance s x) xs)
 
-unfoldable pub kept : State → List Decoded → List Answer
+unfoldable pub kept : State → List Arrival → List Answer
 kept s [] = []
-kept s (d ∷ ds) = cond (isResend (s .account) d) (kept (advance s d) ds) (arrive (s .book) d .answer ∷ kept (advance s d) ds)
+kept s (x ∷ xs) = cond (isResend s x) (kept (advance s x) xs) (receive (s .book) x .answer ∷ kept (advance s x) xs)
 
 -- ## g. Every answer from the ledger alone
 
 -- what the player has open at T, and its latest taken event, as the book would store them
 abbrev pub heldBy : ℕ → Option Use → Open
 heldBy T none = closed
-heldBy T (some u) = cond (isOpen T u) (record { on = 1; entry = u .entry; begin = u .begin; until = u .until }) closed
+heldBy T (some u) = cond (isOpen T u) (record { on = 1; entry = u .entry; begin = u .begin; until = u .until; content = u .content }) closed
 
 abbrev pub heldIn : ℕ → ℕ → List Use → Open
 heldIn T p us = heldBy T (latest p us)
@@ -388,17 +411,17 @@ unfoldable pub predictBy : Gate → Book → Account → Event → Answer
 predictBy (Refuse code) b a e = refusal code
 predictBy Resend b a e = lastOf (e .player) (a .taken) .answer
 predictBy Take b a e =
-    done (e .request) (catalogOf b) (filled (e .time) (a .uses) (b .entries)) (heldIn (e .time) (e .player) (a .uses)) (asks e) .answer
+    done (e .request) (catalogOf b) (filled (e .time) (a .uses) (b .entries)) (heldIn (e .time) (e .player) (a .uses)) (asks b e) .answer
 
--- the answer from the account; b is read only for what no event changes: assets, limits, counts
+-- the answer from the account; b is read only for what no event changes: switch, assets, limits, counts
 unfoldable pub predict : Book → Account → Decoded → Answer
 predict b a (Invalid code) = refusal code
 predict b a (Valid e) = predictBy (gate (timeOf (a .taken)) (lastOf (e .player) (a .taken)) e) b a e
 
 -- the answers of a machine that holds no book: b is the fresh book throughout
-unfoldable pub predicted : Book → Account → List Decoded → List Answer
+unfoldable pub predicted : Book → Account → List Arrival → List Answer
 predicted b a [] = []
-predicted b a (d ∷ ds) = predict b a d ∷ predicted b (noteArrival a d (predict b a d)) ds
+predicted b a (x ∷ xs) = predict b a (admitted b x) ∷ predicted b (noteArrival a (x .event) (predict b a (admitted b x))) xs
 
 -- ## h. A limit of zero
 
@@ -409,7 +432,7 @@ pub data ZeroLimit (l : Limits) : Type 0 where
   zero-interval : flagged intervalFlag l ≡ true → l .interval ≡ 0 → ZeroLimit l
   zero-accumulated : flagged accumulatedFlag l ≡ true → l .accumulated ≡ 0 → ZeroLimit l
 
--- the grounds that make an entry spent; by the others it is out of its dates
+-- the grounds that make an entry spent; by `before-start` and `after-end` it is out of its dates, by `switch-off` neither
 abbrev pub isSpent : Ground → Bool
 isSpent count-spent = true
 isSpent timed-spent = true
@@ -418,6 +441,7 @@ isSpent interval-over = true
 isSpent interval-zero = true
 isSpent before-start = false
 isSpent after-end = false
+isSpent switch-off = false
 
 -- entry i is spent by the ledger
 pub record Spent (e : Event) (s : State) (i : ℕ) : Type 0 where
@@ -428,28 +452,93 @@ pub record Spent (e : Event) (s : State) (i : ℕ) : Type 0 where
 -- "such an entry is never grantable, and spent in the ledger": at every event it is spent, and no use is ever of it;
 -- "a begin with only such entries gets 13"
 pub record NeverGranted (b : Book) : Type 0 where
-  pub spent : (ds : List Decoded) (e : Event) (i : ℕ) → ZeroLimit (limitsAt (b .entries) i) → Spent e (after (starting b) ds) i
-  pub unused : (ds : List Decoded) (i : ℕ) → ZeroLimit (limitsAt (b .entries) i)
-      → Every (λ u. u .entry ≡ i → ⊥) (after (starting b) ds .account .uses)
-  pub only : (ds : List Decoded) (e : Event) (kind : Kind) (asset : ℕ) → e .request ≡ Begin kind asset → Takes (after (starting b) ds) e
-      → MayChoose (after (starting b) ds) e asset (kindNumber kind)
-      → ((i : ℕ) → Suits (after (starting b) ds .book) asset (kindNumber kind) i → ZeroLimit (limitsAt (b .entries) i))
-      → step (after (starting b) ds .book) e .answer ≡ refusal 13
+  pub spent : (xs : List Arrival) (e : Event) (i : ℕ) → ZeroLimit (limitsAt (b .entries) i) → Spent e (after (starting b) xs) i
+  pub unused : (xs : List Arrival) (i : ℕ) → ZeroLimit (limitsAt (b .entries) i)
+      → Every (λ u. u .entry ≡ i → ⊥) (after (starting b) xs .account .uses)
+  pub only : (xs : List Arrival) (e : Event) (kind : Kind) (asset : ℕ) → e .request ≡ Begin kind asset → Takes (after (starting b) xs) e
+      → MayChoose (after (starting b) xs) e asset (kindNumber kind)
+      → ((i : ℕ) → Suits (after (starting b) xs .book) asset (kindNumber kind) i → ZeroLimit (limitsAt (b .entries) i))
+      → step (after (starting b) xs .book) e .answer ≡ refusal 13
+
+-- ## i. The list that an event is lent
+
+-- order 3: "Any other list, or one holding 2 to the 62 or more, gets 30 255 0 before all checks, with nothing changed, the ledger too."
+-- With a good list the event is answered as if there were none, so what is claimed of `step` holds of it.
+pub record Lent (s : State) (x : Arrival) : Type 0 where
+  pub good : GoodList (s .book) (x .lines) → receive (s .book) x ≡ arrive (s .book) (x .event)
+  pub bad : (GoodList (s .book) (x .lines) → ⊥) → receive (s .book) x ≡ record { answer = refusal 30; book = s .book }
+  pub noted : (GoodList (s .book) (x .lines) → ⊥) → advance s x ≡ s
+  pub lines : (GoodList (s .book) (x .lines) → ⊥) → linesLeft (s .book) x ≡ x .lines
+  pub resend : (GoodList (s .book) (x .lines) → ⊥) → isResend s x ≡ false
+
+-- ## j. The report
+
+-- the ledger's sums for a content, by the entries' limits, which no event changes
+abbrev pub timesBy : List Entry → State → ℕ → ℕ
+timesBy es s content = reportTimes (timeOf (s .account .taken)) (limitsAt es) content (s .account .uses)
+
+abbrev pub secondsBy : List Entry → State → ℕ → ℕ
+secondsBy es s content = reportSeconds (timeOf (s .account .taken)) (limitsAt es) content (s .account .uses)
+
+-- the content of line k
+abbrev pub contentOf : Book → ℕ → ℕ
+contentOf b k = assetAt (b .assets) k .number
+
+-- What one event does to the list that it is lent: with the switch on, each line gains what the ledger's sums for its content gain, and
+-- nothing else of the list changes.
+pub record Gains (s : State) (x : Arrival) : Type 0 where
+  pub size : length (linesLeft (s .book) x) ≡ length (x .lines)
+  pub contents : (k : ℕ) → lineAt (linesLeft (s .book) x) k .content ≡ lineAt (x .lines) k .content
+  pub times : s .book .switch ≡ 1 → (k : ℕ) → k < assetsIn (s .book)
+      → lineAt (linesLeft (s .book) x) k .times + timesBy (s .book .entries) s (contentOf (s .book) k)
+      ≡ lineAt (x .lines) k .times + timesBy (s .book .entries) (advance s x) (contentOf (s .book) k)
+  pub seconds : s .book .switch ≡ 1 → (k : ℕ) → k < assetsIn (s .book)
+      → lineAt (linesLeft (s .book) x) k .seconds + secondsBy (s .book .entries) s (contentOf (s .book) k)
+      ≡ lineAt (x .lines) k .seconds + secondsBy (s .book .entries) (advance s x) (contentOf (s .book) k)
+  pub further : (k : ℕ) → assetsIn (s .book) ≤ k → lineAt (linesLeft (s .book) x) k ≡ lineAt (x .lines) k
+  -- "With the switch off .. nothing is recorded."
+  pub off : s .book .switch ≡ 0 → linesLeft (s .book) x ≡ x .lines
+
+-- "From zeros": the first lines name the assets in the book's order; any lines may follow
+abbrev pub FromZeros : Book → List Line → Type 0
+FromZeros b ls = (k : ℕ) → k < assetsIn b → lineAt ls k ≡ record { content = contentOf b k; times = 0; seconds = 0 }
+
+-- "From zeros, each event lent the lines the last one left, with the switch on, those first lines equal the ledger's sums over ended uses
+-- of tracked entries, any further line staying as it was; with it off they stay zeros."
+pub record Reported (b : Book) (ls : List Line) (ds : List Decoded) : Type 0 where
+  pub first : b .switch ≡ 1 → (k : ℕ) → k < assetsIn b → lineAt (handedLines b ls ds) k ≡ record {
+    content = contentOf b k;
+    times = timesBy (b .entries) (after (starting b) (handed b ls ds)) (contentOf b k);
+    seconds = secondsBy (b .entries) (after (starting b) (handed b ls ds)) (contentOf b k);
+  }
+  pub further : (k : ℕ) → assetsIn b ≤ k → lineAt (handedLines b ls ds) k ≡ lineAt ls k
+  pub size : length (handedLines b ls ds) ≡ length ls
+  pub off : b .switch ≡ 0 → handedLines b ls ds ≡ ls
 
 -- ## The demand, for a fresh book
 
 pub record Demand3 (b : Book) : Type 0 where
-  pub time : (ds : List Decoded) → after (starting b) ds .book .time ≡ timeOf (after (starting b) ds .account .taken)
-  pub limits : (ds : List Decoded) → Limited (timeOf (after (starting b) ds .account .taken)) (after (starting b) ds .account .uses)
+  pub time : (xs : List Arrival) → after (starting b) xs .book .time ≡ timeOf (after (starting b) xs .account .taken)
+  pub limits : (xs : List Arrival) → Limited (timeOf (after (starting b) xs .account .taken)) (after (starting b) xs .account .uses)
       (b .entries)
-  pub checked : (ds : List Decoded) (e : Event) → Checked (after (starting b) ds) e
-  pub begins : (ds : List Decoded) (e : Event) (kind : Kind) (asset : ℕ) → e .request ≡ Begin kind asset → Takes (after (starting b) ds) e
-      → Begins (after (starting b) ds) e kind asset
-  pub continues : (ds : List Decoded) (e : Event) → e .request ≡ Continue → Takes (after (starting b) ds) e → Continues
-      (after (starting b) ds) e
-  pub stops : (ds : List Decoded) (e : Event) → e .request ≡ Stop → Takes (after (starting b) ds) e → Stops (after (starting b) ds) e
-  pub struckAnswers : (ds : List Decoded) → answers b (struck (starting b) ds) ≡ kept (starting b) ds
-  pub struckBook : (ds : List Decoded) → final b (struck (starting b) ds) ≡ final b ds
-  pub predictable : (ds : List Decoded) → answers b ds ≡ predicted b empty ds
+  pub lent : (xs : List Arrival) (x : Arrival) → Lent (after (starting b) xs) x
+  pub checked : (xs : List Arrival) (e : Event) → Checked (after (starting b) xs) e
+  pub begins : (xs : List Arrival) (e : Event) (kind : Kind) (asset : ℕ) → e .request ≡ Begin kind asset → Takes (after (starting b) xs) e
+      → Begins (after (starting b) xs) e kind asset
+  pub continues : (xs : List Arrival) (e : Event) → e .request ≡ Continue → Takes (after (starting b) xs) e → Continues
+      (after (starting b) xs) e
+  pub stops : (xs : List Arrival) (e : Event) → e .request ≡ Stop → Takes (after (starting b) xs) e → Stops (after (starting b) xs) e
+  pub struckAnswers : (xs : List Arrival) → answers b (struck (starting b) xs) ≡ kept (starting b) xs
+  pub struckBook : (xs : List Arrival) → final b (struck (starting b) xs) ≡ final b xs
+  pub predictable : (xs : List Arrival) → answers b xs ≡ predicted b empty xs
   pub never : NeverGranted b
-  pub records : (rs : List (List ℕ)) → (recordAnswers b rs ≡ answers b (map decoded rs)) × (recordFinal b rs ≡ final b (map decoded rs))
+  pub gains : (xs : List Arrival) (x : Arrival) → Gains (after (starting b) xs) x
+  pub reported : (ls : List Line) (ds : List Decoded) → FromZeros b ls → Reported b ls ds
+  -- the list that the run program begins with is such a list, and good
+  pub zeros : FromZeros b (zeroLines b) × GoodList b (zeroLines b)
+  -- from zeros the lines handed on stay good, however many events there are: by `lent`, none gets 30 for its list
+  pub staysGood : (ls : List Line) (ds : List Decoded) → FromZeros b ls → GoodList b ls
+      → GoodList (after (starting b) (handed b ls ds) .book) (handedLines b ls ds)
+  pub records : (ls : List Line) (rs : List (List ℕ)) → (recordAnswers b ls rs ≡ answers b (handed b ls (map decoded rs)))
+      × (recordFinal b ls rs ≡ final b (handed b ls (map decoded rs)))
+      × (recordLines b ls rs ≡ handedLines b ls (map decoded rs))

@@ -12,14 +12,16 @@
 --   ended        used seconds - (u - e)       settling, a stop    ExactEnd.seconds
 --
 -- `Book` has one, until - begin of an open use (`lasts`), which the meter rules sum: Exact.lasts.
+-- `Report` has one, the end - begin of a use that ends (ExactEnd.begun), and a sum that stops at 2 to the 64 less 1: Exact.sums.
 -- Statements only; proved in `proofs/Legal/Exact`.
-use Prim.Native.Nat.{ℕ, suc, _-_, _≤_, _<_}
+use Prim.Native.Nat.{ℕ, suc, _+_, _-_, _≤_, _<_}
 use mathlib.Core.Path.{_≡_}
 use mathlib.Core.Bool.{true}
-use mathlib.Core.List.{List, map}
+use mathlib.Core.List.{List, _∷_, _++_, map}
 use lib.ListN.{take}
 use Rattle.book.specs.declared.Entry.{Entry}
 use Rattle.book.specs.declared.Open.{Open}
+use Rattle.book.specs.declared.Line.{Line}
 use Rattle.book.specs.declared.Book.{Book}
 use Rattle.book.specs.declared.Event.{Event}
 use Rattle.book.specs.declared.Gate.the-variants.{Take}
@@ -29,6 +31,7 @@ use Rattle.model.specs.Meters.{isOn, expired, shut, released, settled}
 use Rattle.model.specs.Gate.{gate}
 use Rattle.model.specs.Choice.{asks, catalogOf, chosen, choose, grantUntil}
 use Rattle.model.specs.Step.{more, lastAt, openAt}
+use Rattle.model.specs.Report.{lineAt, good, Ended, recordedAll, endings}
 
 -- ## What is claimed of a use's end, of a begin, of a continue
 
@@ -49,6 +52,11 @@ pub record ExactContinue (t : ℕ) (es : List Entry) (o : Open) : Type 0 where
   pub unused : flagged accumulatedFlag (limitsAt es (o .entry)) ≡ true
       → metersAt es (o .entry) .seconds ≤ limitsAt es (o .entry) .accumulated
   pub notBelow : o .until ≤ more es o t
+
+-- the line has room for the use that ended
+pub record ExactLine (l : Line) (x : Ended) : Type 0 where
+  pub times : l .times + 1 < 18446744073709551616
+  pub seconds : l .seconds + x .seconds < 18446744073709551616
 
 -- ## When they are computed
 
@@ -79,7 +87,7 @@ pub record Exact : Type 0 where
   pub turns : (b : Book) (e : Event) → Legal b → atTurn 16 b e ≡ atRequest b e
   -- then the request
   pub begin : (b : Book) (e : Event) (asset kind i : ℕ) → Legal b → Taken b e
-      → choose (catalogOf b) (atRequest b e) (asks e) asset kind ≡ chosen i → ExactBegin (e .time) (atRequest b e) i
+      → choose (catalogOf b) (atRequest b e) (asks b e) asset kind ≡ chosen i → ExactBegin (e .time) (atRequest b e) i
   pub continue : (b : Book) (e : Event) → Legal b → Taken b e → isOn (asking b e) ≡ true
       → ExactContinue (e .time) (atRequest b e) (asking b e)
   pub stop : (b : Book) (e : Event) → Legal b → Taken b e → isOn (asking b e) ≡ true
@@ -87,3 +95,6 @@ pub record Exact : Type 0 where
   -- in a book that meets the player rules, no open use ends before it begins
   pub lasts : (b : Book) (p : ℕ) → playersLegal b ≡ true → p < 16 → isOn (openAt (b .players) p) ≡ true
       → openAt (b .players) p .begin ≤ openAt (b .players) p .until
+  -- with a good list, no line comes near 2 to the 64: what an event records is added in full, whatever was recorded before
+  pub sums : (b : Book) (e : Event) (ls : List Line) (done left : List Ended) (x : Ended) (k : ℕ) → Legal b → Taken b e → good b ls ≡ true
+      → endings b e ≡ done ++ x ∷ left → ExactLine (lineAt (recordedAll b ls done) k) x

@@ -23,21 +23,26 @@ use Rattle.model.specs.Book.{assetAt, playerAt, assetsIn, entriesIn, lat
 
 -- the version that is written
 abbrev pub newest : ℕ
-newest = 1
+newest = 2
 
 -- "Mark `RBK`, version 16 bits (1), asset and entry numbers (8 each), book time 32.": the same in every version
 abbrev pub headerStart : List Width
 headerStart = bits8 ∷ bits8 ∷ bits8 ∷ bits16 ∷ bits8 ∷ bits8 ∷ bits32 ∷ []
 
--- "What one adds goes behind the other fields of its header, asset, entry or player"
+-- "What one adds goes behind the other fields of its header, asset, entry or player, 32 bits a field, in the order told, the version
+-- rising by one.": some widths from a version on
+abbrev pub since : ℕ → List Width → ℕ → List Width
+since first ws v = cond (leb first v) ws []
+
+-- order 3: the switch
 abbrev pub headerTail : ℕ → List Width
-headerTail v = []
+headerTail v = since 2 (bits32 ∷ []) v
 
 abbrev pub headerWidths : ℕ → List Width
 headerWidths v = headerStart ++ headerTail v
 
 abbrev pub tailValues : Book → List ℕ
-tailValues b = []
+tailValues b = b .switch ∷ []
 
 abbrev pub startValues : ℕ → ℕ → ℕ → ℕ → List ℕ
 startValues v assets entries time = 82 ∷ 66 ∷ 75 ∷ v ∷ assets ∷ entries ∷ time ∷ []
@@ -71,11 +76,18 @@ metersWidths = bits32 ∷ bits32 ∷ bits32 ∷ bits32 ∷ bits8 ∷ []
 abbrev pub metersValues : Meters → List ℕ
 metersValues m = m .count ∷ m .timed ∷ m .first ∷ m .seconds ∷ m .started ∷ []
 
+-- order 3: tracked, timed value, mark
+abbrev pub trackWidths : ℕ → List Width
+trackWidths v = since 2 (bits32 ∷ bits32 ∷ bits32 ∷ []) v
+
+abbrev pub trackValues : Limits → List ℕ
+trackValues l = l .tracked ∷ l .timedvalue ∷ l .mark ∷ []
+
 abbrev pub entryWidths : ℕ → List Width
-entryWidths v = limitsWidths ++ metersWidths
+entryWidths v = limitsWidths ++ metersWidths ++ trackWidths v
 
 abbrev pub entryValues : Entry → List ℕ
-entryValues e = limitsValues (e .limits) ++ metersValues (e .meters)
+entryValues e = limitsValues (e .limits) ++ metersValues (e .meters) ++ trackValues (e .limits)
 
 abbrev pub entryOf : List ℕ → Entry
 entryOf vs = record {
@@ -91,6 +103,9 @@ entryOf vs = record {
     end = getD vs 8 0;
     interval = getD vs 9 0;
     accumulated = getD vs 10 0;
+    tracked = getD vs 16 0;
+    timedvalue = getD vs 17 0;
+    mark = getD vs 18 0;
   };
   meters = record {
     count = getD vs 11 0;
@@ -114,11 +129,18 @@ openWidths = bits8 ∷ bits8 ∷ bits32 ∷ bits32 ∷ []
 abbrev pub openValues : Open → List ℕ
 openValues o = o .on ∷ o .entry ∷ o .begin ∷ o .until ∷ []
 
+-- order 3: the content of the open use
+abbrev pub contentWidths : ℕ → List Width
+contentWidths v = since 2 (bits32 ∷ []) v
+
+abbrev pub contentValues : Open → List ℕ
+contentValues o = o .content ∷ []
+
 abbrev pub playerWidths : ℕ → List Width
-playerWidths v = lastWidths ++ openWidths
+playerWidths v = lastWidths ++ openWidths ++ contentWidths v
 
 abbrev pub playerValues : Player → List ℕ
-playerValues p = lastValues (p .last) ++ openValues (p .current)
+playerValues p = lastValues (p .last) ++ openValues (p .current) ++ contentValues (p .current)
 
 abbrev pub playerOf : List ℕ → Player
 playerOf vs = record {
@@ -129,7 +151,7 @@ playerOf vs = record {
     kind = getD vs 3 0;
     answer = record { code = getD vs 4 0; entry = getD vs 5 0; until = getD vs 6 0 };
   };
-  current = record { on = getD vs 7 0; entry = getD vs 8 0; begin = getD vs 9 0; until = getD vs 10 0 };
+  current = record { on = getD vs 7 0; entry = getD vs 8 0; begin = getD vs 9 0; until = getD vs 10 0; content = getD vs 11 0 };
 }
 
 -- the number of bytes of each. Unfolded only on request: a product with one is then one number in a proof about offsets.
@@ -145,7 +167,7 @@ entrySize v = size (entryWidths v)
 unfoldable pub playerSize : ℕ → ℕ
 playerSize v = size (playerWidths v)
 
--- "Length 11 + 5A + 51P + 384, at most 3,979."
+-- "Length 11 + 5A + 51P + 384, at most 3,979." in version 1; in version 2 it is 15 + 5A + 63P + 448, at most 4,815
 unfoldable pub imageLength : ℕ → ℕ → ℕ → ℕ
 imageLength v assets entries =
     headerSize v + assetSize v * assets + entrySize v * entries + playerSize v * 16
@@ -239,6 +261,7 @@ playersFrom v s = entriesFrom v s + entrySize v * entryCountIn s
 unfoldable pub bookAs : ℕ → List ℕ → Book
 bookAs v s = record {
   time = timeIn s;
+  switch = getD (tailIn v s) 0 0;
   assetcount = assetCountIn s;
   entrycount = entryCountIn s;
   assets = assetTable v s (headerSize v) (assetCountIn s);

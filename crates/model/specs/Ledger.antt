@@ -18,13 +18,15 @@ use Rattle.model.specs.Book.{flagged}
 use Rattle.model.specs.Book.{countFlag, timedFlag, startFlag, endFlag, intervalFlag, accumulatedFlag}
 use Rattle.model.specs.Record.{operationNumber, requestAsset, requestKind}
 
--- "The ledger is a list of uses (entry, player, begin, until, stopped or not)", newest first
+-- "The ledger is a list of uses (entry, player, begin, until, stopped or not)", newest first; order 3 of document 02: "A ledger use notes
+-- its content."
 pub record Use : Type 0 where
   pub entry : ℕ
   pub player : ℕ
   pub begin : ℕ
   pub until : ℕ
   pub stopped : Bool
+  pub content : ℕ
 
 -- an event that was taken, with its answer
 pub record Taken : Type 0 where
@@ -59,9 +61,10 @@ repeats e (some x) =
 unfoldable pub resent : Account → Event → Bool
 resent a e = repeats e (latestTaken (e .player) (a .taken))
 
--- "its answer is 0 or one that the table or a request calls taken"
+-- "its answer is 0 or one that the table or a request calls taken"; order 3: "43, taken"
 unfoldable pub calledTaken : ℕ → Bool
-calledTaken code = eqb code 0 || eqb code 10 || eqb code 11 || eqb code 12 || eqb code 13 || eqb code 14 || eqb code 15
+calledTaken code =
+    eqb code 0 || eqb code 10 || eqb code 11 || eqb code 12 || eqb code 13 || eqb code 14 || eqb code 15 || eqb code 43
 
 -- "T = the t of the latest taken one (0 if none)"
 unfoldable pub timeOf : List Taken → ℕ
@@ -82,21 +85,22 @@ revise p f (u ∷ us) = cond (eqb (u .player) p) (f u ∷ us) (u ∷ revise p f 
 
 -- the use with another until
 abbrev pub goOn : ℕ → Use → Use
-goOn v u = record { entry = u .entry; player = u .player; begin = u .begin; until = v; stopped = u .stopped }
+goOn v u = record { entry = u .entry; player = u .player; begin = u .begin; until = v; stopped = u .stopped; content = u .content }
 
 -- the use, stopped at t
 abbrev pub stopAt : ℕ → Use → Use
-stopAt t u = record { entry = u .entry; player = u .player; begin = u .begin; until = t; stopped = true }
+stopAt t u = record { entry = u .entry; player = u .player; begin = u .begin; until = t; stopped = true; content = u .content }
 
 -- "A granted begin adds a use; a granted continue replaces until on that player's latest use; a granted stop makes until its time and
--- marks it stopped."
+-- marks it stopped."; the content is "the asset its begin asked for"
 unfoldable pub posted : Request → Event → Answer → List Use → List Use
 posted (Begin kind asset) e r us =
-    record { entry = r .entry; player = e .player; begin = e .time; until = r .until; stopped = false } ∷ us
+    record { entry = r .entry; player = e .player; begin = e .time; until = r .until; stopped = false; content = asset } ∷ us
 posted Continue e r us = revise (e .player) (goOn (r .until)) us
 posted Stop e r us = revise (e .player) (stopAt (e .time)) us
 
--- "a player's event is taken if it is no resend and its answer is ..."; "Resends and answers 1 to 6 add nothing."
+-- "a player's event is taken if it is no resend and its answer is ..."; "Resends and answers 1 to 6 add nothing."; order 3: 30 comes "with
+-- nothing changed, the ledger too"
 unfoldable pub note : Account → Event → Answer → Account
 note a e r =
     cond (resent a e || not (calledTaken (r .code))) a
@@ -175,17 +179,42 @@ pub data Ground : Type 0 where
   interval-zero : Ground
   before-start : Ground
   after-end : Ground
+  switch-off : Ground
 
 -- at the event's time T, whether that ground stands against entry i:
 -- "An entry is *spent* at T if, of what is flagged, spent count, spent timed or spent seconds has reached its limit, or
 -- T ≥ interval start + interval. It is *out of its dates* at T if, where flagged, T < start or T > end."
 -- Order 2 of document 02: "Count, timed, interval and accumulated may now be 0 when flagged; such an entry is ... spent in the ledger".
 -- What is spent has reached 0 from the start; an interval of 0 is over though it has no start.
-unfoldable pub stands : Event → List Use → ℕ → Limits → Ground → Bool
-stands e us i l count-spent = flagged countFlag l && leb (l .count) (spentCount us i)
-stands e us i l timed-spent = flagged timedFlag l && leb (l .timed) (spentTimed (e .time) us i l)
-stands e us i l seconds-spent = flagged accumulatedFlag l && leb (l .accumulated) (spentSeconds us i)
-stands e us i l interval-over = flagged intervalFlag l && over (e .time) (l .interval) (earliest i us)
-stands e us i l interval-zero = flagged intervalFlag l && eqb (l .interval) 0
-stands e us i l before-start = flagged startFlag l && ltb (e .time) (l .start)
-stands e us i l after-end = flagged endFlag l && ltb (l .end) (e .time)
+-- Order 3: "With the switch off a tracked entry is grantable only with mark 1"; the book's switch is passed in.
+unfoldable pub stands : ℕ → Event → List Use → ℕ → Limits → Ground → Bool
+stands switch e us i l count-spent = flagged countFlag l && leb (l .count) (spentCount us i)
+stands switch e us i l timed-spent = flagged timedFlag l && leb (l .timed) (spentTimed (e .time) us i l)
+stands switch e us i l seconds-spent = flagged accumulatedFlag l && leb (l .accumulated) (spentSeconds us i)
+stands switch e us i l interval-over = flagged intervalFlag l && over (e .time) (l .interval) (earliest i us)
+stands switch e us i l interval-zero = flagged intervalFlag l && eqb (l .interval) 0
+stands switch e us i l before-start = flagged startFlag l && ltb (e .time) (l .start)
+stands switch e us i l after-end = flagged endFlag l && ltb (l .end) (e .time)
+stands switch e us i l switch-off = eqb (l .tracked) 1 && not (eqb switch 1) && not (eqb (l .mark) 1)
+
+-- ## The report
+
+-- "over ended uses of tracked entries": the use counts for that content. A momentary use has ended when it begins.
+-- `at` gives the time at which each player's uses are judged: T for every player in the statements; `lim` gives each entry's limits
+abbrev pub ofContent : (ℕ → ℕ) → (ℕ → Limits) → ℕ → Use → Bool
+ofContent at lim content u = eqb (u .content) content && eqb (lim (u .entry) .tracked) 1 && not (isOpen (at (u .player)) u)
+
+-- "one time if it ran at least the timed value"
+abbrev pub countsReport : (ℕ → ℕ) → (ℕ → Limits) → ℕ → Use → ℕ
+countsReport at lim content u = cond (ofContent at lim content u) (one (leb (lim (u .entry) .timedvalue) (ran u))) 0
+
+-- "gains its seconds"
+abbrev pub countsReportSeconds : (ℕ → ℕ) → (ℕ → Limits) → ℕ → Use → ℕ
+countsReportSeconds at lim content u = cond (ofContent at lim content u) (ran u) 0
+
+-- "the ledger's sums over ended uses of tracked entries", at time T
+abbrev pub reportTimes : ℕ → (ℕ → Limits) → ℕ → List Use → ℕ
+reportTimes T lim content us = sumOf (countsReport (λ p. T) lim content) us
+
+abbrev pub reportSeconds : ℕ → (ℕ → Limits) → ℕ → List Use → ℕ
+reportSeconds T lim content us = sumOf (countsReportSeconds (λ p. T) lim content) us

@@ -6,6 +6,7 @@ pub mod Gate
 pub mod Meters
 pub mod Choice
 pub mod Step
+pub mod Report
 pub mod Ledger
 pub mod History
 pub mod Demand1

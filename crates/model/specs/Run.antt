@@ -6,9 +6,11 @@ use lib.ListN.{length, take, drop}
 use lib.Dec.{ltb}
 use Rattle.numbers.specs.Count.{listed}
 use Rattle.book.specs.declared.Answer.{Answer}
+use Rattle.book.specs.declared.Line.{Line}
 use Rattle.book.specs.declared.Book.{Book}
+use Rattle.model.specs.Book.{assetAt, assetsIn}
 use Rattle.model.specs.Record.{recordSize}
-use Rattle.model.specs.History.{recordAnswers, recordFinal}
+use Rattle.model.specs.History.{recordAnswers, recordFinal, recordLines}
 
 -- a number below 10 to the k in decimal digits, with no leading zeros
 unfoldable pub decimalIn : ℕ → ℕ → List ℕ
@@ -39,9 +41,16 @@ recordAt s i = take recordSize (drop (recordSize * i) s)
 unfoldable pub recordsIn : List ℕ → List (List ℕ)
 recordsIn s = listed (recordAt s) (recordCount s)
 
--- what is printed for the bytes of events, and the book after them
-unfoldable pub runText : Book → List ℕ → List ℕ
-runText b s = lines (recordAnswers b (recordsIn s))
+-- what is printed for the bytes of events, the book after them, and the report after them; the first event is lent `ls`
+unfoldable pub runText : Book → List Line → List ℕ → List ℕ
+runText b ls s = lines (recordAnswers b ls (recordsIn s))
 
-unfoldable pub runBook : Book → List ℕ → Book
-runBook b s = recordFinal b (recordsIn s)
+unfoldable pub runBook : Book → List Line → List ℕ → Book
+runBook b ls s = recordFinal b ls (recordsIn s)
+
+unfoldable pub runLines : Book → List Line → List ℕ → List Line
+runLines b ls s = recordLines b ls (recordsIn s)
+
+-- the list that the run program begins with: a line of zeros for each asset of the book
+unfoldable pub zeroLines : Book → List Line
+zeroLines b = listed (λ k. record { content = assetAt (b .assets) k .number; times = 0; seconds = 0 }) (assetsIn b)

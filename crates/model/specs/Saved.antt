@@ -5,6 +5,7 @@ use mathlib.Core.Path.{_≡_}
 use mathlib.Core.List.{List, [], _∷_, map}
 use mathlib.Core.Option.{Option, none, some}
 use Rattle.book.specs.declared.Answer.{Answer}
+use Rattle.book.specs.declared.Line.{Line}
 use Rattle.book.specs.declared.Book.{Book}
 use Rattle.book.specs.declared.Event.{Event}
 use Rattle.book.specs.declared.Decoded.{Decoded}
@@ -12,7 +13,8 @@ use Rattle.book.specs.declared.Decoded.the-variants.{Invalid, Valid}
 use Rattle.model.specs.Book.{Legal}
 use Rattle.model.specs.Image.{Typed, Bytes, image, readCode, readBook}
 use Rattle.model.specs.Record.{requestAsset, decoded}
-use Rattle.model.specs.Step.{step, arrive, stepRecord}
+use Rattle.model.specs.Step.{step, arrive}
+use Rattle.model.specs.Report.{Arrival, receive, lent}
 use Rattle.model.specs.History.{answers, final}
 
 -- ## What is claimed of a book
@@ -34,9 +36,9 @@ FitsRead (Valid e) = Fits e
 
 -- ## Runs with saving in between
 
--- an event, and what happens to the book after it: kept, or written and read back by someone who held another book
+-- an event with the list it is lent, and what happens to the book after it: kept, or written and read back by someone who held another book
 pub record Turn : Type 0 where
-  pub event : Decoded
+  pub event : Arrival
   pub rereader : Option Book
 
 -- the book that the next event gets
@@ -44,22 +46,22 @@ unfoldable pub handedOn : Option Book → Book → Book
 handedOn none b = b
 handedOn (some held) b = readBook held (image b)
 
-abbrev pub eventOf : Turn → Decoded
+abbrev pub eventOf : Turn → Arrival
 eventOf t = t .event
 
 -- the answers, and the last book
 unfoldable pub savedAnswers : Book → List Turn → List Answer
 savedAnswers b [] = []
-savedAnswers b (t ∷ ts) = arrive b (t .event) .answer ∷ savedAnswers (handedOn (t .rereader) (arrive b (t .event) .book)) ts
+savedAnswers b (t ∷ ts) = receive b (t .event) .answer ∷ savedAnswers (handedOn (t .rereader) (receive b (t .event) .book)) ts
 
 unfoldable pub savedFinal : Book → List Turn → Book
 savedFinal b [] = b
-savedFinal b (t ∷ ts) = savedFinal (handedOn (t .rereader) (arrive b (t .event) .book)) ts
+savedFinal b (t ∷ ts) = savedFinal (handedOn (t .rereader) (receive b (t .event) .book)) ts
 
 -- every event of a run fits
 abbrev pub AllFit : List Turn → Type 0
 AllFit [] = Unit {0}
-AllFit (t ∷ ts) = FitsRead (t .event) × AllFit ts
+AllFit (t ∷ ts) = FitsRead (t .event .event) × AllFit ts
 
 -- ## The claims
 
@@ -67,13 +69,14 @@ pub record Saved : Type 0 where
   -- every event leaves a legal book
   pub stepLegal : (b : Book) (e : Event) → Legal b → Legal (step b e .book)
   pub arriveLegal : (b : Book) (d : Decoded) → Legal b → Legal (arrive b d .book)
-  pub finalLegal : (b : Book) (ds : List Decoded) → Legal b → Legal (final b ds)
+  pub receiveLegal : (b : Book) (x : Arrival) → Legal b → Legal (receive b x .book)
+  pub finalLegal : (b : Book) (xs : List Arrival) → Legal b → Legal (final b xs)
   -- and numbers that fit their types
   pub stepTyped : (b : Book) (e : Event) → Legal b → Typed b → Fits e → Typed (step b e .book)
   pub decodedFits : (s : List ℕ) → Bytes s → FitsRead (decoded s)
   -- so the book survives saving, after every event and after every record of bytes
   pub stepSurvives : (b : Book) (e : Event) → Legal b → Typed b → Fits e → Survives (step b e .book)
-  pub recordSurvives : (b : Book) (s : List ℕ) → Legal b → Typed b → Bytes s → Survives (stepRecord b s .book)
+  pub recordSurvives : (b : Book) (ls : List Line) (s : List ℕ) → Legal b → Typed b → Bytes s → Survives (receive b (lent ls s) .book)
   -- saving between any two events changes neither an answer nor the last book
   pub sameAnswers : (b : Book) (ts : List Turn) → Legal b → Typed b → AllFit ts → savedAnswers b ts ≡ answers b (map eventOf ts)
   pub sameFinal : (b : Book) (ts : List Turn) → Legal b → Typed b → AllFit ts → savedFinal b ts ≡ final b (map eventOf ts)

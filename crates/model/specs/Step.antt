@@ -24,20 +24,17 @@ use Rattle.book.specs.declared.Outcome.{Outcome}
 use Rattle.book.specs.Blank.{closed}
 use Rattle.book.specs.Changed.{changed}
 use Rattle.model.specs.Book.{limitsAt, metersAt, playerAt, momentary}
-use Rattle.model.specs.Record.{kindNumber, operationNumber, requestAsset, requestKind, decoded}
+use Rattle.model.specs.Record.{kindNumber, operationNumber, requestAsset, requestKind}
 use Rattle.model.specs.Gate.{gate}
 use Rattle.model.specs.Meters.{amend, begun, continued, ended, isOn, shut, settled}
 use Rattle.model.specs.Choice.{Catalog, catalogOf, usable, asks, Choice, anyOf, suits, choose, nobody, chosen, grantUntil, moreUntil}
+use Rattle.model.specs.Choice.{noneGrantable}
 
 -- ## Begin, continue, stop
 
--- "Each of 1 to 15 returns entry 255 and until 0."
+-- "Each of 1 to 15 returns entry 255 and until 0."; order 3: "30 255 0"; 43 is "an added *taken* answer", which "returns 255 and 0"
 abbrev pub refusal : ℕ → Answer
 refusal code = record { code = code; entry = 255; until = 0 }
-
--- "13 | suitable, none grantable"
-abbrev pub noneGrantable : ℕ
-noneGrantable = 13
 
 -- what a taken event does once all players are settled: the answer, the entries, the asking player's use
 pub record Done : Type 0 where
@@ -49,24 +46,25 @@ pub record Done : Type 0 where
 abbrev pub unchanged : ℕ → List Entry → Open → Done
 unchanged code es o = record { answer = refusal code; entries = es; current = o }
 
--- what a begin does with the choice
-abbrev pub granted : ℕ → List Entry → Open → Choice → Done
-granted t es o nobody = unchanged noneGrantable es o
-granted t es o (chosen i) =
+-- what a begin at t for an asset does with the choice; `none` is the code if nothing is grantable. Order 3 of document 02: "The content, an
+-- asset of the book, is kept with every open use", and it is "the asset its begin asked for".
+abbrev pub granted : ℕ → ℕ → ℕ → List Entry → Open → Choice → Done
+granted none t asset es o nobody = unchanged none es o
+granted none t asset es o (chosen i) =
     let u : ℕ = grantUntil t (limitsAt es i) (metersAt es i) in
     record {
       answer = record { code = 0; entry = i; until = u };
       entries = amend i (begun t u) es;
-      current = cond (momentary (limitsAt es i .kind)) o (record { on = 1; entry = i; begin = t; until = u });
+      current = cond (momentary (limitsAt es i .kind)) o (record { on = 1; entry = i; begin = t; until = u; content = asset });
     }
 
--- "**Begin**, in order: 11, 10, 12, 13."
+-- "**Begin**, in order: 11, 10, 12, 13.", or 43: "one in place of 13 also says none grantable"
 unfoldable pub doBegin : Catalog → List Entry → Open → Ask → ℕ → ℕ → Done
 doBegin c es o ask asset kind =
     cond (isOn o) (unchanged 11 es o)
     (cond (not (usable c asset)) (unchanged 10 es o)
     (cond (not (anyOf (suits c es asset kind) (c .entryCount))) (unchanged 12 es o)
-    (granted (ask .time) es o (choose c es ask asset kind))))
+    (granted (noneGrantable c es ask asset kind) (ask .time) asset es o (choose c es ask asset kind))))
 
 -- the new until of the open use
 abbrev pub more : List Entry → Open → ℕ → ℕ
@@ -77,7 +75,7 @@ abbrev pub lengthened : ℕ → List Entry → Open → Done
 lengthened v es o = record {
   answer = record { code = 0; entry = o .entry; until = v };
   entries = amend (o .entry) (continued (o .until) v) es;
-  current = record { on = 1; entry = o .entry; begin = o .begin; until = v };
+  current = record { on = 1; entry = o .entry; begin = o .begin; until = v; content = o .content };
 }
 
 -- "**Continue**: 14 if nothing is open. ... Equal to the old: 15." (On a legal book no new until is below the old one.)
@@ -135,7 +133,7 @@ unfoldable pub takenStep : Book → Event → Outcome
 takenStep b e =
     let ps : List Player = map (shut (e .time)) (b .players) in
     let es : List Entry = settled (e .time) (b .players) (b .entries) in
-    stored b e ps (done (e .request) (catalogOf b) es (openAt ps (e .player)) (asks e))
+    stored b e ps (done (e .request) (catalogOf b) es (openAt ps (e .player)) (asks b e))
 
 -- a resend "gets the stored answer, t is not read, and nothing changes"
 unfoldable pub stepBy : Gate → Book → Event → Outcome
@@ -151,7 +149,3 @@ step b e = stepBy (gate (b .time) (lastAt (b .players) (e .player)) e) b e
 unfoldable pub arrive : Book → Decoded → Outcome
 arrive b (Invalid code) = record { answer = refusal code; book = b }
 arrive b (Valid e) = step b e
-
--- a record of arbitrary bytes
-unfoldable pub stepRecord : Book → List ℕ → Outcome
-stepRecord b s = arrive b (decoded s)

@@ -185,7 +185,8 @@ pub fn momentary(kind: u8) -> bool
 }
 
 // What stands against granting an entry to who asks.
-// Rules out: end taken as excluded, a limit tested without its flag, a sum that wraps, an interval of 0 that is granted once.
+// Rules out: end taken as excluded, a limit tested without its flag, a sum that wraps, an interval of 0 that is granted once, a tracked
+// entry granted with the switch off and no mark.
 pub fn grounds_of(l: Limits, m: Meters, ask: Ask) -> Grounds
     ensures { λ r. ⌜ r ≡ groundsOf ask l m ⌝ }
 {
@@ -203,6 +204,7 @@ pub fn grounds_of(l: Limits, m: Meters, ask: Ask) -> Grounds
         intervalover: f.interval & !(!(m.started == 1) | (now < due)),
         secondsspent: f.accumulated & !(m.seconds < l.accumulated),
         intervalzero: f.interval & !(0 < l.interval),
+        switchoff: (l.tracked == 1) & !((ask.switch == 1) | (l.mark == 1)),
     }
 }
 
@@ -218,6 +220,7 @@ pub fn grantable(l: Limits, m: Meters, ask: Ask) -> bool
         & !g.intervalover
         & !g.secondsspent
         & !g.intervalzero
+        & !g.switchoff
 }
 
 // Rules out: an end that is not flagged, fresh and inherited swapped.
@@ -238,11 +241,16 @@ pub fn rank_of(l: Limits, m: Meters, asset: u16) -> Rank
 pub fn ranks_before(a: Rank, b: Rank) -> bool
     ensures { λ r. ⌜ r ≡ ranksBefore a b ⌝ }
 {
-    (a.flags < b.flags)
-        | (a.flags == b.flags)
-            & ((a.end < b.end)
-                | (a.end == b.end)
-                    & ((a.fresh < b.fresh) | (a.fresh == b.fresh) & (a.inherited < b.inherited)))
+    if !(a.flags == b.flags) {
+        return a.flags < b.flags;
+    }
+    if !(a.end == b.end) {
+        return a.end < b.end;
+    }
+    if !(a.fresh == b.fresh) {
+        return a.fresh < b.fresh;
+    }
+    a.inherited < b.inherited
 }
 
 // Rules out: a cap applied without its flag, the larger of the two.
@@ -276,10 +284,11 @@ pub fn least_until(t: u32, from: u32, l: Limits, m: Meters) -> u64
     )
 }
 
-// The code that refuses a begin, or 0 if it is granted at that position: "**Begin**, in order: 11, 10, 12, 13."
-// Rules out: 10 before 11, 13 where nothing is suitable.
-pub fn begin_code(on: bool, usable: bool, suits: bool, at: usize) -> u8
-    ensures { λ r. ⌜ r ≡ beginCode on usable suits (ltb at 64) ⌝ }
+// The code that refuses a begin, or 0 if it is granted at that position: "**Begin**, in order: 11, 10, 12, 13.", or 43 in place of 13 if
+// some suitable entry fails for the switch only.
+// Rules out: 10 before 11, 13 where nothing is suitable, 43 where an entry is granted.
+pub fn begin_code(on: bool, usable: bool, suits: bool, at: usize, switched: bool) -> u8
+    ensures { λ r. ⌜ r ≡ beginCode on usable suits (ltb at 64) switched ⌝ }
 {
     if on {
         return 11;
@@ -292,6 +301,9 @@ pub fn begin_code(on: bool, usable: bool, suits: bool, at: usize) -> u8
     }
     if at < 64 {
         return 0;
+    }
+    if switched {
+        return 43;
     }
     13
 }

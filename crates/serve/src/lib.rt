@@ -5,6 +5,8 @@
 ghost use Prim.Native.Nat.{_≤_};
 ghost use lib.ListN.{length};
 use book::Book;
+use book::Line;
+use book::at_most_64;
 use turn::IMAGE;
 use turn::INPUT;
 use turn::OUT;
@@ -45,10 +47,18 @@ fn print_first(out: &[u8], n: usize) -> bool
     stream::send(1, b"standard output", &out[..n])
 }
 
-// Answers each read until the input ends. An incomplete record is kept and completed by the next read.
+// Answers each read until the input ends. An incomplete record is kept and completed by the next read; the lines of the report are
+// handed on from read to read.
 // Nothing guarantees that the input ends either: this loop counts down too.
-fn answer_reads(b: Book, input: &mut [u8; INPUT], out: &mut [u8; OUT]) {
+fn answer_reads(
+    b: Book,
+    first: [Line; 64],
+    lent: usize,
+    input: &mut [u8; INPUT],
+    out: &mut [u8; OUT],
+) {
     let mut book = b;
+    let mut lines = first;
     let mut kept: usize = 0;
     let mut left = u64::MAX;
     while left > 0 {
@@ -59,7 +69,7 @@ fn answer_reads(b: Book, input: &mut [u8; INPUT], out: &mut [u8; OUT]) {
         }
         let ended = got == 0;
         let there = stream::filled(input, kept, got);
-        let t = turn::turn(book, input, there, ended, out);
+        let t = turn::turn(book, lines, lent, input, there, ended, out);
         if !print_first(out, t.written) {
             return;
         }
@@ -68,15 +78,24 @@ fn answer_reads(b: Book, input: &mut [u8; INPUT], out: &mut [u8; OUT]) {
         }
         let next = t.book;
         book = next;
+        let after = t.lines;
+        lines = after;
         kept = t.kept;
         left = left - 1;
     }
 }
 
+// A line for each asset of the book is lent, with zeros before the first event.
 fn answer_all(b: Book) {
     let mut input = [0u8; INPUT];
     let mut out = [0u8; OUT];
-    answer_reads(b, &mut input, &mut out);
+    answer_reads(
+        b,
+        turn::zero_lines(b),
+        at_most_64(b.assetcount),
+        &mut input,
+        &mut out,
+    );
 }
 
 fn explain() {

@@ -2,7 +2,7 @@
 use Prim.Native.Nat.{ℕ, suc, _%_, _≤_, _<_}
 use native.Mathlib.Omega.{arith}
 use mathlib.Core.Path.{_≡_, refl, sym, ap, _∙_}
-use mathlib.Core.Bool.{Bool, true, false}
+use mathlib.Core.Bool.{Bool, true, false, cond}
 use mathlib.Core.List.{List}
 use lib.ListN.{length, set}
 use lib.Seq.{set-out}
@@ -20,7 +20,8 @@ use Rattle.book.specs.declared.Outcome.{Outcome}
 use Rattle.book.specs.Blank.{noMeters}
 use Rattle.book.specs.Changed.{changed}
 use Rattle.model.specs.Book.{limitsAt, metersAt, latestTime, assetsIn, entriesIn}
-use Rattle.model.specs.Choice.{asks, Catalog, usable, parentOf, suits, anyOf, grantable, chosen, choose, catalogOf}
+use Rattle.model.specs.Choice.{asks, Catalog, usable, parentOf, suits, anyOf, grantable, chosen, choose, catalogOf, failsForSwitch}
+use Rattle.model.specs.Choice.{noneGrantable}
 use Rattle.model.specs.Step.{Done, unchanged, noted, granted, doBegin, done, openAt, takenStep}
 use Rattle.model.specs.Meters.{settled, isOn}
 use Rattle.choice.specs.declared.Best.{Best}
@@ -74,30 +75,42 @@ module _ (c : Catalog) (es : List Entry) (o : Open) (ask : Ask) (asset kind : �
       begin-12 s = rw (off, u, s)
 
       module _ (s : anyOf (suits c es asset kind) (c .entryCount) ≡ true) (k : ℕ) (e : k ≡ best .at) where
-        begin-choice : doBegin c es o ask asset kind ≡ granted (ask .time) es o (choose c es ask asset kind)
+        begin-choice : doBegin c es o ask asset kind
+            ≡ granted (noneGrantable c es ask asset kind) (ask .time) asset es o (choose c es ask asset kind)
         unfolding doBegin
         begin-choice = rw (off, u, s)
 
-        pub begin-13 : c .entryCount ≤ 64 → 64 ≤ k → doBegin c es o ask asset kind ≡ unchanged 13 es o
-        begin-13 h p = begin-choice ∙ ap (granted (ask .time) es o) (best-nobody c es ask asset kind h (omega arith))
+        pub begin-none : c .entryCount ≤ 64 → 64 ≤ k → doBegin c es o ask asset kind ≡ unchanged (noneGrantable c es ask asset kind) es o
+        begin-none h p =
+            begin-choice
+            ∙ ap (granted (noneGrantable c es ask asset kind) (ask .time) asset es o) (best-nobody c es ask asset kind h (omega arith))
 
-        pub begin-grants : (part : Effect) → k < 64 → ask .time ≤ latestTime → part ≡ beginOn k ask (limitsAt es k) (metersAt es k) o
+        pub begin-grants : (part : Effect) → k < 64 → ask .time ≤ latestTime → part ≡ beginOn k asset ask (limitsAt es k) (metersAt es k) o
             → placed k part es ≡ doBegin c es o ask asset kind
         begin-grants part p h q =
             let w = best-some c es ask asset kind (omega arith) in
             let g : grantable ask (limitsAt es k) (metersAt es k) ≡ true = rw e (w .1) in
-            ap (λ (x : Effect). placed k x es) q ∙ begin-placed k ask es o g h
-            ∙ sym (begin-choice ∙ ap (granted (ask .time) es o) (w .0 ∙ ap chosen (sym e)))
+            ap (λ (x : Effect). placed k x es) q ∙ begin-placed k asset (noneGrantable c es ask asset kind) ask es o g h
+            ∙ sym (begin-choice ∙ ap (granted (noneGrantable c es ask asset kind) (ask .time) asset es o) (w .0 ∙ ap chosen (sym e)))
 
-  -- the same by the code that is returned: `us` and `su` are what the code found, and k the position chosen
-  module _ (us su : Bool) (k code : ℕ)
+  -- the same by the code that is returned: `us`, `su` and `sw` are what the code found, and k the position chosen
+  module _ (us su sw : Bool) (k code : ℕ)
       (hu : us ≡ usable c asset)
       (hs : isOn o ≡ false → usable c asset ≡ true → su ≡ anyOf (suits c es asset kind) (c .entryCount))
       (hk : isOn o ≡ false → usable c asset ≡ true → k ≡ best .at)
+      (hw : isOn o ≡ false → usable c asset ≡ true → sw ≡ anyOf (failsForSwitch c es ask asset kind) (c .entryCount))
       (few : c .entryCount ≤ 64)
-      (hc : code ≡ beginCode (isOn o) us su (ltb k 64)) where
+      (hc : code ≡ beginCode (isOn o) us su (ltb k 64) sw) where
     refused-by : (x : ℕ) → code ≡ x → doBegin c es o ask asset kind ≡ unchanged x es o → unchanged code es o ≡ doBegin c es o ask asset kind
     refused-by x h d = ap (λ (y : ℕ). unchanged y es o) h ∙ sym d
+
+    none-is : sw ≡ anyOf (failsForSwitch c es ask asset kind) (c .entryCount) → cond sw 43 13 ≡ noneGrantable c es ask asset kind
+    unfolding noneGrantable
+    none-is h = rw h
+
+    none-some : (w : Bool) → _≡_ {A = ℕ} (cond w 43 13) 0 → ⊥
+    none-some true h = omega arith
+    none-some false h = omega arith
 
     pub begin-refused : (code ≡ 0 → ⊥) → unchanged code es o ≡ doBegin c es o ask asset kind
     begin-refused some =
@@ -107,15 +120,15 @@ module _ (c : Catalog) (es : List Entry) (o : Open) (ask : Ask) (asset kind : �
         (λ u. on-test su
         (λ s. on-test (ltb k 64)
         (λ l. absurd (some (hc ∙ rw (off, hu ∙ u, s, l) refl)))
-        (λ l. refused-by 13 (hc ∙ rw (off, hu ∙ u, s, l) refl)
-        (begin-13 off u (sym (hs off u) ∙ s) k (hk off u) few (omega (arith, ltb-false k 64 l)))))
+        (λ l. refused-by (noneGrantable c es ask asset kind) (hc ∙ rw (off, hu ∙ u, s, l) (none-is (hw off u)))
+        (begin-none off u (sym (hs off u) ∙ s) k (hk off u) few (omega (arith, ltb-false k 64 l)))))
         (λ s. refused-by 12 (hc ∙ rw (off, hu ∙ u, s) refl) (begin-12 off u (sym (hs off u) ∙ s))))
         (λ u. refused-by 10 (hc ∙ rw (off, hu ∙ u) refl) (begin-10 off u)))
 
     not-zero : (x : ℕ) → code ≡ 0 → code ≡ suc x → ⊥
     not-zero x z h = omega (arith, sym z ∙ h)
 
-    pub begin-placed-at : ask .time ≤ latestTime → code ≡ 0 → (part : Effect) → part ≡ beginOn (k % 256) ask (limitsAt es k)
+    pub begin-placed-at : ask .time ≤ latestTime → code ≡ 0 → (part : Effect) → part ≡ beginOn (k % 256) asset ask (limitsAt es k)
         (metersAt es k) o
         → placed k part es ≡ doBegin c es o ask asset kind
     begin-placed-at ht none part part-is =
@@ -128,7 +141,7 @@ module _ (c : Catalog) (es : List Entry) (o : Open) (ask : Ask) (asset kind : �
         let small = ltb-true k 64 l in
         let whole : k % 256 ≡ k = omega arith in
         begin-grants off u (sym (hs off u) ∙ s) k (hk off u) part small ht (part-is ∙ rw whole refl))
-        (λ l. absurd (not-zero 12 none (hc ∙ rw (off, hu ∙ u, s, l) refl))))
+        (λ l. absurd (none-some sw (sym (hc ∙ rw (off, hu ∙ u, s, l) refl) ∙ none))))
         (λ s. absurd (not-zero 11 none (hc ∙ rw (off, hu ∙ u, s) refl))))
         (λ u. absurd (not-zero 9 none (hc ∙ rw (off, hu ∙ u) refl))))
 
@@ -145,7 +158,7 @@ takenFrom n e d = record { answer = d .answer; book = storedBook n e d }
 pub taken-is : (b : Book) (e : Event)
     → takenFrom (settledBook (e .time) b) e
     (done (e .request) (catalogOf (settledBook (e .time) b)) (settledBook (e .time) b .entries)
-    (openAt (settledBook (e .time) b .players) (e .player)) (asks e))
+    (openAt (settledBook (e .time) b .players) (e .player)) (asks (settledBook (e .time) b) e))
     ≡ takenStep b e
 unfolding settledBook storedBook takenStep catalogOf assetsIn entriesIn
 taken-is b e = refl

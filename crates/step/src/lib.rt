@@ -3,23 +3,32 @@
 ghost use mathlib.Core.Path.{_≡_};
 ghost use Prim.Native.Nat.{_≤_};
 ghost use Rattle.model.specs.Book.{latestTime};
-ghost use Rattle.model.specs.Step.{refusal, doBegin, doContinue, doStop, done, takenStep, step, stepRecord};
+ghost use Rattle.model.specs.Step.{refusal, doBegin, doContinue, doStop, done, takenStep, step, lastAt};
+ghost use Rattle.model.specs.Record.{decoded};
 ghost use Rattle.model.specs.Choice.{catalogOf};
 ghost use Rattle.uses.specs.Uses.{placed};
 ghost use Rattle.step.specs.Settle.{settledBook};
+ghost use Rattle.model.specs.Gate.{gate};
 ghost use Rattle.step.specs.Step.{refused, storedBook};
+ghost use Rattle.model.specs.Report.{receive, linesLeft, lent};
+ghost use Rattle.step.specs.Lines.{linesTaken, linesWith, reportedOn, outcomeOf};
+use book::Answer;
 use book::Ask;
 use book::Book;
 use book::Decoded;
 use book::Entry;
 use book::Event;
 use book::Gate;
+use book::Line;
 use book::Meters;
 use book::Open;
 use book::Outcome;
 use book::Player;
+use book::Reported;
 use book::Request;
 use book::refusal;
+use report::give_lines;
+use report::take_lines;
 use uses::Effect;
 
 // What an operation leaves, and at which entry; 64 if it leaves all entries unchanged.
@@ -91,7 +100,7 @@ fn begin(b: Book, o: Open, asset: u16, kind: u8, ask: Ask) -> Act
     let entries = b.entries;
     let best = choice::chosen(entries, b.entrycount, asset, reach.parent, kind, ask);
     let k = best.at;
-    let code = rules::begin_code(o.on == 1, reach.usable, best.suits, k);
+    let code = rules::begin_code(o.on == 1, reach.usable, best.suits, k, best.switched);
     if code != 0 {
         return refused_act(code, o);
     }
@@ -100,7 +109,7 @@ fn begin(b: Book, o: Open, asset: u16, kind: u8, ask: Ask) -> Act
     let m = x.meters;
     Act {
         at: k,
-        part: uses::begin_on(l, m, o, (k % 256) as u8, ask),
+        part: uses::begin_on(l, m, o, (k % 256) as u8, asset, ask),
     }
 }
 
@@ -186,6 +195,7 @@ fn taken(b: Book, e: Event) -> Outcome
     let ask = Ask {
         player: e.player,
         time: e.time,
+        switch: n.switch,
     };
     let a = operate(n, o, q, ask);
     let part = a.part;
@@ -228,12 +238,97 @@ fn step(b: Book, e: Event) -> Outcome
     }
 }
 
-// Rules out: 1 before 2, an answer other than 6 to a record of 12 or 14 bytes.
-pub fn step_record(b: Book, s: &[u8]) -> Outcome
-    ensures { λ r. ⌜ r ≡ stepRecord b (now (s .entry)) ⌝ }
+// What a taken event records in the lines: settling first, then the request, which was answered with a.
+fn taken_lines(b: Book, e: Event, a: Answer, lines: [Line; 64]) -> [Line; 64]
+    requires { ⌜ e .player ≤ 15 ⌝ }
+    ensures { λ r. ⌜ r ≡ linesTaken a b e lines ⌝ }
 {
-    match record::decode(s) {
-        Decoded::Invalid(code) => turned_away(b, code),
-        Decoded::Valid(e) => step(b, e),
+    let t = e.time;
+    let j = e.player as usize;
+    let p = b.players[j];
+    let shut = lent::shut_player(p, t);
+    let o = shut.current;
+    let q = e.request;
+    let due = metering::record_due(b, lines, t);
+    metering::record_request(b, due, q, t, o, a)
+}
+
+// The lines after an event that was answered with a.
+// Rules out: a resend recorded again, a refusal recorded.
+fn lines_after(b: Book, e: Event, a: Answer, lines: [Line; 64]) -> [Line; 64]
+    ensures { λ r. ⌜ r ≡ linesWith a (gate (b .time) (lastAt (b .players) (e .player)) e) b e lines ⌝ }
+{
+    if 15 < e.player {
+        return lines;
     }
+    let j = e.player as usize;
+    let p = b.players[j];
+    let last = p.last;
+    match rules::gate_of(b.time, last, e) {
+        Gate::Refuse(code) => lines,
+        Gate::Resend => lines,
+        Gate::Take => taken_lines(b, e, a, lines),
+    }
+}
+
+// A record on a book, with the list of lines that it is lent, by value: how many were lent is passed beside them.
+// Rules out: 6 before 30, 1 before 2, an answer other than 6 to a record of 12 or 14 bytes, a list that is not good and comes back
+// changed.
+pub fn step_lines(b: Book, s: &[u8], lines: [Line; 64], count: usize) -> Reported
+    ensures { λ r. ⌜ r ≡ reportedOn b (decoded (now (s .entry))) lines count ⌝ }
+{
+    let assets = b.assets;
+    if !metering::good_lines(assets, b.assetcount, lines, count) {
+        return Reported {
+            answer: refusal(30),
+            book: b,
+            lines: lines,
+        };
+    }
+    match record::decode(s) {
+        Decoded::Invalid(code) => Reported {
+            answer: refusal(code),
+            book: b,
+            lines: lines,
+        },
+        Decoded::Valid(e) => {
+            let o = step(b, e);
+            let a = o.answer;
+            let n = o.book;
+            Reported {
+                answer: a,
+                book: n,
+                lines: lines_after(b, e, a, lines),
+            }
+        }
+    }
+}
+
+// The two parts of what an event left. The proof of the function below steps through its code by hand, and passes a struct on whole.
+fn lines_in(x: Reported) -> [Line; 64]
+    ensures { λ r. ⌜ r ≡ x .lines ⌝ }
+{
+    let lines = x.lines;
+    lines
+}
+
+fn outcome_in(x: Reported) -> Outcome
+    ensures { λ r. ⌜ r ≡ outcomeOf x ⌝ }
+{
+    let a = x.answer;
+    let n = x.book;
+    Outcome { answer: a, book: n }
+}
+
+// A record on a book, with the list that it is lent.
+// Rules out: a list that is not good and comes back changed, a line past the assets touched.
+pub fn step_lent(b: Book, s: &[u8], report: &mut [Line]) -> Outcome
+    ensures { λ r. ⌜ (r ≡ receive b (lent (now (report .entry)) (now (s .entry))))
+        × (now (report .exit) ≡ linesLeft b (lent (now (report .entry)) (now (s .entry)))) ⌝ }
+{
+    let count = report.len();
+    let lines = take_lines(report);
+    let after = step_lines(b, s, lines, count);
+    give_lines(report, lines_in(after));
+    outcome_in(after)
 }

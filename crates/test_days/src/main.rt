@@ -1,10 +1,19 @@
-// Reads the stored days of days.bin in turn and prints, for each, a line `day N` and what the run program prints for that day.
-// Each day is answered twice: as one block, as the run program does it, and one event at a time on a book passed by value. If the two
-// differ, in the text or in the final book, a line says so.
+// Reads the stored days of days.bin in turn and prints, for each, a line `day N`, what the run program prints for that day, and a line
+// `used CONTENT TIMES SECONDS` for each line of the report that is not as it was.
+// Each day is answered twice: as one block, as the run program does it, with a line for each asset, and one event at a time on a book
+// passed by value, with 64 lines lent as a list. Both begin with zeros. If the two differ, in the text, in the final book or in the final
+// lines of the report, a line says so.
 // A day is stored as the image's length (32 bits, big-endian), the image, the length of the event bytes (32 bits), and those bytes.
+ghost use mathlib.Core.Path.{_≡_};
 ghost use Prim.Native.Nat.{_<_, _≤_};
+ghost use Rattle.model.specs.Report.{receive, linesLeft, lent};
+ghost use Rattle.step.specs.Lines.{outcomeOf};
 use batch::Block;
 use book::Book;
+use book::Line;
+use book::Outcome;
+use book::Reported;
+use book::at_most_64;
 use image_read::Loaded;
 use text::put_line;
 
@@ -60,22 +69,49 @@ fn record_end(from: usize, size: usize) -> usize
     if 13 < size - from { from + 13 } else { size }
 }
 
-// Answers the events one at a time, each on the book that the one before it left.
-fn answer_singly(b: Book, events: &[u8], out: &mut [u8]) -> Block {
+// The proof of the function below steps through its code by hand, and passes a struct on whole.
+fn reported(o: Outcome, lines: [Line; 64]) -> Reported
+    ensures { λ r. ⌜ r ≡ record { answer = o .answer; book = o .book; lines = lines } ⌝ }
+{
+    let a = o.answer;
+    let n = o.book;
+    Reported {
+        answer: a,
+        book: n,
+        lines: lines,
+    }
+}
+
+// A record on a book, with 64 lines lent as a list.
+fn step_owned(b: Book, s: &[u8], lines: [Line; 64]) -> Reported
+    ensures { λ r. ⌜ (outcomeOf r ≡ receive b (lent lines (now (s .entry)))) × (r .lines ≡ linesLeft b (lent lines (now (s .entry)))) ⌝ }
+{
+    let mut q = lines;
+    let o = step::step_lent(b, s, &mut q);
+    reported(o, q)
+}
+
+// Answers the events one at a time, each on the book and with the lines that the one before it left.
+fn answer_singly(b: Book, events: &[u8], out: &mut [u8], first: [Line; 64]) -> Block {
     let mut book = b;
+    let mut lines = first;
     let mut at: usize = 0;
     let mut from: usize = 0;
     while from < events.len() {
         let to = record_end(from, events.len());
-        let o = step::step_record(book, &events[from..to]);
+        let o = step_owned(book, &events[from..to], lines);
         let next = o.book;
         book = next;
+        let after = o.lines;
+        lines = after;
         let answer = o.answer;
         at = put_line(out, at, answer);
         from = to;
     }
     Block {
         book: book,
+        lines: lines,
+        lent: 64,
         written: at,
     }
 }
@@ -95,29 +131,82 @@ fn same(a: &[u8], b: &[u8]) -> bool {
 }
 
 fn same_book(a: Book, b: Book) -> bool {
-    let mut first = [0u8; 3979];
-    let mut second = [0u8; 3979];
+    let mut first = [0u8; 4815];
+    let mut second = [0u8; 4815];
     let n = image_write::write(a, &mut first);
     let m = image_write::write(b, &mut second);
     (n == m) & same(&first, &second)
+}
+
+fn same_line(x: Line, y: Line) -> bool {
+    (x.content == y.content) & (x.times == y.times) & (x.seconds == y.seconds)
+}
+
+fn same_lines(a: [Line; 64], b: [Line; 64]) -> bool {
+    let mut same = true;
+    let mut k: usize = 0;
+    while k < 64 {
+        let x = a[k];
+        let y = b[k];
+        let w = same_line(x, y);
+        same = same & w;
+        k = k + 1;
+    }
+    same
+}
+
+fn print_line(l: Line) {
+    io::write_all(1, b"used ");
+    io::print_decimal(1, l.content);
+    io::write_all(1, b" ");
+    io::print_decimal(1, l.times);
+    io::write_all(1, b" ");
+    print_number(l.seconds);
+}
+
+// Prints the lines that differ from what they were.
+fn print_changes(old: [Line; 64], lines: [Line; 64]) {
+    let mut k: usize = 0;
+    while k < 64 {
+        let x = old[k];
+        let y = lines[k];
+        if !same_line(x, y) {
+            print_line(y);
+        }
+        k = k + 1;
+    }
+}
+
+// Says where the two ways differ.
+fn compare(r: Block, q: Block) {
+    let last = r.book;
+    let other = q.book;
+    if !same_book(last, other) {
+        io::write_all(1, b"another book one event at a time\n");
+    }
+    let report = r.lines;
+    let singly = q.lines;
+    if !same_lines(report, singly) {
+        io::write_all(1, b"another report one event at a time\n");
+    }
 }
 
 // Prints the answers to the events in the first n bytes of buf.
 fn print_answers(b: Book, n: usize, buf: &[u8]) {
     let mut out = [0u8; 95798];
     let mut singly = [0u8; 95798];
+    let lines = turn::zero_lines(b);
+    let lent = at_most_64(b.assetcount);
     if n <= buf.len() {
-        let r = batch::answer_block(b, &buf[..n], &mut out);
-        let q = answer_singly(b, &buf[..n], &mut singly);
+        let r = batch::answer_block(b, &buf[..n], &mut out, lines, lent);
+        let q = answer_singly(b, &buf[..n], &mut singly, lines);
         send(&out, r.written);
         if !(same(&out, &singly)) {
             io::write_all(1, b"other answers one event at a time\n");
         }
-        let last = r.book;
-        let other = q.book;
-        if !same_book(last, other) {
-            io::write_all(1, b"another book one event at a time\n");
-        }
+        let report = r.lines;
+        print_changes(lines, report);
+        compare(r, q);
     }
 }
 

@@ -3,6 +3,8 @@
 // Each image is read with the last accepted book held; a refusal that does not return that book is marked.
 use book::Book;
 
+const IMAGE: usize = 4815;
+
 struct Turn {
     more: bool,
     book: Book,
@@ -40,8 +42,8 @@ fn same_bytes(a: &[u8], b: &[u8]) -> bool {
 
 // Whether both books are written as the same bytes.
 fn same_book(a: Book, b: Book) -> bool {
-    let mut left = io::buffer();
-    let mut right = io::buffer();
+    let mut left = [0u8; IMAGE];
+    let mut right = [0u8; IMAGE];
     let n = image_write::write(a, &mut left);
     let m = image_write::write(b, &mut right);
     if n != m {
@@ -51,7 +53,7 @@ fn same_book(a: Book, b: Book) -> bool {
 }
 
 fn print_accepted(b: Book) {
-    let mut back = io::buffer();
+    let mut back = [0u8; IMAGE];
     let n = image_write::write(b, &mut back);
     io::write_all(1, b"0 ");
     print_bytes(&back, n);

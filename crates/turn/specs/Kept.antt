@@ -5,6 +5,7 @@ use mathlib.Core.Bool.{Bool, true, false, cond}
 use mathlib.Core.List.{List, _++_}
 use native.Mathlib.Omega.{arith}
 use lib.ListN.{length, drop, length-append, length-drop}
+use Rattle.book.specs.declared.Line.{Line}
 use Rattle.book.specs.declared.Book.{Book}
 use Rattle.turn.specs.Turn.{keptCount, keptOf, inside, textAfter, writtenAfter, outAfter, keptAfter}
 
@@ -31,10 +32,10 @@ kept-small input n ended = small (inside input n) ended
     small true false = omega arith
     small false u = omega arith
 
-pub written-inside : (b : Book) (input : List ℕ) (n : ℕ) (ended : Bool) (out : List ℕ)
-    → writtenAfter b input n ended ≤ length (outAfter b input n ended out)
+pub written-inside : (b : Book) (ls : List Line) (count : ℕ) (input : List ℕ) (n : ℕ) (ended : Bool) (out : List ℕ)
+    → writtenAfter b ls count input n ended ≤ length (outAfter b ls count input n ended out)
 unfolding writtenAfter outAfter
-written-inside b input n ended out = fits (inside input n) (textAfter b input n ended)
+written-inside b ls count input n ended out = fits (inside input n) (textAfter b ls count input n ended)
   where
     fits : (t : Bool) (s : List ℕ) → cond t (length s) 0 ≤ length (cond t (s ++ drop (length s) out) out)
     fits true s = rw (length-append s (drop (length s) out)) (omega arith)

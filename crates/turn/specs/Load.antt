@@ -1,4 +1,4 @@
--- A file longer than the longest image is refused with the same number from its first 3,980 bytes as from all of them, so no more need
+-- A file longer than the longest image is refused with the same number from its first 4,816 bytes as from all of them, so no more need
 -- be read.
 use Prim.Native.Nat.{ℕ, _+_, _*_, _≤_}
 use mathlib.Core.Path.{_≡_, refl, sym, ap, ap₂, _∙_}
@@ -58,8 +58,8 @@ unless : (t : Bool) (c x y : ℕ) → (t ≡ false → x ≡ y) → cond t c x �
 unless true c x y f = refl
 unless false c x y f = f refl
 
--- "Length 11 + 5A + 51P + 384, at most 3,979."
-wrong-length : (n v a p : ℕ) (late : Bool) → 1 ≤ v → v ≤ newest → 3980 ≤ n
+-- at most 3,979 bytes in version 1 and 4,815 in version 2
+wrong-length : (n v a p : ℕ) (late : Bool) → 1 ≤ v → v ≤ newest → 4816 ≤ n
     → cond {A = ℕ} (ltb 64 a || ltb 64 p || late) 23 (cond (not (eqb n (imageLength v a p))) 20 0) ≡ cond (ltb 64 a || ltb 64 p || late)
     23 20
 wrong-length n v a p late oldest known h =
@@ -70,7 +70,7 @@ wrong-length n v a p late oldest known h =
     ap (λ (t : Bool). cond {A = ℕ} (not t) 20 0) (ne-eqb n (imageLength v a p)
     (λ e. let m = longest v a p oldest known la lp in omega (arith, e, m))))
 
-module _ (s : List ℕ) (long : 3980 ≤ length s) where
+module _ (s : List ℕ) (long : 4816 ≤ length s) where
   long-header : headerBroken s ≡ longStages (valuesAt headerStart 0 s)
   unfolding headerBroken markIn versionIn assetCountIn entryCountIn timeIn longStages
   long-header =
@@ -92,12 +92,12 @@ module _ (s : List ℕ) (long : 3980 ≤ length s) where
 
 -- ## The answer to a file is the answer to its first bytes, one more than the longest image has
 
-module _ (m : ℕ) (enough : 3980 ≤ m) (s : List ℕ) where
+module _ (m : ℕ) (enough : 4816 ≤ m) (s : List ℕ) where
   pub cut-code : readCode (take m s) ≡ readCode s
   cut-code =
       below-or-not m (length s)
       (λ h.
-      let l : 3980 ≤ length (take m s) = rw (length-take-le m s (omega arith)) enough in
+      let l : 4816 ≤ length (take m s) = rw (length-take-le m s (omega arith)) enough in
       long-code (take m s) l ∙ ap longStages (values-cut m s headerStart 0 (omega arith)) ∙ sym (long-code s (omega arith)))
       (λ h. ap readCode (take-all m s h))
 
@@ -105,6 +105,6 @@ module _ (m : ℕ) (enough : 3980 ≤ m) (s : List ℕ) where
   cut-book held =
       below-or-not m (length s)
       (λ h.
-      let l : 3980 ≤ length (take m s) = rw (length-take-le m s (omega arith)) enough in
+      let l : 4816 ≤ length (take m s) = rw (length-take-le m s (omega arith)) enough in
       long-book (take m s) l held ∙ sym (long-book s (omega arith) held))
       (λ h. ap (readBook held) (take-all m s h))

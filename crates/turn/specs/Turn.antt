@@ -1,13 +1,16 @@
 -- A turn of the run program, from one read of its input to the next: what is answered, what is kept, what is left in the buffers.
--- input is the input buffer, n how many bytes it holds, ended whether no more will come.
+-- input is the input buffer, n how many bytes it holds, ended whether no more will come. The lines of the report are by value, in 64
+-- places; `count` of them are lent to each record.
 use Prim.Native.Nat.{ℕ, _-_, _%_}
 use mathlib.Core.Bool.{Bool, cond}
 use mathlib.Core.Path.{_≡_}
 use mathlib.Core.List.{List, _++_}
 use lib.ListN.{length, take, drop}
 use lib.Dec.{leb}
+use Rattle.book.specs.declared.Line.{Line}
 use Rattle.book.specs.declared.Book.{Book}
-use Rattle.model.specs.Run.{runText, runBook}
+use Rattle.model.specs.Run.{recordsIn}
+use Rattle.batch.specs.Block.{bookOn, linesOn, blockText}
 
 -- How many of n bytes are kept for the next turn: those of a record that is not complete yet. At the end none: "a last record cut
 -- short" is answered too.
@@ -25,19 +28,22 @@ keptOf ended s = drop (length s - keptCount ended (length s)) s
 abbrev pub inside : List ℕ → ℕ → Bool
 inside input n = leb n (length input)
 
-unfoldable pub bookAfter : Book → List ℕ → ℕ → Bool → Book
-bookAfter b input n ended = cond (inside input n) (runBook b (answeredOf ended (take n input))) b
+unfoldable pub bookAfter : Book → List Line → ℕ → List ℕ → ℕ → Bool → Book
+bookAfter b ls count input n ended = cond (inside input n) (bookOn b ls count (recordsIn (answeredOf ended (take n input)))) b
 
-unfoldable pub textAfter : Book → List ℕ → ℕ → Bool → List ℕ
-textAfter b input n ended = runText b (answeredOf ended (take n input))
+unfoldable pub linesAfter : Book → List Line → ℕ → List ℕ → ℕ → Bool → List Line
+linesAfter b ls count input n ended = cond (inside input n) (linesOn b ls count (recordsIn (answeredOf ended (take n input)))) ls
 
-unfoldable pub writtenAfter : Book → List ℕ → ℕ → Bool → ℕ
-writtenAfter b input n ended = cond (inside input n) (length (textAfter b input n ended)) 0
+unfoldable pub textAfter : Book → List Line → ℕ → List ℕ → ℕ → Bool → List ℕ
+textAfter b ls count input n ended = blockText b ls count (answeredOf ended (take n input))
+
+unfoldable pub writtenAfter : Book → List Line → ℕ → List ℕ → ℕ → Bool → ℕ
+writtenAfter b ls count input n ended = cond (inside input n) (length (textAfter b ls count input n ended)) 0
 
 -- the text, and after it what was there before
-unfoldable pub outAfter : Book → List ℕ → ℕ → Bool → List ℕ → List ℕ
-outAfter b input n ended out =
-    cond (inside input n) (textAfter b input n ended ++ drop (length (textAfter b input n ended)) out) out
+unfoldable pub outAfter : Book → List Line → ℕ → List ℕ → ℕ → Bool → List ℕ → List ℕ
+outAfter b ls count input n ended out =
+    cond (inside input n) (textAfter b ls count input n ended ++ drop (length (textAfter b ls count input n ended)) out) out
 
 unfoldable pub keptAfter : List ℕ → ℕ → Bool → ℕ
 keptAfter input n ended = cond (inside input n) (keptCount ended n) 0

@@ -1,5 +1,6 @@
 // What the run program does between its reads and writes: a turn, from one read of the input to the next, and loading the book from the
-// bytes of rights.rbk. This crate does no input or output, so the contracts can state everything it does.
+// bytes of rights.rbk, with the list of lines to begin with. This crate does no input or output, so the contracts can state everything
+// it does.
 ghost use mathlib.Core.Path.{_≡_};
 ghost use mathlib.Core.Bool.{cond};
 ghost use mathlib.Core.List.{List, _++_};
@@ -7,11 +8,15 @@ ghost use Prim.Native.Nat.{ℕ, _+_, _≤_};
 ghost use lib.ListN.{length, take, drop};
 ghost use Rattle.book.specs.Blank.{noBook};
 ghost use Rattle.model.specs.Image.{readCode, readBook};
-ghost use Rattle.batch.specs.Block.{blockBook, blockWritten, blockBuffer};
-ghost use Rattle.turn.specs.Turn.{inside, bookAfter, writtenAfter, outAfter, keptAfter, inputAfter, Begins};
+ghost use Rattle.model.specs.Run.{zeroLines};
+ghost use Rattle.report.specs.Report.{takenLines};
+ghost use Rattle.batch.specs.Block.{blockBook, blockLines, blockWritten, blockBuffer};
+ghost use Rattle.turn.specs.Turn.{inside, bookAfter, linesAfter, writtenAfter, outAfter, keptAfter, inputAfter, Begins};
 use batch::Block;
 use book::Book;
+use book::Line;
 use book::RECORD_SIZE;
+use book::at_most_64;
 use image_read::Loaded;
 use numbers::min_size;
 
@@ -22,13 +27,14 @@ pub const INPUT: usize = 65545;
 pub const OUT: usize = 95798;
 
 // One byte more than the longest image: these bytes are enough to refuse a longer file.
-pub const IMAGE: usize = 3980;
+pub const IMAGE: usize = 4816;
 
-// The next book, how many bytes of text are at the start of the output buffer, and how many of the next record are at the start of
-// the input buffer. Done is false if n was more than the input buffer holds.
+// The next book and lines, how many bytes of text are at the start of the output buffer, and how many of the next record are at the
+// start of the input buffer. Done is false if n was more than the input buffer holds.
 pub struct Turned {
     pub done: bool,
     pub book: Book,
+    pub lines: [Line; 64],
     pub written: usize,
     pub kept: usize,
 }
@@ -47,13 +53,22 @@ fn within(s: &[u8], n: usize) -> bool
 }
 
 // Answers the block in the first n bytes.
-fn answer_first(b: Book, input: &[u8], n: usize, out: &mut [u8]) -> Block
+fn answer_first(
+    b: Book,
+    lines: [Line; 64],
+    lent: usize,
+    input: &[u8],
+    n: usize,
+    out: &mut [u8],
+) -> Block
     requires { ⌜ n ≤ length (now input) ⌝ }
-    ensures { λ r. ⌜ r .book ≡ blockBook b (take n (now (input .entry))) (length (now (out .entry))) ⌝ }
-    ensures { λ r. ⌜ r .written ≡ blockWritten b (take n (now (input .entry))) (length (now (out .entry))) ⌝ }
-    ensures { λ _. ⌜ now (out .exit) ≡ blockBuffer b (take n (now (input .entry))) (now (out .entry)) ⌝ }
+    ensures { λ r. ⌜ r .book ≡ blockBook b lines lent (take n (now (input .entry))) (length (now (out .entry))) ⌝ }
+    ensures { λ r. ⌜ r .lines ≡ blockLines b lines lent (take n (now (input .entry))) (length (now (out .entry))) ⌝ }
+    ensures { λ r. ⌜ r .lent ≡ lent ⌝ }
+    ensures { λ r. ⌜ r .written ≡ blockWritten b lines lent (take n (now (input .entry))) (length (now (out .entry))) ⌝ }
+    ensures { λ _. ⌜ now (out .exit) ≡ blockBuffer b lines lent (take n (now (input .entry))) (now (out .entry)) ⌝ }
 {
-    batch::answer_block(b, &input[..n], out)
+    batch::answer_block(b, &input[..n], out, lines, lent)
 }
 
 // Reads the book in the first n bytes.
@@ -76,37 +91,72 @@ fn move_front(s: &mut [u8], from: usize, n: usize)
     }
 }
 
-// Answers the records in the first n bytes of input: the whole ones, and at the end of the input one cut short too.
-// Rules out: the book before the records for the one after them, kept bytes lost or left where they were, a record
+// Answers the records in the first n bytes of input: the whole ones, and at the end of the input one cut short too. The lines are
+// handed on from record to record; lent of them are lent to each.
+// Rules out: the book or the lines before the records for those after them, kept bytes lost or left where they were, a record
 // answered before all its bytes have come, a buffer too small for the text, a byte touched after the text or the kept bytes.
-pub fn turn(b: Book, input: &mut [u8; INPUT], n: usize, ended: bool, out: &mut [u8; OUT]) -> Turned
+pub fn turn(
+    b: Book,
+    lines: [Line; 64],
+    lent: usize,
+    input: &mut [u8; INPUT],
+    n: usize,
+    ended: bool,
+    out: &mut [u8; OUT],
+) -> Turned
     ensures { λ r. ⌜ r .done ≡ inside (now (input .entry)) n ⌝ }
-    ensures { λ r. ⌜ r .book ≡ bookAfter b (now (input .entry)) n ended ⌝ }
-    ensures { λ r. ⌜ r .written ≡ writtenAfter b (now (input .entry)) n ended ⌝ }
+    ensures { λ r. ⌜ r .book ≡ bookAfter b lines lent (now (input .entry)) n ended ⌝ }
+    ensures { λ r. ⌜ r .lines ≡ linesAfter b lines lent (now (input .entry)) n ended ⌝ }
+    ensures { λ r. ⌜ r .written ≡ writtenAfter b lines lent (now (input .entry)) n ended ⌝ }
     ensures { λ r. ⌜ r .kept ≡ keptAfter (now (input .entry)) n ended ⌝ }
     ensures { λ _. ⌜ now (input .exit) ≡ inputAfter (now (input .entry)) n ended ⌝ }
-    ensures { λ _. ⌜ now (out .exit) ≡ outAfter b (now (input .entry)) n ended (now (out .entry)) ⌝ }
+    ensures { λ _. ⌜ now (out .exit) ≡ outAfter b lines lent (now (input .entry)) n ended (now (out .entry)) ⌝ }
 {
     if !within(input, n) {
         return Turned {
             done: false,
             book: b,
+            lines: lines,
             written: 0,
             kept: 0,
         };
     }
     let kept = pick(ended, 0, n % RECORD_SIZE);
     let whole = n - kept;
-    let block = answer_first(b, input, whole, out);
+    let block = answer_first(b, lines, lent, input, whole, out);
     let next = block.book;
+    let after = block.lines;
     let written = block.written;
     move_front(input, whole, kept);
     Turned {
         done: true,
         book: next,
+        lines: after,
         written: written,
         kept: kept,
     }
+}
+
+// The lines that a run begins with: a line of zeros for each asset, by value, with blank ones after the last.
+// Rules out: a line that names another asset, a line of a slot past the last asset.
+pub fn zero_lines(b: Book) -> [Line; 64]
+    ensures { λ r. ⌜ r ≡ takenLines (zeroLines b) ⌝ }
+{
+    let n = at_most_64(b.assetcount);
+    let assets = b.assets;
+    let mut lines = [book::blank_line(); 64];
+    let mut i: usize = 0;
+    while i < n {
+        let a = assets[i];
+        let l = Line {
+            content: a.number as u64,
+            times: 0,
+            seconds: 0,
+        };
+        lines[i] = l;
+        i = i + 1;
+    }
+    lines
 }
 
 // The book in rights.rbk, given the first n bytes of the file at the start of image: all of them, or as many as image holds.

@@ -15,7 +15,7 @@ use Rattle.book.specs.declared.Entry.{Entry}
 use Rattle.book.specs.declared.Open.{Open}
 use Rattle.book.specs.Blank.{noEntry, closed}
 use Rattle.model.specs.Book.{limitsAt, metersAt, latestTime, momentary}
-use Rattle.model.specs.Step.{Done, refusal, noneGrantable, unchanged, granted, doContinue, more, doStop}
+use Rattle.model.specs.Step.{Done, refusal, unchanged, granted, doContinue, more, doStop}
 use Rattle.model.specs.Choice.{chosen, grantable, grantUntil, moreUntil}
 use Rattle.model.specs.Meters.{isOn, begun, continued, ended, amend, expired, released}
 use Rattle.uses.specs.declared.Effect.{Effect}
@@ -24,17 +24,18 @@ use Rattle.uses.specs.declared.Effect.{Effect}
 abbrev pub kept : ℕ → Meters → Open → Effect
 kept code m o = record { answer = refusal code; meters = m; current = o }
 
--- what a begin at t leaves of entry i
-abbrev pub begunOn : ℕ → ℕ → Limits → Meters → Open → Effect
-begunOn i t l m o = record {
+-- what a begin at t for an asset leaves of entry i
+abbrev pub begunOn : ℕ → ℕ → ℕ → Limits → Meters → Open → Effect
+begunOn i asset t l m o = record {
   answer = record { code = 0; entry = i; until = grantUntil t l m };
   meters = begun t (grantUntil t l m) l m;
-  current = cond (momentary (l .kind)) o (record { on = 1; entry = i; begin = t; until = grantUntil t l m });
+  current = cond (momentary (l .kind)) o
+      (record { on = 1; entry = i; begin = t; until = grantUntil t l m; content = asset });
 }
 
 -- a begin on entry i
-unfoldable pub beginOn : ℕ → Ask → Limits → Meters → Open → Effect
-beginOn i ask l m o = cond (grantable ask l m && leb (ask .time) latestTime) (begunOn i (ask .time) l m o) (kept noneGrantable m o)
+unfoldable pub beginOn : ℕ → ℕ → Ask → Limits → Meters → Open → Effect
+beginOn i asset ask l m o = cond (grantable ask l m && leb (ask .time) latestTime) (begunOn i asset (ask .time) l m o) (kept 13 m o)
 
 -- whether a continue at t gets more time
 abbrev pub lengthens : ℕ → Limits → Meters → Open → Bool
@@ -47,7 +48,7 @@ continueOn t l m o =
     (record {
       answer = record { code = 0; entry = o .entry; until = moreUntil t (o .until) l m };
       meters = continued (o .until) (moreUntil t (o .until) l m) l m;
-      current = record { on = 1; entry = o .entry; begin = o .begin; until = moreUntil t (o .until) l m };
+      current = record { on = 1; entry = o .entry; begin = o .begin; until = moreUntil t (o .until) l m; content = o .content };
     }))
 
 unfoldable pub stopOn : ℕ → Limits → Meters → Open → Effect
@@ -83,20 +84,20 @@ kept-placed i code es o = ap (λ (x : List Entry). unchanged code x o) (stored-s
 
 -- a grantable entry, at a time that an event may have
 pub begin-on-granted :
-    (i : ℕ) (ask : Ask) (l : Limits) (m : Meters) (o : Open) →
+    (i asset : ℕ) (ask : Ask) (l : Limits) (m : Meters) (o : Open) →
     grantable ask l m ≡ true →
     ask .time ≤ latestTime →
-    beginOn i ask l m o ≡ begunOn i (ask .time) l m o
+    beginOn i asset ask l m o ≡ begunOn i asset (ask .time) l m o
 unfolding beginOn
-begin-on-granted i ask l m o g h = rw (g, le-leb (ask .time) latestTime h)
+begin-on-granted i asset ask l m o g h = rw (g, le-leb (ask .time) latestTime h)
 
 pub begin-placed :
-    (i : ℕ) (ask : Ask) (es : List Entry) (o : Open) →
+    (i asset none : ℕ) (ask : Ask) (es : List Entry) (o : Open) →
     grantable ask (limitsAt es i) (metersAt es i) ≡ true →
     ask .time ≤ latestTime →
-    placed i (beginOn i ask (limitsAt es i) (metersAt es i) o) es ≡ granted (ask .time) es o (chosen i)
+    placed i (beginOn i asset ask (limitsAt es i) (metersAt es i) o) es ≡ granted none (ask .time) asset es o (chosen i)
 unfolding placed stored amend
-begin-placed i ask es o g h = rw (begin-on-granted i ask (limitsAt es i) (metersAt es i) o g h)
+begin-placed i asset none ask es o g h = rw (begin-on-granted i asset ask (limitsAt es i) (metersAt es i) o g h)
 
 continue-cases :
     (on some : Bool) (t : ℕ) (es : List Entry) (o : Open) →
@@ -106,7 +107,7 @@ continue-cases :
     (record {
       answer = record { code = 0; entry = o .entry; until = more es o t };
       meters = continued (o .until) (more es o t) (limitsAt es (o .entry)) (metersAt es (o .entry));
-      current = record { on = 1; entry = o .entry; begin = o .begin; until = more es o t };
+      current = record { on = 1; entry = o .entry; begin = o .begin; until = more es o t; content = o .content };
     })))
     es
     ≡ cond (not on) (unchanged 14 es o)
@@ -114,7 +115,7 @@ continue-cases :
     (record {
       answer = record { code = 0; entry = o .entry; until = more es o t };
       entries = amend (o .entry) (continued (o .until) (more es o t)) es;
-      current = record { on = 1; entry = o .entry; begin = o .begin; until = more es o t };
+      current = record { on = 1; entry = o .entry; begin = o .begin; until = more es o t; content = o .content };
     }))
 unfolding placed stored amend
 continue-cases false some t es o = kept-placed (o .entry) 14 es o

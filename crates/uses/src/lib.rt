@@ -119,12 +119,12 @@ pub fn ended_meters(l: Limits, m: Meters, begin: u32, until: u32, end: u32) -> M
 }
 
 // Neither owner calls it on an entry that is not grantable; it then answers as for a begin that finds none grantable.
-// Rules out: an until past end + 1, a momentary use that opens, a grant that is not metered.
-pub fn begin_on(l: Limits, m: Meters, o: Open, i: u8, ask: Ask) -> Effect
-    ensures { λ r. ⌜ r ≡ beginOn i ask l m o ⌝ }
+// Rules out: an until past end + 1, a momentary use that opens, a grant that is not metered, a use without the content asked for.
+pub fn begin_on(l: Limits, m: Meters, o: Open, i: u8, asset: u16, ask: Ask) -> Effect
+    ensures { λ r. ⌜ r ≡ beginOn i asset ask l m o ⌝ }
 {
     let t = ask.time;
-    let none = begin_code(false, true, true, 64);
+    let none = begin_code(false, true, true, 64, false);
     if !grantable(l, m, ask) {
         return kept(none, m, o);
     }
@@ -138,6 +138,7 @@ pub fn begin_on(l: Limits, m: Meters, o: Open, i: u8, ask: Ask) -> Effect
         entry: i,
         begin: t,
         until: until,
+        content: asset as u32,
     };
     Effect {
         answer: Answer {
@@ -177,6 +178,7 @@ pub fn continue_on(l: Limits, m: Meters, o: Open, t: u32) -> Effect
             entry: o.entry,
             begin: o.begin,
             until: until,
+            content: o.content,
         },
     }
 }
@@ -201,7 +203,7 @@ pub fn stop_on(l: Limits, m: Meters, o: Open, t: u32) -> Effect
 }
 
 // Rules out: until taken as included, a use that is not open.
-fn due(o: Open, t: u32) -> bool
+pub fn due(o: Open, t: u32) -> bool
     ensures { λ r. ⌜ r ≡ expired t o ⌝ }
 {
     (o.on == 1) & (o.until <= t)

@@ -11,9 +11,9 @@ use Rattle.book.specs.declared.Book.{Book}
 use Rattle.model.specs.Book.{assetsIn, entriesIn, flagged}
 use Rattle.model.specs.Choice.{groundsOf, groundList, grantable}
 
--- how many assets and entries there are, and the book's time
+-- how many assets and entries there are, the book's time, and its switch
 unfoldable pub bookValues : Book → List ℕ
-bookValues b = assetsIn b ∷ entriesIn b ∷ b .time ∷ []
+bookValues b = assetsIn b ∷ entriesIn b ∷ b .time ∷ b .switch ∷ []
 
 -- no event comes before the book's time, so nothing is viewed before it
 abbrev pub viewTime : ℕ → ℕ → ℕ
@@ -27,19 +27,20 @@ abbrev pub left : Bool → ℕ → ℕ → ℕ
 left flag most used = cond flag (most - used) unlimited
 
 -- a view asks for no player; no limit of an entry reads who asks
-abbrev pub viewAsk : ℕ → Ask
-viewAsk t = record { player = 0; time = t }
+abbrev pub viewAsk : ℕ → ℕ → Ask
+viewAsk t switch = record { player = 0; time = t; switch = switch }
 
--- for an entry at t: whether it is "**Grantable** at t" by its own limits (1 or 0), and what is left of its count, its timed
--- count and its seconds
-unfoldable pub leftValues : ℕ → Entry → List ℕ
-leftValues t e =
-    one (grantable (viewAsk t) (e .limits) (e .meters))
+-- for an entry at t, under the book's switch: whether it is "**Grantable** at t" by its own limits (1 or 0), and what is left of its
+-- count, its timed count and its seconds
+unfoldable pub leftValues : ℕ → ℕ → Entry → List ℕ
+leftValues t switch e =
+    one (grantable (viewAsk t switch) (e .limits) (e .meters))
     ∷ left (flagged 1 (e .limits)) (e .limits .count) (e .meters .count)
     ∷ left (flagged 2 (e .limits)) (e .limits .timed) (e .meters .timed)
     ∷ left (flagged 32 (e .limits)) (e .limits .accumulated) (e .meters .seconds)
     ∷ []
 
--- the grounds against an entry, for who asks and when, in the order of document 01's words: 1 for one that stands, otherwise 0
+-- the grounds against an entry, for who asks and when, in the order of document 01's words, order 3's last: 1 for one that stands,
+-- otherwise 0
 unfoldable pub groundValues : Ask → Entry → List ℕ
 groundValues ask e = map one (groundList (groundsOf ask (e .limits) (e .meters)))

@@ -20,14 +20,14 @@ use rules::grounds_of;
 // What is left where there is no limit.
 const UNLIMITED: u32 = u32::MAX;
 
-// How many assets and entries, and the time.
+// How many assets and entries, the time, and the switch.
 // Rules out: the two counts swapped.
-pub fn book_values(b: Book) -> [u32; 3]
+pub fn book_values(b: Book) -> [u32; 4]
     ensures { λ r. ⌜ r ≡ bookValues b ⌝ }
 {
     let assets = at_most_64(b.assetcount);
     let entries = at_most_64(b.entrycount);
-    [assets as u32, entries as u32, b.time]
+    [assets as u32, entries as u32, b.time, b.switch]
 }
 
 // Rules out: number and inherit swapped.
@@ -38,7 +38,7 @@ pub fn asset_values(a: Asset) -> [u32; 3]
 }
 
 // Rules out: a limit and its meter swapped, a field left out.
-pub fn entry_values(e: Entry) -> [u32; 16]
+pub fn entry_values(e: Entry) -> [u32; 19]
     ensures { λ r. ⌜ r ≡ entryValues e ⌝ }
 {
     let l = e.limits;
@@ -60,11 +60,14 @@ pub fn entry_values(e: Entry) -> [u32; 16]
         m.first,
         m.seconds,
         m.started as u32,
+        l.tracked,
+        l.timedvalue,
+        l.mark,
     ]
 }
 
 // Rules out: the answer's until for the open use's.
-pub fn player_values(p: Player) -> [u32; 11]
+pub fn player_values(p: Player) -> [u32; 12]
     ensures { λ r. ⌜ r ≡ playerValues p ⌝ }
 {
     let l = p.last;
@@ -82,6 +85,7 @@ pub fn player_values(p: Player) -> [u32; 11]
         o.entry as u32,
         o.begin,
         o.until,
+        o.content,
     ]
 }
 
@@ -107,10 +111,10 @@ fn left_of(flag: bool, most: u32, used: u32) -> u32
     pick32(flag, saturating_sub(most, used), UNLIMITED)
 }
 
-// What is left of an entry at a time when no use is due any more.
+// What is left of an entry at a time when no use is due any more, under the book's switch.
 // Rules out: what is used for what is left, an entry out of its dates reported as grantable.
-pub fn left_values(e: Entry, time: u32) -> [u32; 4]
-    ensures { λ r. ⌜ r ≡ leftValues time e ⌝ }
+pub fn left_values(e: Entry, time: u32, switch: u32) -> [u32; 4]
+    ensures { λ r. ⌜ r ≡ leftValues time switch e ⌝ }
 {
     let l = e.limits;
     let m = e.meters;
@@ -118,6 +122,7 @@ pub fn left_values(e: Entry, time: u32) -> [u32; 4]
     let ask = Ask {
         player: 0,
         time: time,
+        switch: switch,
     };
     let able = number(grantable(l, m, ask));
     [
@@ -129,9 +134,9 @@ pub fn left_values(e: Entry, time: u32) -> [u32; 4]
 }
 
 // What stands against granting an entry to who asks, at a time when no use is due any more: 1 for a ground that stands, otherwise 0,
-// in the order of document 01's words.
+// in the order of document 01's words, the switch last.
 // Rules out: two grounds swapped, a ground that is reported only where no other stands.
-pub fn ground_values(e: Entry, ask: Ask) -> [u32; 7]
+pub fn ground_values(e: Entry, ask: Ask) -> [u32; 8]
     ensures { λ r. ⌜ r ≡ groundValues ask e ⌝ }
 {
     let l = e.limits;
@@ -145,5 +150,6 @@ pub fn ground_values(e: Entry, ask: Ask) -> [u32; 7]
         number(g.intervalover),
         number(g.secondsspent),
         number(g.intervalzero),
+        number(g.switchoff),
     ]
 }

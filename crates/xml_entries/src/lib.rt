@@ -123,7 +123,7 @@ fn entry_legal(kind: u8, st: State, i: usize) -> bool
     let b = st.book;
     let assets = b.assets;
     let n = at_most_64(b.assetcount);
-    let known = asset_position(assets, n, asset_for(st, i)) < n;
+    let known = asset_position(assets, n, asset_for(st, i) as u32) < n;
     limits_legal(known, limits_for(kind, st, i))
 }
 

@@ -9,6 +9,7 @@ use lib.Dec.{leb}
 use borrow.Author.Tests.{eq-eqb, ne-eqb}
 use Rattle.model.specs.Image.{lengthOf, writeAnswer, writeBuffer}
 use Rattle.model.proofs.Image.RoundTrip.{demand2}
+use Rattle.fill.specs.Fill.{noRoom}
 use Rattle.xml_model.specs.declared.Reading.{Reading}
 use Rattle.xml_image.specs.declared.Imported.{Imported}
 use Rattle.xml_image.specs.Imported.{importCode, importedFrom, bufferFrom}
@@ -29,11 +30,11 @@ module _ (r : Reading) where
   unfolding bufferFrom
   buffer old z = rw (eq-eqb _ _ z)
 
-  pub short : (room : ℕ) → r .code ≡ 0 → writeAnswer (r .book) room ≡ 30 → nothing 30 ≡ importedFrom r room
+  pub short : (room : ℕ) → r .code ≡ 0 → writeAnswer (r .book) room ≡ 30 → nothing noRoom ≡ importedFrom r room
   unfolding importedFrom importCode writeAnswer
   short room z = by (leb (lengthOf (r .book)) room) refl
     where
-      by : (b : Bool) → leb (lengthOf (r .book)) room ≡ b → cond b (lengthOf (r .book)) 30 ≡ 30 → nothing 30 ≡ importedFrom r room
+      by : (b : Bool) → leb (lengthOf (r .book)) room ≡ b → cond b (lengthOf (r .book)) 30 ≡ 30 → nothing noRoom ≡ importedFrom r room
       by true q e = absurd (omega (arith, demand2 .lengthBounds (r .book) .0))
       by false q e = rw (eq-eqb _ _ z, q)
 

@@ -5,13 +5,14 @@ use mathlib.Core.List.{List}
 use lib.ListN.{length}
 use lib.Dec.{eqb, leb}
 use Rattle.model.specs.Image.{lengthOf, writeBuffer}
+use Rattle.fill.specs.Fill.{noRoom}
 use Rattle.xml_model.specs.declared.Reading.{Reading}
 use Rattle.xml_model.specs.Text.{readingOf}
 use Rattle.xml_image.specs.declared.Imported.{Imported}
 
 -- the code of the text; 30 if that is 0 and the buffer has too little room for the image
 unfoldable pub importCode : Reading → ℕ → ℕ
-importCode r room = cond (eqb (r .code) 0) (cond (leb (lengthOf (r .book)) room) 0 30) (r .code)
+importCode r room = cond (eqb (r .code) 0) (cond (leb (lengthOf (r .book)) room) 0 noRoom) (r .code)
 
 -- the code with the number of elements and the image's length; no numbers with another code than 0
 unfoldable pub importedFrom : Reading → ℕ → Imported

@@ -2,6 +2,7 @@
 ghost use mathlib.Core.Path.{_≡_};
 ghost use lib.ListN.{length};
 ghost use Rattle.xml_image.specs.Imported.{importedFrom, bufferFrom, imported, importBuffer};
+use fill::NO_ROOM;
 use xml_model::Reading;
 
 pub struct Imported {
@@ -26,7 +27,7 @@ fn put(r: Reading, image: &mut [u8]) -> Imported
     let n = image_write::write(b, image);
     if n == 30 {
         return Imported {
-            code: 30,
+            code: NO_ROOM,
             elements: 0,
             length: 0,
         };

@@ -22,7 +22,7 @@ use Rattle.book.specs.declared.Book.{Book}
 use Rattle.book.specs.Blank.{noAsset, noMeters, noEntry, noPlayer}
 use Rattle.model.specs.Book.{assetAt, limitsAt, metersAt, playerAt, assetsIn, entriesIn, assetPosition, inBook, between}
 use Rattle.model.specs.Book.{assetLegal, assetsLegal, limitsLegal, entriesLegal, playerBlank, playerLegal}
-use Rattle.model.specs.Book.{opens, lasts, openUses, openSeconds, ruleBroken, Legal, Fresh}
+use Rattle.model.specs.Book.{switchLegal, opens, lasts, openUses, openSeconds, ruleBroken, Legal, Fresh}
 use Rattle.model.specs.Image.{newest, assetWidths, assetValues, entryWidths, entryValues, playerWidths, Typed}
 use Rattle.model.proofs.Ledger.WellFormed.{limit-most, ranges-tests, limits-tests}
 use Rattle.model.proofs.Demand3.Suitable.{first-found as first-holds}
@@ -30,6 +30,7 @@ use Rattle.model.proofs.Legal.Renewed.{unused-meters}
 use Rattle.model.proofs.Legal.Facts.{all-of, sum-same}
 use Rattle.model.proofs.Legal.Rules.{lawfulIn, playerPasses, meter-to, stages-from, stages-to, entries-counted}
 use Rattle.xml_model.specs.declared.State.{State}
+use Rattle.xml_model.specs.Import.{Untracked, Unmetered}
 use Rattle.xml_model.specs.State.{withOneAsset, howMany, assetFor, limitsFor, forAsset, kindLegal, filled, withEntries}
 
 -- a number of an asset that fits its type. The rules bound the number of each asset, but not the number that it inherits from.
@@ -65,11 +66,12 @@ blank-passes : (b : Book) → playerPasses b noPlayer ≡ true
 unfolding playerLegal playerBlank
 blank-passes b = refl
 
-fresh-rules : (b : Book) → Fresh b → assetsLegal b ≡ true → entriesLegal b ≡ true → ruleBroken b ≡ 0
-fresh-rules b h a e =
+fresh-rules : (b : Book) → Fresh b → switchLegal b ≡ true → assetsLegal b ≡ true → entriesLegal b ≡ true → ruleBroken b ≡ 0
+fresh-rules b h w a e =
     stages-to b (record {
       assets = a;
       entries = e;
+      switch = w;
       players = λ p k. subst (λ (x : Player). playerPasses b x ≡ true) (sym (h .players p)) (blank-passes b);
       meters = λ i k. meter-to b i
           (rw (h .meters i, no-uses b h i, no-seconds b h i) (unused-meters (b .time) (limitsAt (b .entries) i)));
@@ -166,6 +168,14 @@ module _ (b : Book) (a : Asset) (h : Legal b) (room : assetsIn b < 64)
   unfolding withOneAsset
   asset-fresh f = record { time = f .time; meters = f .meters; players = f .players }
 
+  pub asset-unmetered : Unmetered b → Unmetered new
+  unfolding withOneAsset
+  asset-unmetered u = record { switch = u .switch; entries = u .entries }
+
+  switch-new : switchLegal new ≡ true
+  unfolding withOneAsset switchLegal
+  switch-new = stages-from b (h .rules) .switch
+
   assets-new : assetsLegal new ≡ true
   unfolding assetsLegal
   assets-new = rw grown (all-of (λ i. assetLegal (new .assets) (suc n) i (assetAt (new .assets) i)) (suc n) assets-legal)
@@ -187,7 +197,7 @@ module _ (b : Book) (a : Asset) (h : Legal b) (room : assetsIn b < 64)
     time = h .time;
     assetsBlank = λ i l. old-asset i (λ e. omega (arith, e, l)) ∙ h .assetsBlank i (omega (arith, assets-counted b h, l));
     entriesBlank = h .entriesBlank;
-    rules = fresh-rules new (asset-fresh f) assets-new entries-new;
+    rules = fresh-rules new (asset-fresh f) switch-new assets-new entries-new;
   }
 
   pub asset-inherits : ((i : ℕ) → Small (assetAt (b .assets) i .inherit)) → Small (a .inherit)
@@ -260,6 +270,25 @@ module _ (kind : ℕ) (st : State) (h : Legal (st .book)) (f : Fresh (st .book))
   unfolding withEntries
   entries-fresh = record { time = f .time; meters = all-unused; players = f .players }
 
+  new-untracked : Untracked (st .limits) → (i : ℕ) → Untracked (limitsFor kind st i)
+  unfolding limitsFor forAsset
+  new-untracked own i = own
+
+  pub entries-unmetered : Untracked (st .limits) → Unmetered held → Unmetered more
+  unfolding withEntries
+  entries-unmetered own u = record {
+    switch = u .switch;
+    entries = λ i.
+        below-or-not i (entriesIn held + howMany st)
+        (filled-each one-of (entriesIn held) (held .entries) (λ e. Untracked (e .limits)) (λ j l. u .entries j) (howMany st)
+        (omega (arith, room, h .entrySlots)) (λ j l. new-untracked own j) i)
+        (λ l. rw (filled-behind one-of (entriesIn held) (held .entries) (howMany st) i l) (u .entries i));
+  }
+
+  switch-same : switchLegal more ≡ true
+  unfolding withEntries switchLegal
+  switch-same = stages-from held (h .rules) .switch
+
   assets-same : assetsLegal more ≡ true
   unfolding withEntries assetsLegal assetsIn
   assets-same = stages-from held (h .rules) .assets
@@ -281,7 +310,7 @@ module _ (kind : ℕ) (st : State) (h : Legal (st .book)) (f : Fresh (st .book))
     assetsBlank = h .assetsBlank;
     entriesBlank = λ i l. filled-behind one-of (entriesIn held) (held .entries) (howMany st) i l
         ∙ h .entriesBlank i (omega (arith, entries-counted held h, l));
-    rules = fresh-rules more entries-fresh assets-same entries-lawful;
+    rules = fresh-rules more entries-fresh switch-same assets-same entries-lawful;
   }
 
 -- ## The numbers of a fresh and legal book fit their types
@@ -289,9 +318,9 @@ module _ (kind : ℕ) (st : State) (h : Legal (st .book)) (f : Fresh (st .book))
 between-most : (a z v : ℕ) → between a z v ≡ true → v ≤ z
 between-most a z v e = leb-true v z (and-right (leb a v) (leb v z) e)
 
-limits-fit : (known : Bool) (l : Limits) → limitsLegal known l ≡ true → Small (l .asset)
+limits-fit : (known : Bool) (l : Limits) → limitsLegal known l ≡ true → Small (l .asset) → Untracked l
     → Fit (entryWidths newest) (entryValues (record { limits = l; meters = noMeters }))
-limits-fit known l e a =
+limits-fit known l e a u =
     let t = limits-tests known l e in
     let r = ranges-tests l (t .1 .1 .1 .1 .0) in
     omega (
@@ -307,6 +336,9 @@ limits-fit known l e a =
       limit-most _ _ (l .end) (r .1 .1 .1 .1 .0),
       limit-most _ _ (l .interval) (r .1 .1 .1 .1 .1 .0),
       limit-most _ _ (l .accumulated) (r .1 .1 .1 .1 .1 .1 .0),
+      u .0,
+      u .1,
+      u .2,
     )
 
 module _ (b : Book) (h : Legal b) where
@@ -334,20 +366,20 @@ module _ (b : Book) (h : Legal b) where
       omega (arith, inherit, number-small i l, leb-true (assetAt (b .assets) i .key) 1 (t .1 .1 .0)))
       (λ l. rw (h .assetsBlank i (omega (arith, assets-counted b h, l))) (zeros-fit (assetWidths newest)))
 
-  entry-fits : Fresh b → (i : ℕ) → Fit (entryWidths newest) (entryValues (getD (b .entries) i noEntry))
-  entry-fits f i =
+  entry-fits : Fresh b → Unmetered b → (i : ℕ) → Fit (entryWidths newest) (entryValues (getD (b .entries) i noEntry))
+  entry-fits f u i =
       below-or-not i (entriesIn b)
       (λ l.
       let t = lawful-at b h i l in
       let known = inBook b (limitsAt (b .entries) i .asset) in
       rw (f .meters i)
-      (limits-fit known (limitsAt (b .entries) i) t (in-small _ (limits-tests known (limitsAt (b .entries) i) t .1 .0))))
+      (limits-fit known (limitsAt (b .entries) i) t (in-small _ (limits-tests known (limitsAt (b .entries) i) t .1 .0)) (u .entries i)))
       (λ l. rw (h .entriesBlank i (omega (arith, entries-counted b h, l))) (zeros-fit (entryWidths newest)))
 
-  pub fresh-typed : Fresh b → ((i : ℕ) → Small (assetAt (b .assets) i .inherit)) → Typed b
-  fresh-typed f inherits = record {
-    header = tt;
+  pub fresh-typed : Fresh b → Unmetered b → ((i : ℕ) → Small (assetAt (b .assets) i .inherit)) → Typed b
+  fresh-typed f u inherits = record {
+    header = omega (arith, u .switch);
     assets = λ i. asset-fits i (inherits i);
-    entries = entry-fits f;
+    entries = entry-fits f u;
     players = λ p. rw (f .players p) (zeros-fit (playerWidths newest));
   }

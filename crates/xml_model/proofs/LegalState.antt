@@ -11,8 +11,9 @@ use borrow.Author.Tests.{eqb-true, ltb-true, ltb-false, leb-true, leb-false, not
 use Rattle.numbers.proofs.TableLaws.{blanks}
 use Rattle.numbers.proofs.Tests.{and-right}
 use Rattle.book.specs.declared.Asset.{Asset}
+use Rattle.book.specs.declared.Limits.{Limits}
 use Rattle.book.specs.declared.Book.{Book}
-use Rattle.book.specs.Blank.{noAsset}
+use Rattle.book.specs.Blank.{noAsset, noEntry}
 use Rattle.model.specs.Book.{assetAt, assetsIn, entriesIn, between, assetLegal, mostTimes, Legal, Fresh}
 use Rattle.model.proofs.Examples.Books.{noBook-legal, noBook-fresh}
 use Rattle.xml_model.specs.declared.Range.{Range}
@@ -28,24 +29,28 @@ use Rattle.xml_model.specs.Elements.{isKind, kindsFrom, holdsText, close
 use Rattle.xml_model.specs.Values.{valueIf, numberOf, isNumber, numberIn, uidOf, valueOf}
 use Rattle.xml_model.specs.State.{blank, withElements, withIds, withAsset, withReferences, withLimits, withBook, ok, no, andThen}
 use Rattle.xml_model.specs.State.{counted, idsIn, idPosition, isGiven, newId, assetNamed, begun, withIdref, withTimerOf, opening}
+use Rattle.xml_model.specs.State.{objectAlone, withTimer, withLimit}
 use Rattle.xml_model.specs.State.{stored, textDone, keyDone, withOneAsset, assetDone, howMany, kindLegal}
 use Rattle.xml_model.specs.State.{withEntries, kindDone, containerDone, closing}
-use Rattle.xml_model.specs.Import.{Code, accepted, not-accepted, too-much}
-use Rattle.xml_model.proofs.LegalBook.{Small, asset-fresh, asset-legal, asset-inherits, entries-fresh, entries-legal}
+use Rattle.xml_model.specs.Import.{Code, accepted, not-accepted, too-much, Untracked, Unmetered}
+use Rattle.xml_model.proofs.LegalBook.{Small, asset-fresh, asset-legal, asset-unmetered, asset-inherits}
+use Rattle.xml_model.proofs.LegalBook.{entries-fresh, entries-legal, entries-unmetered}
 use Rattle.xml_model.proofs.LegalCodes.{on-cond}
 
 -- ## What is kept
 
--- of the book so far, and of the open asset and the number of elements
-pub record Kept (b : Book) (inherit elements : ℕ) : Type 0 where
+-- of the book so far, and of the open limits, the open asset and the number of elements
+pub record Kept (b : Book) (l : Limits) (inherit elements : ℕ) : Type 0 where
   pub fresh : Fresh b
   pub legal : Legal b
+  pub unmetered : Unmetered b
+  pub untracked : Untracked l
   pub inherits : (i : ℕ) → Small (assetAt (b .assets) i .inherit)
   pub open-inherit : Small inherit
   pub most : elements ≤ 256
 
 abbrev pub Good : State → Type 0
-Good st = Kept (st .book) (st .asset .inherit) (st .elements)
+Good st = Kept (st .book) (st .limits) (st .asset .inherit) (st .elements)
 
 -- a step: its code is one of the four, and "nothing is stored, 0 elements reported" if it is not 0
 pub record Sound (c : ℕ) (st : State) : Type 0 where
@@ -61,6 +66,8 @@ unfolding blank
 blank-good = record {
   fresh = noBook-fresh;
   legal = noBook-legal;
+  unmetered = record { switch = refl; entries = λ i. rw (blanks 64 i noEntry) (refl, refl, refl) };
+  untracked = (refl, refl, refl);
   inherits = λ i. rw (blanks 64 i noAsset) (omega arith);
   open-inherit = omega arith;
   most = omega arith;
@@ -93,13 +100,42 @@ refused = no-sound 41 (not-accepted refl)
 -- another open asset
 asset-good : (a : Asset) (i : ℕ) (st : State) → Good st → Small (a .inherit) → Good (withAsset a i st)
 unfolding withAsset
-asset-good a i st g k = record { fresh = g .fresh; legal = g .legal; inherits = g .inherits; open-inherit = k; most = g .most }
+asset-good a i st g k = record {
+  fresh = g .fresh;
+  legal = g .legal;
+  unmetered = g .unmetered;
+  untracked = g .untracked;
+  inherits = g .inherits;
+  open-inherit = k;
+  most = g .most;
+}
+
+-- other open limits
+limits-good : (l : Limits) (st : State) → Good st → Untracked l → Good (withLimits l st)
+unfolding withLimits
+limits-good l st g k = record {
+  fresh = g .fresh;
+  legal = g .legal;
+  unmetered = g .unmetered;
+  untracked = k;
+  inherits = g .inherits;
+  open-inherit = g .open-inherit;
+  most = g .most;
+}
 
 -- another book
-book-good : (b : Book) (st : State) → Good st → Fresh b → Legal b → ((i : ℕ) → Small (assetAt (b .assets) i .inherit))
+book-good : (b : Book) (st : State) → Good st → Fresh b → Legal b → Unmetered b → ((i : ℕ) → Small (assetAt (b .assets) i .inherit))
     → Good (withBook b st)
 unfolding withBook
-book-good b st g f l k = record { fresh = f; legal = l; inherits = k; open-inherit = g .open-inherit; most = g .most }
+book-good b st g f l u k = record {
+  fresh = f;
+  legal = l;
+  unmetered = u;
+  untracked = g .untracked;
+  inherits = k;
+  open-inherit = g .open-inherit;
+  most = g .most;
+}
 
 -- "at most 256"
 pub counted-sound : (st : State) → Good st → SoundDone (counted st)
@@ -109,6 +145,8 @@ counted-sound st g =
     (λ q. ok-sound (withElements (st .elements + 1) st) (record {
       fresh = g .fresh;
       legal = g .legal;
+      unmetered = g .unmetered;
+      untracked = g .untracked;
       inherits = g .inherits;
       open-inherit = g .open-inherit;
       most = omega (arith, ltb-true (st .elements) 256 q);
@@ -118,13 +156,13 @@ counted-sound st g =
 -- ## Opening
 
 begun-good : (role : ℕ) (r : Range) (st : State) → Good st → Good (begun role r st)
-unfolding begun withReferences withLimits
+unfolding begun withReferences objectAlone
 begun-good role r st g =
     on-cond Good (eqb role assetRole) _ _
     (λ q. asset-good noAsset _ st g (omega arith))
     (λ q. on-cond Good (eqb role permissionRole) _ _
     (λ w. g)
-    (λ w. on-cond Good (isKind role) _ _ (λ z. g) (λ z. g)))
+    (λ w. on-cond Good (isKind role) _ _ (λ z. limits-good _ st g (refl, refl, refl)) (λ z. g)))
 
 id-sound : (s : List ℕ) (r : Range) (st : State) → Good st → SoundDone (newId s r st)
 unfolding newId withIds
@@ -145,11 +183,11 @@ idref-sound s r role st g =
     (λ w. ok-sound st g))
 
 timer-sound : (s : List ℕ) (r : Range) (role : ℕ) (st : State) → Good st → SoundDone (withTimerOf s r role st)
-unfolding withTimerOf withLimits
+unfolding withTimerOf withTimer
 timer-sound s r role st g =
     on-cond SoundDone (eqb role timedCountRole && isGiven r) _ _
     (λ q. on-cond SoundDone (numberIn 0 mostTimes (part s (r .from) (r .to)) .valid) _ _
-    (λ w. ok-sound _ g) (λ w. refused))
+    (λ w. ok-sound _ (limits-good _ st g (g .untracked))) (λ w. refused))
     (λ q. ok-sound st g)
 
 pub opening-sound : (s : List ℕ) (t : Tag) (role : ℕ) (st : State) → Good st → SoundDone (opening s t role st)
@@ -187,17 +225,17 @@ unfolding valueOf
 value-small role v e = rw e (uid-small v)
 
 stored-good : (role x : ℕ) (st : State) → Good st → (role ≡ inheritUidRole → Small x) → Good (stored role x st)
-unfolding stored withLimits
+unfolding stored objectAlone withLimit
 stored-good role x st g k =
     on-cond Good (eqb role versionRole) _ _
     (λ q. g)
     (λ q. on-cond Good (eqb role objectUidRole) _ _
-    (λ w. g)
+    (λ w. limits-good _ st g (refl, refl, refl))
     (λ w. on-cond Good (eqb role assetUidRole) _ _
     (λ y. asset-good _ _ st g (g .open-inherit))
     (λ y. on-cond Good (eqb role inheritUidRole) _ _
     (λ z. asset-good _ _ st g (k (eqb-true role inheritUidRole z)))
-    (λ z. g))))
+    (λ z. limits-good _ st g (g .untracked)))))
 
 text-sound : (role : ℕ) (v : List ℕ) (st : State) → Good st → SoundDone (textDone role v st)
 unfolding textDone
@@ -225,6 +263,7 @@ asset-sound st g =
     ok-sound _ (book-good (withOneAsset (st .asset) b) st g
     (asset-fresh b (st .asset) (g .legal) room test (g .fresh))
     (asset-legal b (st .asset) (g .legal) room test (g .fresh))
+    (asset-unmetered b (st .asset) (g .legal) room test (g .unmetered))
     (asset-inherits b (st .asset) (g .legal) room test (g .inherits) (g .open-inherit)))))
 
 kind-sound : (kind : ℕ) (st : State) → Good st → SoundDone (kindDone kind st)
@@ -240,6 +279,7 @@ kind-sound kind st g =
     ok-sound _ (book-good (withEntries kind st (st .book)) st g
     (entries-fresh kind st (g .legal) (g .fresh) room test)
     (entries-legal kind st (g .legal) (g .fresh) room test)
+    (entries-unmetered kind st (g .legal) (g .fresh) room test (g .untracked) (g .unmetered))
     (g .inherits))))
 
 container-sound : (role : ℕ) (st : State) → Good st → SoundDone (containerDone role st)

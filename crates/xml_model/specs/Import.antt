@@ -6,9 +6,10 @@ use mathlib.Core.List.{List, _++_}
 use lib.ListN.{length, take}
 use lib.Dec.{eqb, ltb}
 use Rattle.numbers.specs.Count.{sum, one}
+use Rattle.book.specs.declared.Limits.{Limits}
 use Rattle.book.specs.declared.Book.{Book}
 use Rattle.book.specs.Blank.{noBook}
-use Rattle.model.specs.Book.{Legal, Fresh}
+use Rattle.model.specs.Book.{limitsAt, Legal, Fresh}
 use Rattle.model.specs.Image.{Typed, Bytes, image, readCode, readBook}
 use Rattle.model.specs.Demand3.{Demand3}
 use Rattle.xml_model.specs.Bytes.{byteAt}
@@ -27,6 +28,14 @@ pub record Agree (s z : List ℕ) (n : ℕ) : Type 0 where
   pub bytes : (i : ℕ) → i < n → byteAt s i ≡ byteAt z i
   pub ends : (i : ℕ) → i < n → ltb i (length s) ≡ ltb i (length z)
 
+-- A text tells nothing of order 3: an entry is not tracked, and the switch is off.
+abbrev pub Untracked : Limits → Type 0
+Untracked l = (l .tracked ≡ 0) × (l .timedvalue ≡ 0) × (l .mark ≡ 0)
+
+pub record Unmetered (b : Book) : Type 0 where
+  pub switch : b .switch ≡ 0
+  pub entries : (i : ℕ) → Untracked (limitsAt (b .entries) i)
+
 pub record Import : Type 0 where
   -- no other answer
   pub answers : (s : List ℕ) → Code (readingOf s .code)
@@ -42,6 +51,8 @@ pub record Import : Type 0 where
   pub legal : (s : List ℕ) → Legal (readingOf s .book)
   pub typed : (s : List ℕ) → Typed (readingOf s .book)
   pub demand3 : (s : List ℕ) → Demand3 (readingOf s .book)
+  -- with the switch off and no entry tracked, order 3 changes nothing of what is read
+  pub unmetered : (s : List ℕ) → Unmetered (readingOf s .book)
   -- its image is accepted and read back as the same book, whatever book was held before
   pub readsBack : (held : Book) (s : List ℕ)
       → (readCode (image (readingOf s .book)) ≡ 0) × (readBook held (image (readingOf s .book)) ≡ readingOf s .book)

@@ -195,6 +195,9 @@ objectAlone x = record {
   end = 0;
   interval = 0;
   accumulated = 0;
+  tracked = 0;
+  timedvalue = 0;
+  mark = 0;
 }
 
 unfoldable pub withTimer : ℕ → Limits → Limits
@@ -210,6 +213,9 @@ withTimer x l = record {
   end = l .end;
   interval = l .interval;
   accumulated = l .accumulated;
+  tracked = l .tracked;
+  timedvalue = l .timedvalue;
+  mark = l .mark;
 }
 
 unfoldable pub flagOf : ℕ → ℕ
@@ -239,6 +245,9 @@ withLimit role x l = record {
   end = cond (eqb role endRole) x (l .end);
   interval = cond (eqb role intervalRole) x (l .interval);
   accumulated = cond (eqb role accumulatedRole) x (l .accumulated);
+  tracked = l .tracked;
+  timedvalue = l .timedvalue;
+  mark = l .mark;
 }
 
 -- the limits for an asset, as an entry of that kind
@@ -255,6 +264,9 @@ forAsset kind asset l = record {
   end = l .end;
   interval = l .interval;
   accumulated = l .accumulated;
+  tracked = l .tracked;
+  timedvalue = l .timedvalue;
+  mark = l .mark;
 }
 
 -- ## Opening
@@ -320,6 +332,7 @@ keyDone st = withAsset (record { number = st .asset .number; inherit = st .asset
 unfoldable pub withOneAsset : Asset → Book → Book
 withOneAsset a b = record {
   time = b .time;
+  switch = b .switch;
   assetcount = assetsIn b + 1;
   entrycount = b .entrycount;
   assets = set (b .assets) (assetsIn b) a;
@@ -362,6 +375,7 @@ filled f n (suc k) es = set (filled f n k es) (n + k) (f k)
 unfoldable pub withEntries : ℕ → State → Book → Book
 withEntries kind st b = record {
   time = b .time;
+  switch = b .switch;
   assetcount = b .assetcount;
   entrycount = entriesIn b + howMany st;
   assets = b .assets;

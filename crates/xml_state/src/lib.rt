@@ -139,6 +139,9 @@ fn object_alone(x: u16) -> Limits
         end: 0,
         interval: 0,
         accumulated: 0,
+        tracked: 0,
+        timedvalue: 0,
+        mark: 0,
     }
 }
 
@@ -199,6 +202,9 @@ fn with_limit(role: u8, x: u32, l: Limits) -> Limits
         end: pick32(role == END, x, l.end),
         interval: pick32(role == INTERVAL, x, l.interval),
         accumulated: pick32(role == ACCUMULATED, x, l.accumulated),
+        tracked: l.tracked,
+        timedvalue: l.timedvalue,
+        mark: l.mark,
     }
 }
 

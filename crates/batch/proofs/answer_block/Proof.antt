@@ -3,34 +3,39 @@
 use Prim.Native.Nat.{ℕ, _+_, _*_, _-_, _/_, _%_, _<_, _≤_, min}
 use mathlib.Core.Path.{_≡_, refl, sym, ap, ap₂, subst, _∙_}
 use mathlib.Core.Logic.{⊎-elim}
-use mathlib.Core.Bool.{true, false}
+use mathlib.Core.Bool.{Bool, true, false}
 use mathlib.Core.List.{List, [], map}
 use native.Mathlib.Omega.{arith}
 use native.Mathlib.Nat.{min-le-right}
 use borrow.Author.Needs.{needs}
-use borrow.Author.Tests.{le-leb, lt-leb}
+use borrow.Author.Tests.{le-leb, lt-leb, ne-eqb}
 use lib.ListN.{length, getD, set, take, length-set, List·getD-eq-default}
 use lib.Seq.{set-out}
-use lib.Dec.{leb, ltb}
+use lib.Dec.{leb, ltb, eqb}
 use Rattle.numbers.proofs.Loops.{length-mapped}
 use Rattle.book.specs.declared.Answer.{Answer}
+use Rattle.book.specs.declared.Asset.{Asset}
 use Rattle.book.specs.declared.Last.{Last}
+use Rattle.book.specs.declared.Line.{Line}
 use Rattle.book.specs.declared.Book.{Book}
 use Rattle.book.specs.declared.Entry.{Entry}
 use Rattle.book.specs.declared.Event.{Event}
 use Rattle.book.specs.declared.Kind.{Kind}
 use Rattle.book.specs.declared.Request.{Request}
 use Rattle.book.specs.declared.Request.the-variants.{Begin}
+use Rattle.book.specs.declared.Decoded.{Decoded}
 use Rattle.book.specs.declared.Decoded.the-variants.{Valid}
 use Rattle.book.specs.declared.Player.{Player}
 use Rattle.book.specs.declared.Meters.{Meters}
 use Rattle.book.specs.declared.Open.{Open}
+use Rattle.book.specs.declared.Outcome.{Outcome}
 use Rattle.book.specs.Blank.{noEntry}
 use Rattle.book.specs.Changed.{changed}
 use Rattle.model.specs.Book.{limitsAt, metersAt, playerAt, latestTime}
 use Rattle.model.specs.Choice.{asks, noEnd, chooseOf, anyOf}
 use Rattle.model.specs.Record.{decoded}
-use Rattle.model.specs.Step.{stepRecord, openAt}
+use Rattle.model.specs.Step.{arrive, openAt}
+use Rattle.model.specs.Report.{lineAt, raised, overdue, recordedAll, endedBy, linesRead}
 use Rattle.model.specs.Meters.{isOn, released, shut, expired}
 use Rattle.model.specs.Run.{recordCount, recordAt}
 use Rattle.rules.specs.Rules.{wireOf}
@@ -38,7 +43,7 @@ use Rattle.choice.specs.declared.Best.{Best}
 use Rattle.choice.specs.declared.Row.{Row}
 use Rattle.rules.specs.Codes.{beginCode}
 use Rattle.choice.specs.Best.{bestAfter, choiceAfter, considered, best-turn}
-use Rattle.choice.specs.Row.{rowOf, rowConsidered, row-considered}
+use Rattle.choice.specs.Row.{rowOf, rowConsidered, row-considered, refreshedRow, row-refreshed}
 use Rattle.index.specs.Ends.{endOf, endOfPlayer, never}
 use Rattle.index.specs.Rows.{rowOfEntry, noRow, row-at}
 use Rattle.index.specs.Places.{reachAt}
@@ -46,14 +51,19 @@ use Rattle.text.specs.Lines.{lineEnd, lineBuffer}
 use Rattle.uses.specs.declared.Effect.{Effect}
 use Rattle.uses.specs.Uses.{placed, stored}
 use Rattle.step.specs.Settle.{settledBook, settledTo, settle-none, settle-turn, settled-length, settleOne, with}
-use Rattle.batch.specs.Block.{fits, blockBook, blockWritten, blockBuffer}
+use Rattle.metering.specs.Good.{goodLines, goodAfter, good-raised}
+use Rattle.metering.specs.Recording.{due-none, requestLine, requestSeconds, refused-kept}
+use Rattle.step.specs.Lines.{linesTaken}
+use Rattle.batch.specs.Block.{stepOn, fits, blockBook, blockLines, blockWritten, blockBuffer}
 use Rattle.batch.specs.Progress.{Progress, progress-none, progress-length, progress-next, progress-all, record-part}
 use Rattle.batch.specs.NextExpiry.{NextExpiry, leastEnd, expiry-start, Settled, settled-by, settled-still, expiry-store, expiry-keep}
-use Rattle.batch.specs.NextExpiry.{end-due, end-on, reached, kept-end, ends-next, ends-same, shut-end}
+use Rattle.batch.specs.NextExpiry.{end-due, end-on, reached, kept-end, ends-next, ends-same, shut-end, recorded-still}
+use Rattle.batch.specs.NextExpiry.{recorded-by}
 use Rattle.batch.specs.StepCases.{looked, looked-most, actOn, closing, doneOn, Admitted, admitted, Planned, planned-continue}
 use Rattle.batch.specs.StepCases.{planned-stop, planned-begin, usable-is, parent-is, case-invalid, case-refused, case-resent}
 use Rattle.batch.specs.StepCases.{answeredBy, noted-answer, case-taken, released-due, released-far, released-still, shut-not}
-use Rattle.batch.specs.StepCases.{rows-next}
+use Rattle.batch.specs.StepCases.{rows-next, admit, admitted-few, reported-as, case-lines, lines-still, lines-out, lines-raised}
+use Rattle.batch.specs.StepCases.{lines-kept, acted-raised, acted-kept}
 use Rattle.batch.proofs.answer_block.Statement.{statement}
 use Rattle.batch.proofs.answer_block.Tie as tie
 
@@ -65,30 +75,39 @@ rowsFor b = map rowOfEntry (b .entries)
 abbrev endsFor : Book → List ℕ
 endsFor b = map endOfPlayer (b .players)
 
+-- what holds between two records: b and the lines ls at the start, of which `lent` were lent
+abbrev Going : Book → List Line → ℕ → List ℕ → List ℕ → ℕ → List ℕ → Book → List Line → List Row → List ℕ → Bool → ℕ → ℕ → ℕ → Type 0
+Going b ls lent s old count out book report rows ends good next at i = (i ≤ count) ×
+    (Progress b ls lent s old i book report out at) × (NextExpiry next (book .players)) × (length (book .entries) ≡ 64) ×
+    (length (book .players) ≡ 16) × (rows ≡ rowsFor book) × (book .assets ≡ b .assets) × (book .assetcount ≡ b .assetcount) ×
+    (ends ≡ endsFor book) × (good ≡ goodLines (b .assets) (b .assetcount) report lent) × (length report ≡ 64)
+
 abbrev Inv-loop2 : tie.InvT-loop2
-Inv-loop2 records out size count book₀ places parents rows₀ ends₀ next₀ at i from to event request noted j t p₀ book rows ends next p =
+Inv-loop2 records out lent size count book₀ report₀ places parents assets rows₀ ends₀ good₀ next₀ at i from to event request noted j t p₀
+    book report rows ends good next p =
     (p ≤ 16) × (book ≡ settledTo t p book₀) × (next ≡ leastEnd t (book₀ .players) p) × (rows ≡ rowsFor book) × (ends ≡ endsFor book) ×
-    (length (book .players) ≡ 16)
+    (length (book .players) ≡ 16) × (report ≡ recordedAll book₀ report₀ (overdue t (take p (book₀ .players)))) ×
+    (good ≡ goodLines assets (book₀ .assetcount) report lent) × (length report ≡ 64)
 
 abbrev μ-loop2 : tie.MeasureT-loop2
-μ-loop2 records out size count book₀ places parents rows₀ ends₀ next₀ at i from to event request noted j t p₀ book rows ends next p = 16 - p
+μ-loop2 records out lent size count book₀ report₀ places parents assets rows₀ ends₀ good₀ next₀ at i from to event request noted j t p₀
+    book report rows ends good next p = 16 - p
 
 abbrev Inv-loop3 : tie.InvT-loop3
-Inv-loop3 records out size count book places parents rows ends next at i from to request noted j t o ask k code asset kind reach n best₀
-    e₀ best e = (e ≤ n) × (n ≤ 64) × (best ≡ bestAfter (book .entries) asset (reach .parent) kind ask e)
+Inv-loop3 records out lent size count book report places parents assets rows ends good next at i from to request noted j t o ask k code
+    asset kind reach n best₀ e₀ best e = (e ≤ n) × (n ≤ 64) × (best ≡ bestAfter (book .entries) asset (reach .parent) kind ask e)
 
 abbrev μ-loop3 : tie.MeasureT-loop3
-μ-loop3 records out size count book places parents rows ends next at i from to request noted j t o ask k code asset kind reach n best₀
-    e₀ best e = n - e
+μ-loop3 records out lent size count book report places parents assets rows ends good next at i from to request noted j t o ask k code
+    asset kind reach n best₀ e₀ best e = n - e
 
 abbrev Inv-loop : tie.InvT-loop
-Inv-loop records out₀ size count book₀ places parents rows₀ ends₀ next₀ at₀ i₀ out book rows ends next at i = (i ≤ count) ×
-    (Progress book₀ records out₀ i book out at) × (NextExpiry next (book .players)) × (length (book .entries) ≡ 64) ×
-    (length (book .players) ≡ 16) × (rows ≡ rowsFor book) × (book .assets ≡ book₀ .assets) × (book .assetcount ≡ book₀ .assetcount) ×
-    (ends ≡ endsFor book)
+Inv-loop records out₀ lent size count book₀ report₀ places parents assets rows₀ ends₀ good₀ next₀ at₀ i₀ out book report rows ends good
+    next at i = Going book₀ report₀ lent records out₀ count out book report rows ends good next at i
 
 abbrev μ-loop : tie.MeasureT-loop
-μ-loop records out₀ size count book₀ places parents rows₀ ends₀ next₀ at₀ i₀ out book rows ends next at i = count - i
+μ-loop records out₀ lent size count book₀ report₀ places parents assets rows₀ ends₀ good₀ next₀ at₀ i₀ out book report rows ends good
+    next at i = count - i
 
 -- ## Places on the way of a record, each with the way back to the one before it
 
@@ -98,9 +117,9 @@ Entered = tie.Start Inv-loop2 μ-loop2 Inv-loop3 μ-loop3 Inv-loop μ-loop
 abbrev Turn : Type 0
 Turn = tie.In-loop Inv-loop2 μ-loop2 Inv-loop3 μ-loop3 Inv-loop μ-loop
 
--- the record is decoded
+-- the record is decoded, and admitted if the list is good
 abbrev Read : Type 0
-Read = tie.After-decode Inv-loop2 μ-loop2 Inv-loop3 μ-loop3 Inv-loop μ-loop
+Read = tie.After-received Inv-loop2 μ-loop2 Inv-loop3 μ-loop3 Inv-loop μ-loop
 
 -- it holds an event, and the gate has judged it
 abbrev Judged : Type 0
@@ -119,7 +138,7 @@ abbrev Chosen : Type 0
 Chosen = tie.At-match3-came Inv-loop2 μ-loop2 Inv-loop3 μ-loop3 Inv-loop μ-loop
 
 abbrev entered : Turn → Entered
-entered c = c .before .before .before .before .before .before .before .before .before .before .before .before .before
+entered c = c .before .before .before .before .before .before .before .before .before .before .before .before .before .before
 
 abbrev turn : Read → Turn
 turn c = c .before .before .before
@@ -144,6 +163,9 @@ entries-64 c = search length-mapped
 players-16 : (c : Entered) → length (c .args .b .players) ≡ 16
 players-16 c = search length-mapped
 
+lines-64 : (c : Entered) → length (c .args .lines) ≡ 64
+lines-64 c = search length-mapped
+
 -- in a turn there is room for one line more
 in-turn : (c : Turn) → (c .before .loop .i + 1 ≤ (length (entered c .args .records .now) + 12) / 13) ×
     (19 * (c .before .loop .i + 1) ≤ length (entered c .args .out .now))
@@ -156,43 +178,63 @@ book-at c = c .before .loop .book
 abbrev record-at : Turn → List ℕ
 record-at c = recordAt (entered c .args .records .now) (c .before .loop .i)
 
-is-decoded : (c : Read) → c .decode .result ≡ decoded (record-at (turn c))
+-- what it holds if the list is good
+abbrev admitted-at : Turn → Decoded
+admitted-at c = admit (c .before .loop .good) (decoded (record-at c))
+
+is-decoded : (c : Read) → c .received .result ≡ admitted-at (turn c)
 is-decoded c =
     let i = turn c .before .loop .i in
-    c .decode .ensures ∙ ap decoded (record-part (entered (turn c) .args .records .now) i (c .before .before .min-size .result - 13 * i)
-    (omega arith))
+    c .received .ensures ∙ ap (λ (r : List ℕ). admit (turn c .before .loop .good) (decoded r))
+    (record-part (entered (turn c) .args .records .now) i (c .before .before .min-size .result - 13 * i) (omega arith))
 
 abbrev event-at : Judged → Event
 event-at c = c .before .before .before .before .before .before .before .event .given .0 .0
 
-is-valid : (c : Judged) → decoded (record-at (turn (read c))) ≡ Valid (event-at c)
+is-valid : (c : Judged) → admitted-at (turn (read c)) ≡ Valid (event-at c)
 is-valid c = sym (is-decoded (read c)) ∙ c .before .before .before .before .before .before .before .event .given .1
 
-is-admitted : (c : Taken) → Admitted (book-at (turn (read (judged c)))) (record-at (turn (read (judged c)))) (event-at (judged c))
+is-few : (c : Judged) → event-at c .player ≤ 15
+is-few c = admitted-few (turn (read c) .before .loop .good) (record-at (turn (read c))) (event-at c) (is-valid c)
+
+is-admitted : (c : Taken) → Admitted (book-at (turn (read (judged c)))) (admitted-at (turn (read (judged c)))) (event-at (judged c))
 is-admitted c =
     let j = judged c in
-    admitted (book-at (turn (read j))) (record-at (turn (read j))) (event-at j) (is-valid j) (j .gate-of .result) (j .gate-of .ensures)
-    (c .enum-told2 .given .1)
+    admitted (book-at (turn (read j))) (admitted-at (turn (read j))) (turn (read j) .before .loop .report) (event-at j) (is-valid j)
+    (is-few j) (j .gate-of .result) (j .gate-of .ensures) (c .enum-told2 .given .1)
 
 is-player : (c : Taken) → event-at (judged c) .player % 16 ≡ event-at (judged c) .player
 is-player c = let h = is-admitted c .few-players in omega arith
 
 after-settle : (c : AllSettled) → (Settled (event-at (judged (taken c)) .time) (book-at (turn (read (judged (taken c))))) (c .if2 .book)
-    (c .if2 .next)) × (c .if2 .rows ≡ rowsFor (c .if2 .book)) × (c .if2 .ends ≡ endsFor (c .if2 .book))
+    (c .if2 .next)) × (c .if2 .rows ≡ rowsFor (c .if2 .book)) × (c .if2 .ends ≡ endsFor (c .if2 .book)) ×
+    (c .if2 .report ≡ recordedAll (book-at (turn (read (judged (taken c))))) (turn (read (judged (taken c))) .before .loop .report)
+    (overdue (event-at (judged (taken c)) .time) (book-at (turn (read (judged (taken c)))) .players))) ×
+    (c .if2 .good ≡ goodLines (entered (turn (read (judged (taken c)))) .args .b .assets)
+    (entered (turn (read (judged (taken c)))) .args .b .assetcount) (c .if2 .report)
+    (entered (turn (read (judged (taken c)))) .args .lent)) ×
+    (length (c .if2 .report) ≡ 64)
 after-settle c =
     let l = turn (read (judged (taken c))) .before .loop in
     let t = event-at (judged (taken c)) .time in
+    let start = entered (turn (read (judged (taken c)))) .args in
     ⊎-elim
     (λ w. (
       settled-by t (l .book) (c .if2 .book) (l .inv .3) (l .inv .4) (c .if2 .next) (w .1 .p) (w .1 .inv .0) (w .2 .left)
-          (w .3 ∙ w .1 .inv .1) (w .6 ∙ w .1 .inv .2),
-      w .4 ∙ w .1 .inv .3 ∙ ap rowsFor (sym (w .3)),
-      w .5 ∙ w .1 .inv .4 ∙ ap endsFor (sym (w .3)),
+          (w .3 ∙ w .1 .inv .1) (w .8 ∙ w .1 .inv .2),
+      w .5 ∙ w .1 .inv .3 ∙ ap rowsFor (sym (w .3)),
+      w .6 ∙ w .1 .inv .4 ∙ ap endsFor (sym (w .3)),
+      w .4 ∙ recorded-by (l .book) (l .report) t (w .1 .p) (w .1 .report) (omega (arith, w .2 .left, l .inv .4)) (w .1 .inv .6),
+      w .7 ∙ w .1 .inv .7 ∙ ap₂ (λ (n : ℕ) (ms : List Line). goodLines (start .b .assets) n ms (start .lent)) (l .inv .7) (sym (w .4)),
+      ap length (w .4) ∙ w .1 .inv .8,
     ))
     (λ w. (
-      settled-still t (l .book) (c .if2 .book) (l .inv .3) (l .inv .4) (l .next) (c .if2 .next) (l .inv .2) (w .0 .left) (w .1) (w .4),
-      w .2 ∙ l .inv .5 ∙ ap rowsFor (sym (w .1)),
-      w .3 ∙ l .inv .8 ∙ ap endsFor (sym (w .1)),
+      settled-still t (l .book) (c .if2 .book) (l .inv .3) (l .inv .4) (l .next) (c .if2 .next) (l .inv .2) (w .0 .left) (w .1) (w .6),
+      w .3 ∙ l .inv .5 ∙ ap rowsFor (sym (w .1)),
+      w .4 ∙ l .inv .8 ∙ ap endsFor (sym (w .1)),
+      w .2 ∙ recorded-still (l .book) (l .report) t (l .next) (l .inv .2) (w .0 .left),
+      w .5 ∙ l .inv .9 ∙ ap (λ (ms : List Line). goodLines (start .b .assets) (start .b .assetcount) ms (start .lent)) (sym (w .2)),
+      ap length (w .2) ∙ l .inv .10,
     ))
     (c .if2 .came)
 
@@ -233,7 +275,7 @@ planned c =
     let kind = w .3 .result in
     let r = w .6 .result in
     let tables = c .before .before .before .before .before .before .before .before .before .before .before .before .before .before
-    .before .before .before .before .before .before .before .before .before .before .before .before .before .fill-places .ensures in
+    .before .before .before .before .before .before .before .before .before .before .before .before .before .before .fill-places .ensures in
     let hr = w .6 .ensures ∙ ap₂ (λ (x y : List ℕ). reachAt x y asset) (tables .0) (tables .1) in
     let end : w .10 .e ≡ w .9 .result = omega (arith, w .10 .inv .0, w .11 .left) in
     planned-begin n e o sort asset kind (c .match3 .k) (c .match3 .code) (w .9 .result) r (w .10 .best)
@@ -241,8 +283,9 @@ planned c =
     (usable-is n (start .args .b .assets) (start .args .b .assetcount) asset r (kept .0) (kept .1) (omega arith) hr)
     (parent-is n (start .args .b .assets) (start .args .b .assetcount) asset r (kept .0) (kept .1) (omega arith) hr)
     (w .9 .ensures ∙ ap (looked (isOn o) (r .usable)) (w .8 .ensures))
-    (w .10 .inv .2 ∙ ap (bestAfter (n .entries) asset (r .parent) kind (asks e)) end)
-    ht (w .15) (w .16 ∙ w .13 .ensures ∙ ap (λ (k : ℕ). beginCode (isOn o) (r .usable) (w .10 .best .suits) (ltb k 64)) (sym (w .15))))
+    (w .10 .inv .2 ∙ ap (bestAfter (n .entries) asset (r .parent) kind (asks n e)) end)
+    ht (w .15) (w .16 ∙ w .13 .ensures
+    ∙ ap (λ (k : ℕ). beginCode (isOn o) (r .usable) (w .10 .best .suits) (ltb k 64) (w .10 .best .switched)) (sym (w .15))))
     (λ v.
     let code = c .before .further-code .ensures in
     ⊎-elim
@@ -253,7 +296,7 @@ planned c =
 
 -- the operation is done, or refused
 abbrev Acted : Type 0
-Acted = tie.Joined5 Inv-loop2 μ-loop2 Inv-loop3 μ-loop3 Inv-loop μ-loop
+Acted = tie.Joined6 Inv-loop2 μ-loop2 Inv-loop3 μ-loop3 Inv-loop μ-loop
 
 abbrev chosen : Acted → Chosen
 chosen c = c .before .before
@@ -274,34 +317,35 @@ Left c book rows answer current =
 
 leaves :
     (c : Acted) (es : List Entry) (a : Answer) (o : Open) →
-    c .if5 .book ≡ timed c es →
-    c .if5 .rows ≡ map rowOfEntry es →
-    c .if5 .answer ≡ a →
-    c .if5 .current ≡ o →
+    c .if6 .book ≡ timed c es →
+    c .if6 .rows ≡ map rowOfEntry es →
+    c .if6 .answer ≡ a →
+    c .if6 .current ≡ o →
     record { answer = a; entries = es; current = o }
     ≡ doneOn (all-settled (chosen c) .if2 .book) (event-at (judged (taken (all-settled (chosen c))))) →
     length es ≡ 64 →
-    Left c (c .if5 .book) (c .if5 .rows) (c .if5 .answer) (c .if5 .current)
+    Left c (c .if6 .book) (c .if6 .rows) (c .if6 .answer) (c .if6 .current)
 leaves c es a o hb hr ha ho hd hl = (
   hb ∙ ap (λ (m : Book). timed c (m .entries)) (sym hb),
   hr ∙ ap rowsFor (sym hb),
-  ap₂ (λ (x : Answer) (m : Book). record { answer = x; entries = m .entries; current = c .if5 .current }) ha hb
+  ap₂ (λ (x : Answer) (m : Book). record { answer = x; entries = m .entries; current = c .if6 .current }) ha hb
       ∙ ap (λ (x : Open). record { answer = a; entries = es; current = x }) ho
       ∙ hd,
   ap (λ (m : Book). length (m .entries)) hb ∙ hl,
 )
 
-left-by : (c : Acted) → Left c (c .if5 .book) (c .if5 .rows) (c .if5 .answer) (c .if5 .current)
+left-by : (c : Acted) → Left c (c .if6 .book) (c .if6 .rows) (c .if6 .answer) (c .if6 .current)
 unfolding placed stored
 left-by c =
     let d = chosen c in
     let s = all-settled d in
     let e = event-at (judged (taken s)) in
-    let es = s .if2 .book .entries in
+    let n = s .if2 .book in
+    let es = n .entries in
     let o = open-at d in
     let k = d .match3 .k in
     let z = after-settle s in
-    let acts : Request → Entry → Effect = λ y x. actOn y (k % 256) (asks e) (x .limits) (x .meters) o in
+    let acts : Request → Entry → Effect = λ y x. actOn y (k % 256) (asks n e) (x .limits) (x .meters) o in
     ⊎-elim
     (λ w.
     let x = w .2 .x in
@@ -311,19 +355,23 @@ left-by c =
     (w .2 .came) in
     let part = w .6 .part in
     let is-part : part ≡ acts (d .match3 .request) x =
-    ⊎-elim (λ v. v .4 ∙ v .3 .ensures ∙ ap (λ (y : Request). acts y x) (sym (v .1 .given .1)))
-    (λ u. ⊎-elim (λ v. v .3 ∙ v .2 .ensures ∙ ap (λ (y : Request). acts y x) (sym (v .1 .given .1)))
-    (λ v. v .3 ∙ v .2 .ensures ∙ ap (λ (y : Request). acts y x) (sym (v .1 .given .1))) u)
+    ⊎-elim (λ v. v .6 ∙ v .4 .ensures ∙ ap (λ (y : Request). acts y x) (sym (v .1 .given .1)))
+    (λ u. ⊎-elim (λ v. v .4 ∙ v .2 .ensures ∙ ap (λ (y : Request). acts y x) (sym (v .1 .given .1)))
+    (λ v. v .4 ∙ v .2 .ensures ∙ ap (λ (y : Request). acts y x) (sym (v .1 .given .1))) u)
     (w .6 .came) in
     let hd = planned d .acts (w .0 .taken) part (is-part ∙ ap₂ acts (request-kept d) is-x) in
     let es′ = set es k (record { limits = limitsAt es k; meters = part .meters }) in
     let done : (w .7 .book ≡ timed c es′) × (w .7 .rows ≡ map rowOfEntry es′) =
     ⊎-elim
     (λ v.
-    let y : Entry = record { limits = x .limits; meters = part .meters } in
-    let same : set es k y ≡ es′ = ap (λ (u : Entry). set es k (record { limits = u .limits; meters = part .meters })) is-x in (
-      v .4 ∙ ap (timed c) same,
-      v .5 ∙ rows-next es (s .if2 .rows) k y (v .3 .result) (z .1) (v .3 .ensures) ∙ ap (map rowOfEntry) same,
+    let rs = s .if2 .rows in
+    let row : getD rs k noRow ≡ rowOf (limitsAt es k) (metersAt es k) =
+    ap (λ (x : List Row). getD x k noRow) (z .1) ∙ row-at es k (omega (arith, v .0 .taken, z .0 .entries)) in (
+      v .6,
+      v .7 ∙ rows-next es rs k (record { limits = limitsAt es k; meters = part .meters }) (v .5 .result) (z .1)
+          (v .5 .ensures
+          ∙ ap₂ (λ (u : Entry) (r : Row). refreshedRow (u .limits) (part .meters) r) is-x row
+          ∙ row-refreshed (limitsAt es k) (metersAt es k) (part .meters)),
     ))
     (λ v.
     let same : es ≡ es′ = sym (set-out es k _ (omega (arith, v .0 .left, z .0 .entries))) in (
@@ -331,20 +379,112 @@ left-by c =
       v .2 ∙ z .1 ∙ ap (map rowOfEntry) same,
     ))
     (w .7 .came) in
-    leaves c es′ (part .answer) (part .current) (w .12 ∙ done .0) (w .13 ∙ done .1) (w .16) (w .17) hd (length-set es k _ ∙ z .0 .entries))
-    (λ w. leaves c es (c .before .refusal4 .result) o (w .1) (w .2 ∙ z .1) (w .5) (w .6)
+    leaves c es′ (part .answer) (part .current) (w .14 ∙ done .0) (w .16 ∙ done .1) (w .20) (w .21) hd (length-set es k _ ∙ z .0 .entries))
+    (λ w. leaves c es (c .before .refusal4 .result) o (w .1) (w .3 ∙ z .1) (w .7) (w .8)
     (ap (λ (x : Answer). record { answer = x; entries = es; current = o }) (c .before .refusal4 .ensures) ∙ planned d .refuses (w .0 .left))
     (z .0 .entries))
-    (c .if5 .came)
+    (c .if6 .came)
+
+-- the lines after the operation, by its answer
+abbrev LinesLeft : Acted → List Line → Bool → Answer → Type 0
+LinesLeft c report good answer =
+    (report ≡ recordedAll (book-at (turn (read (judged (taken (all-settled (chosen c))))))) (all-settled (chosen c) .if2 .report)
+    (endedBy (event-at (judged (taken (all-settled (chosen c)))) .request) (event-at (judged (taken (all-settled (chosen c)))) .time)
+    (open-at (chosen c)) answer))
+    × (good ≡ goodLines (entered (turn (read (judged (taken (all-settled (chosen c)))))) .args .b .assets)
+    (entered (turn (read (judged (taken (all-settled (chosen c)))))) .args .b .assetcount) report
+    (entered (turn (read (judged (taken (all-settled (chosen c)))))) .args .lent))
+    × (length report ≡ 64)
+
+lines-by : (c : Acted) → LinesLeft c (c .if6 .report) (c .if6 .good) (c .if6 .answer)
+lines-by c =
+    let d = chosen c in
+    let s = all-settled d in
+    let e = event-at (judged (taken s)) in
+    let l = turn (read (judged (taken s))) .before .loop in
+    let start = entered (turn (read (judged (taken s)))) .args in
+    let b = l .book in
+    let n = s .if2 .book in
+    let es = n .entries in
+    let A = s .if2 .report in
+    let o = open-at d in
+    let k = d .match3 .k in
+    let z = after-settle s in
+    let acts : Request → Entry → Effect = λ y x. actOn y (k % 256) (asks n e) (x .limits) (x .meters) o in
+    let Good : Bool → List Line → Type 0 = λ v ms. v ≡ goodLines (start .b .assets) (start .b .assetcount) ms (start .lent) in
+    let moved : (v w : Bool) (ms ns : List Line) → v ≡ w → ms ≡ ns → Good w ns → Good v ms = λ v w ms ns p q g.
+    p ∙ g ∙ ap (λ (x : List Line). goodLines (start .b .assets) (start .b .assetcount) x (start .lent)) (sym q) in
+    ⊎-elim
+    (λ w.
+    let x = w .2 .x in
+    let is-x : x ≡ getD es k noEntry =
+    ⊎-elim (λ v. v .3)
+    (λ v. v .1 ∙ w .1 .ensures ∙ sym (List·getD-eq-default es noEntry (omega (arith, v .0 .left, z .0 .entries))))
+    (w .2 .came) in
+    let part = w .6 .part in
+    let is-part : part ≡ acts (d .match3 .request) x =
+    ⊎-elim (λ v. v .6 ∙ v .4 .ensures ∙ ap (λ (y : Request). acts y x) (sym (v .1 .given .1)))
+    (λ u. ⊎-elim (λ v. v .4 ∙ v .2 .ensures ∙ ap (λ (y : Request). acts y x) (sym (v .1 .given .1)))
+    (λ v. v .4 ∙ v .2 .ensures ∙ ap (λ (y : Request). acts y x) (sym (v .1 .given .1))) u)
+    (w .6 .came) in
+    let names = planned d .names (w .0 .taken) part (is-part ∙ ap₂ acts (request-kept d) is-x) in
+    let same-book : (w .7 .book .switch ≡ n .switch) × (w .7 .book .assetcount ≡ n .assetcount) =
+    ⊎-elim (λ v. (ap (λ (m : Book). m .switch) (v .6), ap (λ (m : Book). m .assetcount) (v .6)))
+    (λ v. (ap (λ (m : Book). m .switch) (v .1), ap (λ (m : Book). m .assetcount) (v .1))) (w .7 .came) in
+    let same-request : w .6 .request ≡ e .request =
+    ⊎-elim (λ v. v .5 ∙ sym (v .1 .given .1)) (λ u. ⊎-elim (λ v. v .3) (λ v. v .3) u) (w .6 .came) ∙ request-kept d in
+    let line = w .10 .result in
+    let hw : line ≡ requestLine (e .request) (part .answer) o (n .switch) (limitsAt es k) (start .b .assets) (n .assetcount) =
+    w .10 .ensures
+    ∙ ap₂ (λ (v m : ℕ). requestLine (w .6 .request) (part .answer) o v (x .limits) (start .b .assets) m) (same-book .0) (same-book .1)
+    ∙ ap₂ (λ (y : Request) (u : Entry). requestLine y (part .answer) o (n .switch) (u .limits) (start .b .assets) (n .assetcount))
+    same-request is-x in
+    let ha : start .b .assets ≡ b .assets = sym (l .inv .6) in
+    let after : (w .11 .report ≡ recordedAll b A (endedBy (e .request) (e .time) o (part .answer))) × (Good (w .11 .good) (w .11 .report)) ×
+    (length (w .11 .report) ≡ 64) =
+    ⊎-elim
+    (λ u.
+    let r : Line = u .3 .result in
+    let sec = u .1 .result in
+    let y : Line = raised (limitsAt es k) sec (lineAt A line) in
+    let hs : sec ≡ requestSeconds (e .request) (e .time) o = u .1 .ensures ∙ ap
+    (λ (q : Request). requestSeconds q (e .time) o) same-request in
+    let hr : r ≡ y = u .3 .ensures ∙ ap (λ (v : Entry). raised (v .limits) sec (lineAt A line)) is-x in
+    let to : w .11 .report ≡ set A line y = u .5 ∙ ap (set A line) hr in (
+      to ∙ acted-raised b n (e .time) (z .0 .is-settled) A (start .b .assets) ha o (part .answer) (e .request) k names line hw sec hs
+          (u .0 .taken),
+      moved (w .11 .good) _ (w .11 .report) (set A line y) (u .6 ∙ u .4 .ensures ∙ ap₂ goodAfter (z .4) hr) to
+          (good-raised (start .b .assets) (start .b .assetcount) A (start .lent) line (limitsAt es k) sec
+          (omega (arith, u .0 .taken, z .5)) (u .0 .taken)),
+      ap length to ∙ length-set A line y ∙ z .5,
+    ))
+    (λ u. (
+      u .1 ∙ acted-kept b n (e .time) (z .0 .is-settled) A (start .b .assets) ha o (part .answer) (e .request) k names line hw (u .0 .left),
+      moved (w .11 .good) (s .if2 .good) (w .11 .report) A (u .2) (u .1) (z .4),
+      ap length (u .1) ∙ z .5,
+    ))
+    (w .11 .came) in (
+      w .15 ∙ after .0 ∙ ap (λ (a : Answer). recordedAll b A (endedBy (e .request) (e .time) o a)) (sym (w .20)),
+      moved (c .if6 .good) (w .11 .good) (c .if6 .report) (w .11 .report) (w .18) (w .15) (after .1),
+      ap length (w .15) ∙ after .2,
+    ))
+    (λ w.
+    let off : eqb (c .if6 .answer .code) 0 ≡ false = ap (λ (a : Answer). eqb (a .code) 0) (w .7 ∙ c .before .refusal4 .ensures)
+    ∙ ne-eqb (d .match3 .code) 0 (w .0 .left) in (
+      w .2 ∙ refused-kept b A (e .time) o (c .if6 .answer) (e .request) off,
+      moved (c .if6 .good) (s .if2 .good) (c .if6 .report) A (w .5) (w .2) (z .4),
+      ap length (w .2) ∙ z .5,
+    ))
+    (c .if6 .came)
 
 -- the ends and the next expiry fit the player that is stored: a granted one's end is stored, a refused one keeps its use
 ends-by :
     (c : Acted) (q : Player) →
-    q .current ≡ c .if5 .current →
-    (c .if5 .ends
+    q .current ≡ c .if6 .current →
+    (c .if6 .ends
     ≡ map endOfPlayer (set (all-settled (chosen c) .if2 .book .players)
     (event-at (judged (taken (all-settled (chosen c)))) .player % 16) q))
-    × (NextExpiry (c .if5 .next) (set (all-settled (chosen c) .if2 .book .players)
+    × (NextExpiry (c .if6 .next) (set (all-settled (chosen c) .if2 .book .players)
     (event-at (judged (taken (all-settled (chosen c)))) .player % 16) q))
 ends-by c q hq =
     let s = all-settled (chosen c) in
@@ -354,33 +494,48 @@ ends-by c q hq =
     let small : j < length ps = omega (arith, z .0 .players) in
     ⊎-elim
     (λ w.
-    let end : w .10 .result ≡ endOf (q .current) = w .10 .ensures ∙ ap endOf (sym (w .17)) ∙ ap endOf (sym hq) in (
-      w .14 ∙ ends-next ps (s .if2 .ends) (z .2) j q (w .10 .result) end,
-      subst (λ (v : ℕ). NextExpiry v (set ps j q)) (sym (w .15 ∙ w .11 .ensures ∙ ap (min (s .if2 .next)) end))
+    let end : w .12 .result ≡ endOf (q .current) = w .12 .ensures ∙ ap endOf (sym (w .21)) ∙ ap endOf (sym hq) in (
+      w .17 ∙ ends-next ps (s .if2 .ends) (z .2) j q (w .12 .result) end,
+      subst (λ (v : ℕ). NextExpiry v (set ps j q)) (sym (w .19 ∙ w .13 .ensures ∙ ap (min (s .if2 .next)) end))
           (expiry-store (s .if2 .next) ps j q (z .0 .expiry) small),
     ))
     (λ w.
-    let same : q .current ≡ openAt ps j = hq ∙ w .6 in (
-      w .3 ∙ ends-same ps (s .if2 .ends) (z .2) j q same,
-      subst (λ (v : ℕ). NextExpiry v (set ps j q)) (sym (w .4)) (expiry-keep (s .if2 .next) ps j q (z .0 .expiry) small same),
+    let same : q .current ≡ openAt ps j = hq ∙ w .8 in (
+      w .4 ∙ ends-same ps (s .if2 .ends) (z .2) j q same,
+      subst (λ (v : ℕ). NextExpiry v (set ps j q)) (sym (w .6)) (expiry-keep (s .if2 .next) ps j q (z .0 .expiry) small same),
     ))
-    (c .if5 .came)
+    (c .if6 .came)
+
+-- the step on the record, by what it does to what was admitted
+stepped :
+    (c : Turn) (a : Answer) (book : Book) (ms : List Line) →
+    arrive (book-at c) (admitted-at c) ≡ record { answer = a; book = book } →
+    linesRead (book-at c) (admitted-at c) (c .before .loop .report) ≡ ms →
+    stepOn (book-at c) (c .before .loop .report) (entered c .args .lent) (record-at c) ≡ record { answer = a; book = book; lines = ms }
+stepped c a book ms p q =
+    let l = c .before .loop in
+    let g = entered c .args in
+    reported-as (l .book) (decoded (record-at c)) (l .report) (g .lent) (l .good)
+    (l .inv .9 ∙ ap₂ (λ (x : List Asset) (n : ℕ). goodLines x n (l .report) (g .lent)) (sym (l .inv .6)) (sym (l .inv .7)))
+    a book ms p q
 
 -- a turn that leaves the book: one line more, and all that stands beside the book stays
 kept-turn :
     (c : Turn) (a : Answer) (out : List ℕ) (at : ℕ) →
-    stepRecord (book-at c) (record-at c) ≡ record { answer = a; book = book-at c } →
+    (arrive (book-at c) (admitted-at c) ≡ record { answer = a; book = book-at c }) ×
+    (linesRead (book-at c) (admitted-at c) (c .before .loop .report) ≡ c .before .loop .report) →
     (at ≡ lineEnd a (c .before .loop .at) (length (c .before .loop .out))) ×
     (out ≡ lineBuffer a (c .before .loop .at) (c .before .loop .out)) × (at ≤ c .before .loop .at + 19) →
-    Inv-loop (entered c .args .records .now) (entered c .args .out .now) (length (entered c .args .records .now))
-    ((length (entered c .args .records .now) + 12) / 13) (entered c .args .b) [] [] [] [] 0 0 0 out (book-at c)
-    (c .before .loop .rows) (c .before .loop .ends) (c .before .loop .next) at (c .before .loop .i + 1)
+    Going (entered c .args .b) (entered c .args .lines) (entered c .args .lent) (entered c .args .records .now) (entered c .args .out .now)
+    ((length (entered c .args .records .now) + 12) / 13) out (book-at c) (c .before .loop .report)
+    (c .before .loop .rows) (c .before .loop .ends) (c .before .loop .good) (c .before .loop .next) at (c .before .loop .i + 1)
 kept-turn c a out at e p =
     let l = c .before .loop in
     let t = in-turn c in
     let g = entered c .args in (
       t .0,
-      progress-next (g .b) (g .records .now) (g .out .now) (l .i) (l .book) (l .out) (l .at) (l .inv .1) (t .1) a (l .book) out at e p,
+      progress-next (g .b) (g .lines) (g .lent) (g .records .now) (g .out .now) (l .i) (l .book) (l .report) (l .out) (l .at) (l .inv .1)
+          (t .1) a (l .book) (l .report) out at (stepped c a (l .book) (l .report) (e .0) (e .1)) p,
       l .inv .2,
       l .inv .3,
       l .inv .4,
@@ -388,17 +543,19 @@ kept-turn c a out at e p =
       l .inv .6,
       l .inv .7,
       l .inv .8,
+      l .inv .9,
+      l .inv .10,
     )
 
 add-count : tie.Need-add-count Inv-loop2 μ-loop2 Inv-loop3 μ-loop3 Inv-loop μ-loop
 add-count c = omega arith
 
 returns : tie.Need-returns Inv-loop2 μ-loop2 Inv-loop3 μ-loop3 Inv-loop μ-loop
-unfolding fits blockBook blockWritten blockBuffer recordCount
+unfolding fits blockBook blockLines blockWritten blockBuffer recordCount
 returns c =
     let a = c .before .before .before .args in
     let h : length (a .out .now) < 19 * recordCount (a .records .now) = omega arith in
-    rw (lt-leb (19 * recordCount (a .records .now)) (length (a .out .now)) h) (refl, refl, refl)
+    rw (lt-leb (19 * recordCount (a .records .now)) (length (a .out .now)) h) (refl, refl, refl, refl, refl)
 
 fill-places-requires :
     tie.Need-fill-places-requires Inv-loop2 μ-loop2 Inv-loop3 μ-loop3 Inv-loop μ-loop
@@ -410,19 +567,24 @@ rows-of-requires c κs = tt
 ends-of-requires : tie.Need-ends-of-requires Inv-loop2 μ-loop2 Inv-loop3 μ-loop3 Inv-loop μ-loop
 ends-of-requires c κs = tt
 
+good-lines-requires : tie.Need-good-lines-requires Inv-loop2 μ-loop2 Inv-loop3 μ-loop3 Inv-loop μ-loop
+good-lines-requires c κs = tt
+
 loop-holds : tie.Need-loop-holds Inv-loop2 μ-loop2 Inv-loop3 μ-loop3 Inv-loop μ-loop
 loop-holds c =
-    let start = c .before .before .before .before .before .before .before .before .before .before .before in
+    let start = c .before .before .before .before .before .before .before .before .before .before .before .before in
     let a = start .args in (
       omega arith,
-      progress-none (a .b) (a .records .now) (a .out .now),
+      progress-none (a .b) (a .lines) (a .lent) (a .records .now) (a .out .now),
       expiry-start (a .b .players),
       entries-64 start,
       players-16 start,
-      c .before .before .rows-of .ensures,
+      c .before .before .before .rows-of .ensures,
       refl,
       refl,
-      c .ends-of .ensures,
+      c .before .ends-of .ensures,
+      c .good-lines .ensures,
+      lines-64 start,
     )
 
 mul-from : tie.Need-mul-from Inv-loop2 μ-loop2 Inv-loop3 μ-loop3 Inv-loop μ-loop
@@ -437,17 +599,17 @@ min-size-requires c κs = tt
 add-i : tie.Need-add-i Inv-loop2 μ-loop2 Inv-loop3 μ-loop3 Inv-loop μ-loop
 add-i c = omega arith
 
-sub-decode : tie.Need-sub-decode Inv-loop2 μ-loop2 Inv-loop3 μ-loop3 Inv-loop μ-loop
-sub-decode c = search needs
+sub-received : tie.Need-sub-received Inv-loop2 μ-loop2 Inv-loop3 μ-loop3 Inv-loop μ-loop
+sub-received c = search needs
 
-part-decode-start : tie.Need-part-decode-start Inv-loop2 μ-loop2 Inv-loop3 μ-loop3 Inv-loop μ-loop
-part-decode-start c = search needs
+part-received-start : tie.Need-part-received-start Inv-loop2 μ-loop2 Inv-loop3 μ-loop3 Inv-loop μ-loop
+part-received-start c = search needs
 
-part-decode-end : tie.Need-part-decode-end Inv-loop2 μ-loop2 Inv-loop3 μ-loop3 Inv-loop μ-loop
-part-decode-end c = search needs
+part-received-end : tie.Need-part-received-end Inv-loop2 μ-loop2 Inv-loop3 μ-loop3 Inv-loop μ-loop
+part-received-end c = search needs
 
-decode-requires : tie.Need-decode-requires Inv-loop2 μ-loop2 Inv-loop3 μ-loop3 Inv-loop μ-loop
-decode-requires c κs = tt
+received-requires : tie.Need-received-requires Inv-loop2 μ-loop2 Inv-loop3 μ-loop3 Inv-loop μ-loop
+received-requires c κs = tt
 
 enum-known-code : tie.Need-enum-known-code Inv-loop2 μ-loop2 Inv-loop3 μ-loop3 Inv-loop μ-loop
 enum-known-code c = search needs
@@ -466,10 +628,11 @@ loop-again c =
     let r = c .before .before .before .before .before .before .before .before in
     let x = c .before .before .before .refusal in
     let p = c .before .before .put-line in
+    let z = case-invalid (book-at (turn r)) (admitted-at (turn r)) (turn r .before .loop .report)
+    (c .before .before .before .before .before .before .code .given .0 .0)
+    (sym (is-decoded r) ∙ c .before .before .before .before .before .before .code .given .1) in
     kept-turn (turn r) (x .result) (p .last .0) (p .result)
-    (case-invalid (book-at (turn r)) (record-at (turn r)) (c .before .before .before .before .before .before .code .given .0 .0)
-    (sym (is-decoded r) ∙ c .before .before .before .before .before .before .code .given .1)
-    ∙ ap (λ (a : Answer). record { answer = a; book = book-at (turn r) }) (sym (x .ensures)))
+    (z .0 ∙ ap (λ (a : Answer). record { answer = a; book = book-at (turn r) }) (sym (x .ensures)), z .1)
     (p .ensures)
 
 enum-known-event : tie.Need-enum-known-event Inv-loop2 μ-loop2 Inv-loop3 μ-loop3 Inv-loop μ-loop
@@ -514,11 +677,11 @@ loop-again-2 c =
     let x = c .before .before .before .refusal3 in
     let p = c .before .before .put-line2 in
     let b = book-at (turn (read j)) in
+    let z = case-refused b (admitted-at (turn (read j))) (turn (read j) .before .loop .report) (event-at j) (is-valid j) (is-few j)
+    (j .gate-of .result) (c .before .before .before .before .before .before .code2 .given .0 .0) (j .gate-of .ensures)
+    (c .before .before .before .before .before .before .code2 .given .1) in
     kept-turn (turn (read j)) (x .result) (p .last .0) (p .result)
-    (case-refused b (record-at (turn (read j))) (event-at j) (is-valid j) (j .gate-of .result)
-    (c .before .before .before .before .before .before .code2 .given .0 .0) (j .gate-of .ensures)
-    (c .before .before .before .before .before .before .code2 .given .1)
-    ∙ ap (λ (a : Answer). record { answer = a; book = b }) (sym (x .ensures)))
+    (z .0 ∙ ap (λ (a : Answer). record { answer = a; book = b }) (sym (x .ensures)), z .1)
     (p .ensures)
 
 enum-told : tie.Need-enum-told Inv-loop2 μ-loop2 Inv-loop3 μ-loop3 Inv-loop μ-loop
@@ -529,15 +692,15 @@ put-line-requires-3 :
 put-line-requires-3 c κs = tt
 
 loop-less-3 : tie.Need-loop-less-3 Inv-loop2 μ-loop2 Inv-loop3 μ-loop3 Inv-loop μ-loop
-loop-less-3 c = omega arith
+loop-less-3 c = let r = read (c .before .before .before .before .before .before .before) in omega (arith, turn r .loop-test .taken)
 
 loop-again-3 : tie.Need-loop-again-3 Inv-loop2 μ-loop2 Inv-loop3 μ-loop3 Inv-loop μ-loop
 loop-again-3 c =
     let j = c .before .before .before .before .before .before .before in
     let p = c .before .before .put-line3 in
     kept-turn (turn (read j)) _ (p .last .0) (p .result)
-    (case-resent (book-at (turn (read j))) (record-at (turn (read j))) (event-at j) (is-valid j) (j .gate-of .result)
-    (j .gate-of .ensures) (c .before .before .before .before .before .enum-told .given .1))
+    (case-resent (book-at (turn (read j))) (admitted-at (turn (read j))) (turn (read j) .before .loop .report) (event-at j) (is-valid j)
+    (is-few j) (j .gate-of .result) (j .gate-of .ensures) (c .before .before .before .before .before .enum-told .given .1))
     (p .ensures)
 
 enum-told-2 : tie.Need-enum-told-2 Inv-loop2 μ-loop2 Inv-loop3 μ-loop3 Inv-loop μ-loop
@@ -547,7 +710,17 @@ loop2-holds : tie.Need-loop2-holds Inv-loop2 μ-loop2 Inv-loop3 μ-loop3 Inv-loo
 unfolding leastEnd
 loop2-holds c =
     let l = turn (read (judged (c .before))) .before .loop in
-    (omega arith, settle-none _ _, refl, l .inv .5, l .inv .8, l .inv .4)
+    let start = entered (turn (read (judged (c .before)))) .args in (
+      omega arith,
+      settle-none _ _,
+      refl,
+      l .inv .5,
+      l .inv .8,
+      l .inv .4,
+      due-none _ _ _,
+      l .inv .9 ∙ ap (λ (n : ℕ). goodLines (start .b .assets) n (l .report) (start .lent)) (sym (l .inv .7)),
+      l .inv .10,
+    )
 
 mul-end : tie.Need-mul-end Inv-loop2 μ-loop2 Inv-loop3 μ-loop3 Inv-loop μ-loop
 mul-end c = search needs
@@ -591,6 +764,30 @@ array-set-from-rows :
     tie.Need-array-set-from-rows Inv-loop2 μ-loop2 Inv-loop3 μ-loop3 Inv-loop μ-loop
 array-set-from-rows c = search needs
 
+line-for-requires : tie.Need-line-for-requires Inv-loop2 μ-loop2 Inv-loop3 μ-loop3 Inv-loop μ-loop
+line-for-requires c κs = tt
+
+saturating-sub-requires : tie.Need-saturating-sub-requires Inv-loop2 μ-loop2 Inv-loop3 μ-loop3 Inv-loop μ-loop
+saturating-sub-requires c κs = tt
+
+mul-line : tie.Need-mul-line Inv-loop2 μ-loop2 Inv-loop3 μ-loop3 Inv-loop μ-loop
+mul-line c = omega (arith, c .before .if5 .taken)
+
+array-copy-out-line : tie.Need-array-copy-out-line Inv-loop2 μ-loop2 Inv-loop3 μ-loop3 Inv-loop μ-loop
+array-copy-out-line c = omega (arith, c .before .if5 .taken)
+
+raised-for-requires : tie.Need-raised-for-requires Inv-loop2 μ-loop2 Inv-loop3 μ-loop3 Inv-loop μ-loop
+raised-for-requires c κs = tt
+
+mul-report : tie.Need-mul-report Inv-loop2 μ-loop2 Inv-loop3 μ-loop3 Inv-loop μ-loop
+mul-report c = omega (arith, c .before .before .before .if5 .taken)
+
+array-set-from-report : tie.Need-array-set-from-report Inv-loop2 μ-loop2 Inv-loop3 μ-loop3 Inv-loop μ-loop
+array-set-from-report c = omega (arith, c .before .before .before .if5 .taken)
+
+good-after-requires : tie.Need-good-after-requires Inv-loop2 μ-loop2 Inv-loop3 μ-loop3 Inv-loop μ-loop
+good-after-requires c κs = tt
+
 mul-shutting : tie.Need-mul-shutting Inv-loop2 μ-loop2 Inv-loop3 μ-loop3 Inv-loop μ-loop
 mul-shutting c = search needs
 
@@ -629,6 +826,7 @@ loop2-again c =
     let l = c .before .before .loop2 in
     let start = c .before .before .before .before in
     let g = turn (read (judged start)) .before .loop in
+    let given = entered (turn (read (judged start))) .args in
     let b = g .book in
     let t = event-at (judged start) .time in
     let ps = l .book .players in
@@ -640,45 +838,90 @@ loop2-again c =
     let few : l .p < length (b .players) = omega (arith, g .inv .4) in
     let here : l .p < length ps = omega (arith, l .inv .5) in
     let due : leb (getD (l .ends) (l .p) 0) t ≡ expired t o = reached ps (l .ends) (l .inv .4) t (l .p) ht here in
+    let onto : List Line = recordedAll b (g .report) (overdue t (take (l .p + 1) (b .players))) in
+    let Good : Bool → List Line → Type 0 = λ w ms. (w ≡ goodLines (given .b .assets) (b .assetcount) ms (given .lent)) × (length ms ≡ 64) in
     let one : (c .if3 .book ≡ settleOne t (l .p) (l .book)) × (c .if3 .rows ≡ rowsFor (c .if3 .book)) ×
-    (c .if3 .ends ≡ endsFor (c .if3 .book)) × (c .if3 .next ≡ leastEnd t (b .players) (l .p + 1)) =
+    (c .if3 .ends ≡ endsFor (c .if3 .book)) × (c .if3 .next ≡ leastEnd t (b .players) (l .p + 1)) × (c .if3 .report ≡ onto) ×
+    (Good (c .if3 .good) (c .if3 .report)) =
     ⊎-elim
     (λ w.
     let d : expired t o ≡ true = sym due ∙ le-leb (getD (l .ends) (l .p) 0) t (w .0 .taken) in
-    let inner : (w .4 .book ≡ with (l .book) (released t o es) ps) × (w .4 .rows ≡ rowsFor (w .4 .book)) =
+    let put : Meters → Book = λ x. with (l .book) (set es (o .entry) (record { limits = limitsAt es (o .entry); meters = x })) ps in
+    let inner : (w .4 .book ≡ with (l .book) (released t o es) ps) × (w .4 .rows ≡ rowsFor (w .4 .book)) × (w .4 .report ≡ onto) ×
+    (Good (w .4 .good) (w .4 .report)) =
     ⊎-elim
     (λ v.
+    let y : Entry = record { limits = limitsAt es (o .entry); meters = v .4 .result } in
+    let line = v .6 .result in
+    let r : Line = v .10 .result in
+    let z : Line = raised (limitsAt es (o .entry)) (o .until - o .begin) (lineAt (l .report) line) in
+    let hr : r ≡ z = v .10 .ensures ∙ ap (λ (m : ℕ). raised (limitsAt es (o .entry)) m (lineAt (l .report) line)) (v .8 .ensures) in
+    let to : w .4 .report ≡ set (l .report) line z = v .13 ∙ ap (set (l .report) line) hr in (
+      v .12 ∙ ap put (v .4 .ensures) ∙ ap (λ (x : List Entry). with (l .book) x ps) (released-due t o es d),
+      v .14 ∙ rows-next es (l .rows) (o .entry) y (v .5 .result) (l .inv .3) (v .5 .ensures) ∙ ap rowsFor (sym (v .12)),
+      to ∙ lines-raised b (g .report) t (l .p) few (l .book) (l .inv .1) (l .report) (l .inv .6) (given .b .assets) (sym (g .inv .6)) d
+          line (v .6 .ensures) (o .until - o .begin) refl (v .7 .taken),
+      (
+        v .15 ∙ v .11 .ensures ∙ ap₂ goodAfter (l .inv .7) hr
+            ∙ good-raised (given .b .assets) (b .assetcount) (l .report) (given .lent) line (limitsAt es (o .entry)) (o .until - o .begin)
+            (omega (arith, v .7 .taken, l .inv .8)) (v .7 .taken)
+            ∙ ap (λ (ms : List Line). goodLines (given .b .assets) (b .assetcount) ms (given .lent)) (sym to),
+        ap length to ∙ length-set (l .report) line z ∙ l .inv .8,
+      ),
+    ))
+    (λ x. ⊎-elim
+    (λ v.
     let y : Entry = record { limits = limitsAt es (o .entry); meters = v .4 .result } in (
-      v .6
-          ∙ ap (λ (x : Meters). with (l .book) (set es (o .entry) (record { limits = limitsAt es (o .entry); meters = x })) ps)
-          (v .4 .ensures)
-          ∙ ap (λ (x : List Entry). with (l .book) x ps) (released-due t o es d),
-      v .7 ∙ rows-next es (l .rows) (o .entry) y (v .5 .result) (l .inv .3) (v .5 .ensures) ∙ ap rowsFor (sym (v .6)),
+      v .8 ∙ ap put (v .4 .ensures) ∙ ap (λ (x : List Entry). with (l .book) x ps) (released-due t o es d),
+      v .10 ∙ rows-next es (l .rows) (o .entry) y (v .5 .result) (l .inv .3) (v .5 .ensures) ∙ ap rowsFor (sym (v .8)),
+      v .9 ∙ lines-kept b (g .report) t (l .p) few (l .book) (l .inv .1) (l .report) (l .inv .6) (given .b .assets) (sym (g .inv .6)) d
+          (v .6 .result) (v .6 .ensures) (v .7 .left),
+      (
+        v .11 ∙ l .inv .7 ∙ ap (λ (ms : List Line). goodLines (given .b .assets) (b .assetcount) ms (given .lent)) (sym (v .9)),
+        ap length (v .9) ∙ l .inv .8,
+      ),
     ))
     (λ v. (
       v .1 ∙ ap (λ (x : List Entry). with (l .book) x ps) (released-far t o es (omega (arith, v .0 .left, len))),
-      v .2 ∙ l .inv .3 ∙ ap rowsFor (sym (v .1)),
+      v .3 ∙ l .inv .3 ∙ ap rowsFor (sym (v .1)),
+      v .2 ∙ lines-out b (g .report) t (l .p) few (l .book) (l .inv .1) (l .report) (l .inv .6) (given .b .assets) (sym (g .inv .6)) d
+          (omega (arith, v .0 .left, g .inv .3)),
+      (
+        v .4 ∙ l .inv .7 ∙ ap (λ (ms : List Line). goodLines (given .b .assets) (b .assetcount) ms (given .lent)) (sym (v .2)),
+        ap length (v .2) ∙ l .inv .8,
+      ),
     ))
+    x)
     (w .4 .came) in
     let settles : c .if3 .book ≡ settleOne t (l .p) (l .book) =
     w .7
     ∙ ap (λ (x : Player). with (w .4 .book) (w .4 .book .entries) (set (w .4 .book .players) (l .p) x)) (w .6 .ensures)
     ∙ ap (λ (x : Book). with x (x .entries) (set (x .players) (l .p) (shut t (playerAt (x .players) (l .p))))) (inner .0) in (
       settles,
-      w .8 ∙ inner .1 ∙ ap rowsFor (sym (w .7)),
-      w .9 ∙ ends-next ps (l .ends) (l .inv .4) (l .p) (shut t (playerAt ps (l .p))) never (shut-end t (playerAt ps (l .p)) d) ∙ ap
+      w .9 ∙ inner .1 ∙ ap rowsFor (sym (w .7)),
+      w .10 ∙ ends-next ps (l .ends) (l .inv .4) (l .p) (shut t (playerAt ps (l .p))) never (shut-end t (playerAt ps (l .p)) d) ∙ ap
           endsFor (sym settles),
-      w .10 ∙ end-due t (l .p) b (l .book) (l .next) (l .inv .1) few (l .inv .2) d,
+      w .12 ∙ end-due t (l .p) b (l .book) (l .next) (l .inv .1) few (l .inv .2) d,
+      w .8 ∙ inner .2,
+      (
+        w .11 ∙ inner .3 .0 ∙ ap (λ (ms : List Line). goodLines (given .b .assets) (b .assetcount) ms (given .lent)) (sym (w .8)),
+        ap length (w .8) ∙ inner .3 .1,
+      ),
     ))
     (λ w.
     let d : expired t o ≡ false = sym due ∙ lt-leb (getD (l .ends) (l .p) 0) t (w .0 .left) in (
       w .2
           ∙ ap (λ (x : List Entry). with (l .book) x ps) (released-still t o es d)
           ∙ ap (with (l .book) (released t o es)) (shut-not t (l .p) ps d),
-      w .3 ∙ l .inv .3 ∙ ap rowsFor (sym (w .2)),
-      w .4 ∙ l .inv .4 ∙ ap endsFor (sym (w .2)),
-      w .5 ∙ w .1 .ensures ∙ ap (min (l .next)) (kept-end ps (l .ends) (l .inv .4) (l .p) here) ∙ end-on t (l .p) b (l .book) (l .next)
+      w .4 ∙ l .inv .3 ∙ ap rowsFor (sym (w .2)),
+      w .5 ∙ l .inv .4 ∙ ap endsFor (sym (w .2)),
+      w .7 ∙ w .1 .ensures ∙ ap (min (l .next)) (kept-end ps (l .ends) (l .inv .4) (l .p) here) ∙ end-on t (l .p) b (l .book) (l .next)
           (l .inv .1) few (l .inv .2) d,
+      w .3 ∙ lines-still b (g .report) t (l .p) few (l .book) (l .inv .1) (l .report) (l .inv .6) (given .b .assets) (sym (g .inv .6)) d,
+      (
+        w .6 ∙ l .inv .7 ∙ ap (λ (ms : List Line). goodLines (given .b .assets) (b .assetcount) ms (given .lent)) (sym (w .3)),
+        ap length (w .3) ∙ l .inv .8,
+      ),
     ))
     (c .if3 .came) in (
       omega arith,
@@ -687,6 +930,9 @@ loop2-again c =
       one .1,
       one .2,
       ap (λ (m : Book). length (m .players)) (one .0) ∙ length-set ps (l .p) _ ∙ l .inv .5,
+      one .4,
+      one .5 .0,
+      one .5 .1,
     )
 
 mul-player-2 : tie.Need-mul-player-2 Inv-loop2 μ-loop2 Inv-loop3 μ-loop3 Inv-loop μ-loop
@@ -731,10 +977,10 @@ loop3-holds c =
     (omega arith, omega (arith, m, c .looked-at .ensures, c .before .at-most-64 .ensures, min-le-right (n .entrycount) 64), refl)
 
 mul-row : tie.Need-mul-row Inv-loop2 μ-loop2 Inv-loop3 μ-loop3 Inv-loop μ-loop
-mul-row c = search needs
+mul-row c = omega (arith, c .loop3-test .taken, c .before .loop3 .inv .1)
 
 array-copy-out-row : tie.Need-array-copy-out-row Inv-loop2 μ-loop2 Inv-loop3 μ-loop3 Inv-loop μ-loop
-array-copy-out-row c = search needs
+array-copy-out-row c = omega (arith, c .loop3-test .taken, c .before .loop3 .inv .1)
 
 consider-row-requires :
     tie.Need-consider-row-requires Inv-loop2 μ-loop2 Inv-loop3 μ-loop3 Inv-loop μ-loop
@@ -752,7 +998,7 @@ loop3-again c =
     let s = c .before .before .before .before .before .before .before .before .before .before .before .before .before .before .before
     .before .before .before .before in
     let es = s .if2 .book .entries in
-    let ask = asks (event-at (judged (taken s))) in
+    let ask = asks (s .if2 .book) (event-at (judged (taken s))) in
     let asset = c .before .before .before .before .before .before .before .before .before .before .before .before .request .given .0 .1
     .0 in
     let kind = c .before .before .before .before .before .before .before .before .before .before .kind-number .result in
@@ -800,8 +1046,8 @@ kept-requires :
     tie.Need-kept-requires Inv-loop2 μ-loop2 Inv-loop3 μ-loop3 Inv-loop μ-loop
 kept-requires c κs = tt
 
-enum-told-5 : tie.Need-enum-told-5 Inv-loop2 μ-loop2 Inv-loop3 μ-loop3 Inv-loop μ-loop
-enum-told-5 c = search needs
+enum-known-request-2 : tie.Need-enum-known-request-2 Inv-loop2 μ-loop2 Inv-loop3 μ-loop3 Inv-loop μ-loop
+enum-known-request-2 c = search needs
 
 cast-begin-on : tie.Need-cast-begin-on Inv-loop2 μ-loop2 Inv-loop3 μ-loop3 Inv-loop μ-loop
 cast-begin-on c = search needs
@@ -809,15 +1055,15 @@ cast-begin-on c = search needs
 begin-on-requires : tie.Need-begin-on-requires Inv-loop2 μ-loop2 Inv-loop3 μ-loop3 Inv-loop μ-loop
 begin-on-requires c κs = tt
 
-enum-told-6 : tie.Need-enum-told-6 Inv-loop2 μ-loop2 Inv-loop3 μ-loop3 Inv-loop μ-loop
-enum-told-6 c = search needs
+enum-told-5 : tie.Need-enum-told-5 Inv-loop2 μ-loop2 Inv-loop3 μ-loop3 Inv-loop μ-loop
+enum-told-5 c = search needs
 
 continue-on-requires :
     tie.Need-continue-on-requires Inv-loop2 μ-loop2 Inv-loop3 μ-loop3 Inv-loop μ-loop
 continue-on-requires c κs = tt
 
-enum-told-7 : tie.Need-enum-told-7 Inv-loop2 μ-loop2 Inv-loop3 μ-loop3 Inv-loop μ-loop
-enum-told-7 c = search needs
+enum-told-6 : tie.Need-enum-told-6 Inv-loop2 μ-loop2 Inv-loop3 μ-loop3 Inv-loop μ-loop
+enum-told-6 c = search needs
 
 stop-on-requires : tie.Need-stop-on-requires Inv-loop2 μ-loop2 Inv-loop3 μ-loop3 Inv-loop μ-loop
 stop-on-requires c κs = tt
@@ -825,12 +1071,24 @@ stop-on-requires c κs = tt
 mul-y-2 : tie.Need-mul-y-2 Inv-loop2 μ-loop2 Inv-loop3 μ-loop3 Inv-loop μ-loop
 mul-y-2 c = search needs
 
+element-copy-out-y : tie.Need-element-copy-out-y Inv-loop2 μ-loop2 Inv-loop3 μ-loop3 Inv-loop μ-loop
+element-copy-out-y c = search needs
+
+mul-y-3 : tie.Need-mul-y-3 Inv-loop2 μ-loop2 Inv-loop3 μ-loop3 Inv-loop μ-loop
+mul-y-3 c = search needs
+
 element-set-from-y-2 :
     tie.Need-element-set-from-y-2 Inv-loop2 μ-loop2 Inv-loop3 μ-loop3 Inv-loop μ-loop
 element-set-from-y-2 c = search needs
 
-row-of-requires-2 : tie.Need-row-of-requires-2 Inv-loop2 μ-loop2 Inv-loop3 μ-loop3 Inv-loop μ-loop
-row-of-requires-2 c κs = tt
+mul-was : tie.Need-mul-was Inv-loop2 μ-loop2 Inv-loop3 μ-loop3 Inv-loop μ-loop
+mul-was c = omega (arith, c .before .before .before .if8 .taken)
+
+array-copy-out-was : tie.Need-array-copy-out-was Inv-loop2 μ-loop2 Inv-loop3 μ-loop3 Inv-loop μ-loop
+array-copy-out-was c = omega (arith, c .before .before .before .if8 .taken)
+
+refreshed-requires : tie.Need-refreshed-requires Inv-loop2 μ-loop2 Inv-loop3 μ-loop3 Inv-loop μ-loop
+refreshed-requires c κs = tt
 
 mul-rows-2 : tie.Need-mul-rows-2 Inv-loop2 μ-loop2 Inv-loop3 μ-loop3 Inv-loop μ-loop
 mul-rows-2 c = search needs
@@ -839,12 +1097,29 @@ array-set-from-rows-2 :
     tie.Need-array-set-from-rows-2 Inv-loop2 μ-loop2 Inv-loop3 μ-loop3 Inv-loop μ-loop
 array-set-from-rows-2 c = search needs
 
-mul-q-2 : tie.Need-mul-q-2 Inv-loop2 μ-loop2 Inv-loop3 μ-loop3 Inv-loop μ-loop
-mul-q-2 c = search needs
+request-line-requires : tie.Need-request-line-requires Inv-loop2 μ-loop2 Inv-loop3 μ-loop3 Inv-loop μ-loop
+request-line-requires c κs = tt
 
-element-set-from-q-2 :
-    tie.Need-element-set-from-q-2 Inv-loop2 μ-loop2 Inv-loop3 μ-loop3 Inv-loop μ-loop
-element-set-from-q-2 c = search needs
+request-seconds-requires : tie.Need-request-seconds-requires Inv-loop2 μ-loop2 Inv-loop3 μ-loop3 Inv-loop μ-loop
+request-seconds-requires c κs = tt
+
+mul-line-2 : tie.Need-mul-line-2 Inv-loop2 μ-loop2 Inv-loop3 μ-loop3 Inv-loop μ-loop
+mul-line-2 c = omega (arith, c .before .if9 .taken)
+
+array-copy-out-line-2 : tie.Need-array-copy-out-line-2 Inv-loop2 μ-loop2 Inv-loop3 μ-loop3 Inv-loop μ-loop
+array-copy-out-line-2 c = omega (arith, c .before .if9 .taken)
+
+raised-for-requires-2 : tie.Need-raised-for-requires-2 Inv-loop2 μ-loop2 Inv-loop3 μ-loop3 Inv-loop μ-loop
+raised-for-requires-2 c κs = tt
+
+mul-report-2 : tie.Need-mul-report-2 Inv-loop2 μ-loop2 Inv-loop3 μ-loop3 Inv-loop μ-loop
+mul-report-2 c = omega (arith, c .before .before .before .if9 .taken)
+
+array-set-from-report-2 : tie.Need-array-set-from-report-2 Inv-loop2 μ-loop2 Inv-loop3 μ-loop3 Inv-loop μ-loop
+array-set-from-report-2 c = omega (arith, c .before .before .before .if9 .taken)
+
+good-after-requires-2 : tie.Need-good-after-requires-2 Inv-loop2 μ-loop2 Inv-loop3 μ-loop3 Inv-loop μ-loop
+good-after-requires-2 c κs = tt
 
 end-of-requires : tie.Need-end-of-requires Inv-loop2 μ-loop2 Inv-loop3 μ-loop3 Inv-loop μ-loop
 end-of-requires c κs = tt
@@ -858,6 +1133,13 @@ array-write-ends-2 c = search needs
 min-time-requires-2 : tie.Need-min-time-requires-2 Inv-loop2 μ-loop2 Inv-loop3 μ-loop3 Inv-loop μ-loop
 min-time-requires-2 c κs = tt
 
+mul-q-2 : tie.Need-mul-q-2 Inv-loop2 μ-loop2 Inv-loop3 μ-loop3 Inv-loop μ-loop
+mul-q-2 c = search needs
+
+element-set-from-q-2 :
+    tie.Need-element-set-from-q-2 Inv-loop2 μ-loop2 Inv-loop3 μ-loop3 Inv-loop μ-loop
+element-set-from-q-2 c = search needs
+
 put-line-requires-4 :
     tie.Need-put-line-requires-4 Inv-loop2 μ-loop2 Inv-loop3 μ-loop3 Inv-loop μ-loop
 put-line-requires-4 c κs = tt
@@ -868,6 +1150,7 @@ loop-less-4 c =
     omega (arith, turn r .loop-test .taken)
 
 loop-again-4 : tie.Need-loop-again-4 Inv-loop2 μ-loop2 Inv-loop3 μ-loop3 Inv-loop μ-loop
+unfolding linesTaken settledBook
 loop-again-4 c =
     let x = c .before .before .before .before in
     let s = all-settled (chosen x) in
@@ -880,9 +1163,9 @@ loop-again-4 c =
     let j = e .player % 16 in
     let n = s .if2 .book in
     let ps = n .players in
-    let es = x .if5 .book .entries in
-    let answer = x .if5 .answer in
-    let current = x .if5 .current in
+    let es = x .if6 .book .entries in
+    let answer = x .if6 .answer in
+    let current = x .if6 .current in
     let z = after-settle s in
     let kept = assets-kept s in
     let u = left-by x in
@@ -890,38 +1173,52 @@ loop-again-4 c =
     let last : Last = answeredBy (first .result) answer in
     let q : Player = record { last = last; current = current } in
     let store : Book → Book = λ m. with m (m .entries) (set (m .players) j q) in
-    let is-book : store (x .if5 .book) ≡ closing n es j (e .time) last current = ap store (u .0) in
-    let f : stepRecord (l .book) (record-at r) ≡ record { answer = answer; book = store (x .if5 .book) } =
-    case-taken (l .book) (record-at r) e n (record { answer = answer; entries = es; current = current }) j last (is-admitted (taken s))
+    let is-book : store (x .if6 .book) ≡ closing n es j (e .time) last current = ap store (u .0) in
+    let v = lines-by x in
+    let f : arrive (l .book) (admitted-at r) ≡ record { answer = answer; book = store (x .if6 .book) } =
+    case-taken (l .book) (admitted-at r) e n (record { answer = answer; entries = es; current = current }) j last (is-admitted (taken s))
     (z .0 .is-settled) (u .2) (is-player (taken s)) (noted-answer e _ answer (first .result) (first .ensures))
     ∙ ap (λ (m : Book). record { answer = answer; book = m }) (sym is-book) in
+    let same-open : open-at (chosen x) ≡ openAt (map (shut (e .time)) (l .book .players)) (e .player) =
+    ap (openAt ps) (is-player (taken s)) ∙ ap (λ (m : Book). openAt (m .players) (e .player)) (z .0 .is-settled) in
+    let recorded : linesRead (l .book) (admitted-at r) (l .report) ≡ x .if6 .report =
+    case-lines (l .book) (admitted-at r) e (l .report) answer (is-admitted (taken s)) (ap (λ (o : Outcome). o .answer) f)
+    ∙ sym (v .0
+    ∙ ap (λ (ms : List Line). recordedAll (l .book) ms (endedBy (e .request) (e .time) (open-at (chosen x)) answer)) (z .3)
+    ∙ ap (λ (o : Open). recordedAll (l .book) (recordedAll (l .book) (l .report) (overdue (e .time) (l .book .players)))
+    (endedBy (e .request) (e .time) o answer)) same-open) in
     let beside = ends-by x q refl in (
       i .0,
-      progress-next (a .b) (a .records .now) (a .out .now) (l .i) (l .book) (l .out) (l .at) (l .inv .1) (i .1) answer
-          (store (x .if5 .book)) (p .last .0) (p .result) f (p .ensures),
-      subst (λ (m : Book). NextExpiry (x .if5 .next) (m .players)) (sym is-book) (beside .1),
+      progress-next (a .b) (a .lines) (a .lent) (a .records .now) (a .out .now) (l .i) (l .book) (l .report) (l .out) (l .at) (l .inv .1)
+          (i .1) answer (store (x .if6 .book)) (x .if6 .report) (p .last .0) (p .result)
+          (stepped r answer (store (x .if6 .book)) (x .if6 .report) f recorded) (p .ensures),
+      subst (λ (m : Book). NextExpiry (x .if6 .next) (m .players)) (sym is-book) (beside .1),
       u .3,
       ap (λ (m : Book). length (m .players)) is-book ∙ length-set ps j q ∙ z .0 .players,
       u .1 ∙ ap rowsFor (u .0) ∙ ap rowsFor (sym is-book),
       ap (λ (m : Book). m .assets) is-book ∙ kept .0,
       ap (λ (m : Book). m .assetcount) is-book ∙ kept .1,
       beside .0 ∙ ap endsFor (sym is-book),
+      v .1,
+      v .2,
     )
 
 same-length : tie.Need-same-length Inv-loop2 μ-loop2 Inv-loop3 μ-loop3 Inv-loop μ-loop
 same-length c =
-    let a = c .before .before .before .before .before .before .before .before .before .before .before .before .before .args in
+    let a = c .before .before .before .before .before .before .before .before .before .before .before .before .before .before .args in
     let l = c .before .loop in
-    progress-length (a .b) (a .records .now) (a .out .now) (l .i) (l .book) (l .out) (l .at) (l .inv .1) (omega arith)
+    progress-length (a .b) (a .lines) (a .lent) (a .records .now) (a .out .now) (l .i) (l .book) (l .report) (l .out) (l .at) (l .inv .1)
+    (omega arith)
 
 returns-2 : tie.Need-returns-2 Inv-loop2 μ-loop2 Inv-loop3 μ-loop3 Inv-loop μ-loop
-unfolding fits blockBook blockWritten blockBuffer recordCount
+unfolding fits blockBook blockLines blockWritten blockBuffer recordCount
 returns-2 c =
-    let a = c .before .before .before .before .before .before .before .before .before .before .before .before .before .args in
+    let a = c .before .before .before .before .before .before .before .before .before .before .before .before .before .before .args in
     let l = c .before .loop in
     let h : 19 * recordCount (a .records .now) ≤ length (a .out .now) = omega arith in
     rw (le-leb (19 * recordCount (a .records .now)) (length (a .out .now)) h)
-    (progress-all (a .b) (a .records .now) (a .out .now) (l .i) (l .book) (l .out) (l .at) (l .inv .1) (omega arith))
+    (let u = progress-all (a .b) (a .lines) (a .lent) (a .records .now) (a .out .now) (l .i) (l .book) (l .report) (l .out) (l .at)
+    (l .inv .1) (omega arith) in (u .0, u .1, refl, u .2, u .3))
 
 pub answer-block-spec : {M : Type 1} → statement M
 answer-block-spec =
@@ -938,15 +1235,16 @@ answer-block-spec =
     fill-places-requires
     rows-of-requires
     ends-of-requires
+    good-lines-requires
     loop-holds
     mul-from
     add-min-size
     min-size-requires
     add-i
-    sub-decode
-    part-decode-start
-    part-decode-end
-    decode-requires
+    sub-received
+    part-received-start
+    part-received-end
+    received-requires
     enum-known-code
     refusal-requires
     put-line-requires
@@ -983,6 +1281,14 @@ answer-block-spec =
     row-of-requires
     mul-rows
     array-set-from-rows
+    line-for-requires
+    saturating-sub-requires
+    mul-line
+    array-copy-out-line
+    raised-for-requires
+    mul-report
+    array-set-from-report
+    good-after-requires
     mul-shutting
     element-copy-out-shutting
     shut-player-requires
@@ -1018,18 +1324,30 @@ answer-block-spec =
     mul-held
     element-copy-out-held
     kept-requires
-    enum-told-5
+    enum-known-request-2
     cast-begin-on
     begin-on-requires
-    enum-told-6
+    enum-told-5
     continue-on-requires
-    enum-told-7
+    enum-told-6
     stop-on-requires
     mul-y-2
+    element-copy-out-y
+    mul-y-3
     element-set-from-y-2
-    row-of-requires-2
+    mul-was
+    array-copy-out-was
+    refreshed-requires
     mul-rows-2
     array-set-from-rows-2
+    request-line-requires
+    request-seconds-requires
+    mul-line-2
+    array-copy-out-line-2
+    raised-for-requires-2
+    mul-report-2
+    array-set-from-report-2
+    good-after-requires-2
     end-of-requires
     mul-ends-2
     array-write-ends-2

@@ -3,13 +3,13 @@ use Rattle.choice.specs.Best.{choiceAfter, bestAfter, considered, best-t
 use Rattle.choice.specs.declared.Best.{Best}
 use Rattle.choice.specs.declared.Row.{Row}
 use Rattle.choice.specs.Row.{rowConsidered, row-considered}
-use Rattle.model.specs.Choice.{chooseOf, anyOf}
+use Rattle.model.specs.Choice.{noEnd, chooseOf, anyOf}
 use Rattle.model.specs.Book.{limitsAt, metersAt}
 use native.Mathlib.Nat.{min-le-right}
 use borrow.Author.Needs.{needs}
 use native.Mathlib.Omega.{arith}
 use mathlib.Core.Path.{_≡_, refl, sym, ap, _∙_}
-use Prim.Native.Nat.{ℕ, _≤_, _-_}
+use Prim.Native.Nat.{ℕ, _≤_, _<_, _-_}
 use Rattle.choice.proofs.chosen.Statement.{statement}
 use Rattle.choice.proofs.chosen.Tie as tie
 
@@ -18,6 +18,10 @@ Inv-loop count asset parent kind ask es n best₀ i₀ best i = (i ≤ n) × (n 
 
 abbrev μ-loop : tie.MeasureT-loop
 μ-loop count asset parent kind ask es n best₀ i₀ best i = n - i
+
+-- the asker's time fits 32 bits
+time-fits : (c : tie.Start Inv-loop μ-loop) → c .args .ask .time < noEnd
+time-fits c = omega arith
 
 at-most-64-requires : tie.Need-at-most-64-requires Inv-loop μ-loop
 at-most-64-requires c κs = tt
@@ -54,7 +58,8 @@ loop-again c =
       l .inv .1,
       c .consider-row .ensures
           ∙ ap (λ (x : Row). rowConsidered (a .asset) (a .parent) (a .kind) (a .ask) (l .i) x (l .best)) (c .before .row-of .ensures)
-          ∙ row-considered (a .asset) (a .parent) (a .kind) (a .ask) (l .i) lim m (l .best) (omega arith)
+          ∙ row-considered (a .asset) (a .parent) (a .kind) (a .ask) (l .i) lim m (l .best) (time-fits
+          (c .before .before .before .before .before .before .before .before))
           ∙ ap (λ (x : Best). considered (a .asset) (a .parent) (a .kind) (a .ask) (l .i) (limitsAt (a .t1) (l .i))
           (metersAt (a .t1) (l .i)) x) (l .inv .2)
           ∙ sym (best-turn (a .t1) (a .asset) (a .parent) (a .kind) (a .ask) (l .i)),

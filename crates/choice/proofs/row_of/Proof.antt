@@ -1,6 +1,8 @@
 -- `choice::row_of` meets its contract: each field is the definition's.
 use Rattle.choice.specs.Row.{rowOf, startOf}
 use mathlib.Core.Path.{ap, _∙_}
+use mathlib.Core.Bool.{not, _&&_}
+use lib.Dec.{eqb}
 use Rattle.model.specs.Meters.{where-flagged}
 use Rattle.rules.specs.declared.Flags.{Flags}
 use Rattle.rules.specs.Rules.{flagsOf}
@@ -24,16 +26,18 @@ window-of-requires c κs = search needs
 returns : tie.Need-returns
 unfolding rowOf startOf rankOf flagsOf
 returns c =
-    let l = c .before .before .before .before .args .l in
-    let r = c .before .before .before .rank-of .ensures in
+    let l = c .before .before .before .before .before .before .args .l in
+    let r = c .before .before .before .before .before .rank-of .ensures in
     λ i. record {
       asset = l .asset;
       kind = l .kind;
       flags = r i .flags;
       fresh = r i .fresh;
-      start = (c .before .when .ensures ∙ ap (λ (f : Flags). where-flagged (f .start) (l .start)) (c .before .before .flags-of .ensures)) i;
-      window = c .window-of .ensures i;
+      start = (c .before .before .before .when .ensures ∙ ap (λ (f : Flags). where-flagged (f .start) (l .start))
+          (c .before .before .before .before .flags-of .ensures)) i;
+      window = c .before .before .window-of .ensures i;
       end = r i .end;
+      guarded = eqb (l .tracked) 1 && not (eqb (l .mark) 1);
     }
 
 pub row-of-spec : {M : Type 1} → statement M

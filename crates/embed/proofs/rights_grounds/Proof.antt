@@ -15,8 +15,8 @@ use borrow.Author.Needs.{needs}
 use Rattle.embed.proofs.rights_grounds.Statement.{statement}
 use Rattle.embed.proofs.rights_grounds.Tie as tie
 
-abbrev askAt : ℕ → ℕ → Ask
-askAt player t = record { player = player; time = t }
+abbrev askAt : ℕ → ℕ → Book → Ask
+askAt player t b = record { player = player; time = t; switch = b .switch }
 
 -- the entry at the time of the view, for that player
 found :
@@ -24,12 +24,12 @@ found :
     b ≡ heldBook s →
     t ≡ viewTime (b .time) time →
     e ≡ entryThen b t i →
-    groundValues (askAt player t) e ≡ groundsSeen s player time i
+    groundValues (askAt player t b) e ≡ groundsSeen s player time i
 unfolding groundsSeen entryFound
 found s player time i {b} {t} {e} same p q =
-    ap (groundValues (askAt player t)) q
-    ∙ ap (λ (u : ℕ). groundValues (askAt player u) (entryThen b u i)) p
-    ∙ ap (λ (x : Book). let u = viewTime (x .time) time in groundValues (askAt player u) (entryThen x u i)) same
+    ap (groundValues (askAt player t b)) q
+    ∙ ap (λ (u : ℕ). groundValues (askAt player u b) (entryThen b u i)) p
+    ∙ ap (λ (x : Book). let u = viewTime (x .time) time in groundValues (askAt player u x) (entryThen x u i)) same
 
 load-requires : tie.Need-load-requires
 load-requires c κs = search needs

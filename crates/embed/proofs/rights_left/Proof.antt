@@ -20,12 +20,12 @@ found :
     b ≡ heldBook s →
     t ≡ viewTime (b .time) time →
     e ≡ entryThen b t i →
-    leftValues t e ≡ leftSeen s time i
+    leftValues t (b .switch) e ≡ leftSeen s time i
 unfolding leftSeen entryFound
 found s time i {b} {t} {e} same p q =
-    ap (leftValues t) q
-    ∙ ap (λ (u : ℕ). leftValues u (entryThen b u i)) p
-    ∙ ap (λ (x : Book). let u = viewTime (x .time) time in leftValues u (entryThen x u i)) same
+    ap (leftValues t (b .switch)) q
+    ∙ ap (λ (u : ℕ). leftValues u (b .switch) (entryThen b u i)) p
+    ∙ ap (λ (x : Book). let u = viewTime (x .time) time in leftValues u (x .switch) (entryThen x u i)) same
 
 load-requires : tie.Need-load-requires
 load-requires c κs = search needs

@@ -67,6 +67,9 @@ mul-a c = omega arith
 array-copy-out-a : tie.Need-array-copy-out-a Inv-loop μ-loop
 array-copy-out-a c = omega arith
 
+cast-if1 : tie.Need-cast-if1 Inv-loop μ-loop
+cast-if1 c = search needs
+
 returns : tie.Need-returns Inv-loop μ-loop
 unfolding assetPosition
 returns c =
@@ -118,6 +121,7 @@ asset-position-spec =
     loop-holds
     mul-a
     array-copy-out-a
+    cast-if1
     returns
     add-i
     loop-less

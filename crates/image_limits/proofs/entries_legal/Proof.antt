@@ -39,6 +39,9 @@ mul-e c = omega arith
 array-copy-out-e : tie.Need-array-copy-out-e Inv-loop μ-loop
 array-copy-out-e c = omega arith
 
+cast-asset-position : tie.Need-cast-asset-position Inv-loop μ-loop
+cast-asset-position c = search needs
+
 asset-position-requires : tie.Need-asset-position-requires Inv-loop μ-loop
 asset-position-requires c κs = omega arith
 
@@ -53,9 +56,9 @@ loop-less c = omega arith
 
 loop-again : tie.Need-loop-again Inv-loop μ-loop
 loop-again c =
-    let b = c .before .before .before .before .before .before .before .before .before .before .args .b in
-    let n = c .before .before .before .before .before .before .before .at-most-64 .result in
-    let l = c .before .before .before .before .before .loop in
+    let b = c .before .before .before .before .before .before .before .before .before .before .before .args .b in
+    let n = c .before .before .before .before .before .before .before .before .at-most-64 .result in
+    let l = c .before .before .before .before .before .before .loop in
     let known = ap (λ (k : ℕ). limitsLegal (ltb k n) (limitsAt (b .entries) (l .i))) (c .before .asset-position .ensures) in
     (omega arith, ap₂ _&&_ (l .inv .1) (c .limits-legal .ensures ∙ known) ∙ sym (all-turn (judged (b .assets) n (b .entries)) (l .i)))
 
@@ -82,6 +85,7 @@ entries-legal-spec =
     loop-holds
     mul-e
     array-copy-out-e
+    cast-asset-position
     asset-position-requires
     limits-legal-requires
     add-i

@@ -14,15 +14,17 @@ momentary-requires c κs = search needs
 ranges-legal-requires : tie.Need-ranges-legal-requires
 ranges-legal-requires c κs = search needs
 
+track-legal-requires : tie.Need-track-legal-requires
+track-legal-requires c κs = search needs
+
 returns : tie.Need-returns
 unfolding limitsLegal flagsOf
 returns c = rw (
-  c .before .before .before .before .ranges-legal .ensures,
-  c .before .before .before .before .before .before .before
-      .before .before .before .momentary .ensures,
-  c .before .before .before .before .before .before .before .before .before .before
-      .before .flags-of .ensures,
+  c .track-legal .ensures,
+  c .before .before .before .before .before .ranges-legal .ensures,
+  c .before .before .before .before .before .before .before .before .before .before .before .momentary .ensures,
+  c .before .before .before .before .before .before .before .before .before .before .before .before .flags-of .ensures,
 )
 
 pub limits-legal-spec : {M : Type 1} → statement M
-limits-legal-spec = tie.close (tie.spec flags-of-requires momentary-requires ranges-legal-requires returns)
+limits-legal-spec = tie.close (tie.spec flags-of-requires momentary-requires ranges-legal-requires track-legal-requires returns)

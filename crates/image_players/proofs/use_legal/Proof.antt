@@ -25,15 +25,18 @@ inside-dates-requires c κs = search needs
 inside-interval-requires : tie.Need-inside-interval-requires
 inside-interval-requires c κs = search needs
 
+content-legal-requires : tie.Need-content-legal-requires
+content-legal-requires c κs = search needs
+
 returns : tie.Need-returns
 unfolding useLegal
 returns c = rw (
-  c .inside-interval .ensures,
-  c .before .inside-dates .ensures,
-  c .before .before .before .before .before .before .before
-      .grant-length .ensures,
+  c .content-legal .ensures,
+  c .before .inside-interval .ensures,
+  c .before .before .inside-dates .ensures,
+  c .before .before .before .before .before .before .before .before .grant-length .ensures,
 )
 
 pub use-legal-spec : {M : Type 1} → statement M
 use-legal-spec = tie.close (tie.spec cast-until grant-length-requires cast-length add-longest cast-entry inside-dates-requires
-    inside-interval-requires returns)
+    inside-interval-requires content-legal-requires returns)

@@ -1,7 +1,7 @@
 -- `image_read::rule_broken` meets its contract: at each return the stages before it have passed.
 use mathlib.Core.Path.{_≡_, sym, ap, _∙_}
-use mathlib.Core.Bool.{Bool, not}
-use Rattle.model.specs.Book.{ruleBroken}
+use mathlib.Core.Bool.{Bool, not, _&&_}
+use Rattle.model.specs.Book.{switchLegal, ruleBroken}
 use borrow.Author.Needs.{needs}
 use Rattle.image_read.proofs.rule_broken.Statement.{statement}
 use Rattle.image_read.proofs.rule_broken.Tie as tie
@@ -10,18 +10,22 @@ use Rattle.image_read.proofs.rule_broken.Tie as tie
 told : {r l w : Bool} → r ≡ l → not r ≡ w → not l ≡ w
 told e t = ap not (sym e) ∙ t
 
+-- the same for a result that is one of two tests
+both-told : {r l w : Bool} (t : Bool) → r ≡ l → not (t && r) ≡ w → not (t && l) ≡ w
+both-told t e h = ap (λ (x : Bool). not (t && x)) (sym e) ∙ h
+
 assets-legal-requires : tie.Need-assets-legal-requires
 assets-legal-requires c κs = search needs
 
 returns : tie.Need-returns
-unfolding ruleBroken
+unfolding ruleBroken switchLegal
 returns c = rw (told (c .before .assets-legal .ensures) (c .if1 .taken))
 
 entries-legal-requires : tie.Need-entries-legal-requires
 entries-legal-requires c κs = search needs
 
 returns-2 : tie.Need-returns-2
-unfolding ruleBroken
+unfolding ruleBroken switchLegal
 returns-2 c =
     rw (
       told (c .before .before .before .assets-legal .ensures) (c .before .before .if1 .left),
@@ -32,36 +36,39 @@ players-legal-requires : tie.Need-players-legal-requires
 players-legal-requires c κs = search needs
 
 returns-3 : tie.Need-returns-3
-unfolding ruleBroken
+unfolding ruleBroken switchLegal
 returns-3 c =
     rw (
-      told (c .before .before .before .before .before .assets-legal .ensures) (c .before .before .before .before .if1 .left),
-      told (c .before .before .before .entries-legal .ensures) (c .before .before .if2 .left),
-      told (c .before .players-legal .ensures) (c .if3 .taken),
+      told (c .before .before .before .before .before .before .assets-legal .ensures)
+          (c .before .before .before .before .before .if1 .left),
+      told (c .before .before .before .before .entries-legal .ensures) (c .before .before .before .if2 .left),
+      both-told _ (c .before .players-legal .ensures) (c .if3 .taken),
     )
 
 meters-legal-requires : tie.Need-meters-legal-requires
 meters-legal-requires c κs = search needs
 
 returns-4 : tie.Need-returns-4
-unfolding ruleBroken
+unfolding ruleBroken switchLegal
 returns-4 c =
     rw (
-      told (c .before .before .before .before .before .before .before .assets-legal .ensures)
-          (c .before .before .before .before .before .before .if1 .left),
-      told (c .before .before .before .before .before .entries-legal .ensures) (c .before .before .before .before .if2 .left),
-      told (c .before .before .before .players-legal .ensures) (c .before .before .if3 .left),
+      told (c .before .before .before .before .before .before .before .before .assets-legal .ensures)
+          (c .before .before .before .before .before .before .before .if1 .left),
+      told (c .before .before .before .before .before .before .entries-legal .ensures)
+          (c .before .before .before .before .before .if2 .left),
+      both-told _ (c .before .before .before .players-legal .ensures) (c .before .before .if3 .left),
       told (c .before .meters-legal .ensures) (c .if4 .taken),
     )
 
 returns-5 : tie.Need-returns-5
-unfolding ruleBroken
+unfolding ruleBroken switchLegal
 returns-5 c =
     rw (
-      told (c .before .before .before .before .before .before .before .assets-legal .ensures)
-          (c .before .before .before .before .before .before .if1 .left),
-      told (c .before .before .before .before .before .entries-legal .ensures) (c .before .before .before .before .if2 .left),
-      told (c .before .before .before .players-legal .ensures) (c .before .before .if3 .left),
+      told (c .before .before .before .before .before .before .before .before .assets-legal .ensures)
+          (c .before .before .before .before .before .before .before .if1 .left),
+      told (c .before .before .before .before .before .before .entries-legal .ensures)
+          (c .before .before .before .before .before .if2 .left),
+      both-told _ (c .before .before .before .players-legal .ensures) (c .before .before .if3 .left),
       told (c .before .meters-legal .ensures) (c .if4 .left),
     )
 

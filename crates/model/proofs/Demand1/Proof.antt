@@ -1,4 +1,4 @@
--- Demand 1 holds, for every book and every record.
+-- Demand 1 holds, for every book, every list of lines and every record.
 use mathlib.Core.Path.{_≡_, refl, sym, ap, _∙_, subst}
 use mathlib.Core.Logic.{_↔_, _⊎_, inl, inr}
 use Prim.Native.Nat.{ℕ, _+_, _≤_, _<_}
@@ -15,28 +15,34 @@ use Rattle.book.specs.declared.Last.{Last}
 use Rattle.book.specs.declared.Entry.{Entry}
 use Rattle.book.specs.declared.Open.{Open}
 use Rattle.book.specs.declared.Player.{Player}
+use Rattle.book.specs.declared.Line.{Line}
 use Rattle.book.specs.declared.Book.{Book}
 use Rattle.book.specs.declared.Event.{Event}
 use Rattle.book.specs.declared.Ask.{Ask}
 use Rattle.book.specs.declared.Outcome.{Outcome}
 use Rattle.book.specs.declared.Request.{Request}
 use Rattle.book.specs.declared.Request.the-variants.{Begin, Continue, Stop}
+use Rattle.book.specs.declared.Decoded.{Decoded}
+use Rattle.book.specs.declared.Decoded.the-variants.{Invalid, Valid}
 use Rattle.book.specs.declared.Gate.{Gate}
 use Rattle.book.specs.declared.Gate.the-variants.{Refuse, Resend, Take}
 use Rattle.book.specs.Blank.{noEntry, noPlayer, noBook, closed}
 use Rattle.model.specs.Book.{limitsAt, metersAt, playerAt, latestTime, momentary, between, assetsLegal, entriesLegal, requestLegal}
-use Rattle.model.specs.Book.{takenCode, answerLegal, playersLegal, metersLegal, ruleBroken, Legal}
+use Rattle.model.specs.Book.{takenCode, answerLegal, switchLegal, playersLegal, metersLegal, ruleBroken, Legal}
 use Rattle.model.specs.Image.{headerStart, newest, imageLength, Bytes, markIn, versionIn, assetCountIn, entryCountIn, timeIn}
 use Rattle.model.specs.Image.{headerBroken, readCode, readBook, bookIn}
 use Rattle.model.specs.Record.{kindNumber, operationNumber, requestAsset, requestKind, kindOf, requestOf, eventIn, decoded}
 use Rattle.model.specs.Gate.{sameRequest, sameNumber, gate}
 use Rattle.model.specs.Meters.{amend, isOn, expired, shut, settled}
 use Rattle.model.specs.Choice.{Catalog, catalogOf, usable, parentOf, own, suitable, grantable, suits, allowed, goesBefore, anyOf}
-use Rattle.model.specs.Choice.{choose, Choice, nobody, chosen, asks}
+use Rattle.model.specs.Choice.{choose, Choice, nobody, chosen, asks, failsForSwitch, noneGrantable}
 use Rattle.model.specs.Step.{Done, unchanged, granted, doBegin, more, doContinue, doStop, done, openAt, noted, takenStep, stepBy}
-use Rattle.model.specs.Step.{step, arrive, stepRecord}
+use Rattle.model.specs.Step.{step, arrive}
+use Rattle.model.specs.Report.{lineAt, good, recordedAll, endings, linesBy, linesRead, admitted, receive, linesLeft}
 use Rattle.model.specs.Demand1.{askedPlayer, askedNumber, askedOperation, askedAsset, askedKind, askedTime, LegalRequest, begin}
-use Rattle.model.specs.Demand1.{continue, stop, IsEvent, asker, SameNumber, SameRequest, InLine, InTime, Against, cut, no-player}
+use Rattle.model.specs.Demand1.{continue, stop, IsEvent, asker, SameNumber, SameRequest, InLine, InTime, Against, bad-list, cut}
+use Rattle.model.specs.Demand1.{no-player}
+use Rattle.model.specs.Demand1.{GoodList, received, left}
 use Rattle.model.specs.Demand1.{no-request, unlike, out-of-line, out-of-time, IsResend, IsTaken, Verdict, turned-away, resend, taken}
 use Rattle.model.specs.Demand1.{refused, TakenCode, Settles, settledEntries, LeavesSettled, Opens, Stored, TableCode, Answered}
 use Rattle.model.specs.Demand1.{ImageCode, IsImage, Demand1}
@@ -45,6 +51,7 @@ use Rattle.model.proofs.Ledger.Concrete.{Sure, choose-sound, shut-at}
 use Rattle.model.proofs.Ledger.WellFormed.{Static, step-static}
 use Rattle.model.proofs.Demand3.Checks.{gate-again, gate-4, gate-3, gate-5, gate-0, same-number, other-number, follows-line}
 use Rattle.model.proofs.Demand3.Checks.{line-follows, in-time, not-in-time}
+use Rattle.model.proofs.Demand3.Lines.{good-list, list-good, bad-list as not-good, all-size, all-further, all-content, all-off}
 use Rattle.model.proofs.Legal.Rules.{stages-from, used-from}
 use Rattle.model.proofs.Image.Header.{header-passed, accepted-stages}
 use Rattle.model.proofs.Image.RoundTrip.{demand2}
@@ -100,21 +107,25 @@ numbers operation asset kind (stop o a k) = rw o (record { same-operation = refl
 
 -- ## What a taken event does, once all players are settled
 
--- a code of 10 to 15 and nothing changed, or a grant that changes no entry but its own
+-- a code of 10 to 15 or 43 and nothing changed, or a grant that changes no entry but its own
 data Did (es : List Entry) (o : Open) (d : Done) : Type 0 where
   kept : (code : ℕ) → 10 ≤ code → code ≤ 15 → d ≡ unchanged code es o → Did es o d
+  kept-43 : d ≡ unchanged 43 es o → Did es o d
   gave : d .answer .code ≡ 0 → ((i : ℕ) → (i ≡ d .answer .entry → ⊥) → getD (d .entries) i noEntry ≡ getD es i noEntry) → Did es o d
 
 begin-did : (c : Catalog) (es : List Entry) (o : Open) (t : Ask) (asset kind : ℕ) → Did es o (doBegin c es o t asset kind)
-unfolding doBegin amend
+unfolding doBegin amend noneGrantable
 begin-did c es o t asset kind =
     on-test (isOn o) (λ q. rw q (kept 11 (omega arith) (omega arith) refl)) (λ q.
     on-test (not (usable c asset)) (λ r. rw (q, r) (kept 10 (omega arith) (omega arith) refl)) (λ r.
     on-test (not (anyOf (suits c es asset kind) (c .entryCount))) (λ u. rw (q, r, u) (kept 12 (omega arith) (omega arith) refl)) (λ u.
     rw (q, r, u) (go _ (choose c es t asset kind)))))
   where
-    go : (o′ : Open) (x : Choice) → Did es o′ (granted (t .time) es o′ x)
-    go o′ nobody = kept 13 (omega arith) (omega arith) refl
+    go : (o′ : Open) (x : Choice) → Did es o′ (granted (noneGrantable c es t asset kind) (t .time) asset es o′ x)
+    go o′ nobody =
+        on-test (anyOf (failsForSwitch c es t asset kind) (c .entryCount))
+        (λ q. rw q (kept-43 refl))
+        (λ q. rw q (kept 13 (omega arith) (omega arith) refl))
     go o′ (chosen i) = gave refl (λ j n. getD-set-other es i j _ noEntry n)
 
 done-did : (q : Request) (c : Catalog) (es : List Entry) (o : Open) (t : Ask) → Did es o (done q c es o t)
@@ -132,16 +143,19 @@ done-did Stop c es o t =
 did-code : {es : List Entry} {o : Open} {d : Done} → Did es o d → TakenCode (d .answer .code)
 did-code (kept code low high q) =
     let c = ap (λ (x : Done). x .answer .code) q in
-    inr (omega (arith, low, c), omega (arith, high, c))
+    inr (inl (omega (arith, low, c), omega (arith, high, c)))
+did-code (kept-43 q) = inr (inr (ap (λ (x : Done). x .answer .code) q))
 did-code (gave z f) = inl z
 
 did-grants : {es : List Entry} {o : Open} {d : Done} → Did es o d → d .answer .code ≡ 0
     → (i : ℕ) → (i ≡ d .answer .entry → ⊥) → getD (d .entries) i noEntry ≡ getD es i noEntry
 did-grants (kept code low high q) z = absurd (omega (arith, z, low, ap (λ (x : Done). x .answer .code) q))
+did-grants (kept-43 q) z = absurd (omega (arith, z, ap (λ (x : Done). x .answer .code) q))
 did-grants (gave z f) y = f
 
 did-refuses : {es : List Entry} {o : Open} {d : Done} → Did es o d → (d .answer .code ≡ 0 → ⊥) → d ≡ unchanged (d .answer .code) es o
 did-refuses {es} {o} {d} (kept code low high q) n = subst (λ (x : Done). x ≡ unchanged (x .answer .code) es o) (sym q) refl
+did-refuses {es} {o} {d} (kept-43 q) n = subst (λ (x : Done). x ≡ unchanged (x .answer .code) es o) (sym q) refl
 did-refuses (gave z f) n = absurd (n z)
 
 -- ## What a grant opens
@@ -157,22 +171,30 @@ kind-runs : (k : ℕ) → k ≤ 3 → momentary k ≡ false
 unfolding momentary
 kind-runs k h = on-test (leb 4 k) (λ q. absurd (omega (arith, leb-true 4 k q, h))) (λ q. rw q)
 
-record Opened (o : Open) (t kind : ℕ) (d : Done) : Type 0 where
-  runs : kind ≤ 3 → d .current ≡ record { on = 1; entry = d .answer .entry; begin = t; until = d .answer .until }
+record Opened (o : Open) (t asset kind : ℕ) (d : Done) : Type 0 where
+  runs : kind ≤ 3 → d .current ≡ record { on = 1; entry = d .answer .entry; begin = t; until = d .answer .until; content = asset }
   moment : 4 ≤ kind → kind ≤ 5 → d .current ≡ o
 
 begin-opens : (c : Catalog) (es : List Entry) (o : Open) (t : Ask) (asset kind : ℕ) → doBegin c es o t asset kind .answer .code ≡ 0
-    → Opened o (t .time) kind (doBegin c es o t asset kind)
-unfolding doBegin choose suitable
+    → Opened o (t .time) asset kind (doBegin c es o t asset kind)
+unfolding doBegin choose suitable noneGrantable
 begin-opens c es o t asset kind z =
     on-test (isOn o) (λ q. absurd (no-code 11 (omega arith) (rw q at z))) (λ q.
     on-test (not (usable c asset)) (λ r. absurd (no-code 10 (omega arith) (rw (q, r) at z))) (λ r.
     on-test (not (anyOf (suits c es asset kind) (c .entryCount))) (λ u. absurd (no-code 12 (omega arith) (rw (q, r, u) at z))) (λ u.
     rw (q, r, u) (go _ (choose c es t asset kind) refl (rw (q, r, u) at z)))))
   where
-    go : (o′ : Open) (x : Choice) → choose c es t asset kind ≡ x → granted (t .time) es o′ x .answer .code ≡ 0 → Opened o′ (t .time)
-        kind (granted (t .time) es o′ x)
-    go o′ nobody e y = absurd (no-code 13 (omega arith) y)
+    none : (w : ℕ) → (w ≡ 13) ⊎ (w ≡ 43) → w ≡ 0 → ⊥
+    none w (inl z) y = omega arith
+    none w (inr z) y = omega arith
+
+    code : (noneGrantable c es t asset kind ≡ 13) ⊎ (noneGrantable c es t asset kind ≡ 43)
+    code = on-test (anyOf (failsForSwitch c es t asset kind) (c .entryCount)) (λ q. inr (rw q)) (λ q. inl (rw q))
+
+    go : (o′ : Open) (x : Choice) → choose c es t asset kind ≡ x
+        → granted (noneGrantable c es t asset kind) (t .time) asset es o′ x .answer .code ≡ 0
+        → Opened o′ (t .time) asset kind (granted (noneGrantable c es t asset kind) (t .time) asset es o′ x)
+    go o′ nobody e y = absurd (none (noneGrantable c es t asset kind) code y)
     go o′ (chosen i) e y =
         let s : Sure (allowed c es t asset kind) (c .entryCount) i = choose-sound _ (goesBefore es asset) (c .entryCount) i e in
         let a : suits c es asset kind i ≡ true = and-left (suits c es asset kind i) (grantable t (limitsAt es i) (metersAt es i))
@@ -189,8 +211,8 @@ continue-opens : (es : List Entry) (o : Open) (t : ℕ) → doContinue es o t .a
       on = 1;
       entry = doContinue es o t .answer .entry;
       begin = o .begin;
-      until
-          = doContinue es o t .answer .until;
+      until = doContinue es o t .answer .until;
+      content = o .content;
     })
 unfolding doContinue
 continue-opens es o t z =
@@ -229,8 +251,9 @@ test-code c h =
     on-same c 0
     (λ z. inl z)
     (λ z.
-    let w : between 10 15 c ≡ true = rw (ne-eqb c 0 z) at h in
-    inr (leb-true 10 c (and-left (leb 10 c) (leb c 15) w), leb-true c 15 (and-right (leb 10 c) (leb c 15) w)))
+    on-test (between 10 15 c)
+    (λ w. inr (inl (leb-true 10 c (and-left (leb 10 c) (leb c 15) w), leb-true c 15 (and-right (leb 10 c) (leb c 15) w))))
+    (λ w. inr (inr (eqb-true c 43 (rw (ne-eqb c 0 z, w) at h)))))
 
 -- a stage of the reader
 stage : (t : Bool) (c x : ℕ) → 20 ≤ c → c ≤ 27 → ImageCode x → ImageCode (cond t c x)
@@ -239,34 +262,42 @@ stage false c x low high h = h
 
 -- ## A record
 
-module _ (b : Book) (s : List ℕ) where
+module _ (b : Book) (ls : List Line) (s : List ℕ) where
   abbrev e : Event
   e = eventIn s
 
   abbrev l : Last
   l = asker b s .last
 
-  -- the answer to a list that is no event
-  cut-away : (length s ≡ 13 → ⊥) → stepRecord b s ≡ record { answer = refused 6; book = b }
-  unfolding stepRecord arrive decoded
-  cut-away n = rw (ne-eqb (length s) 13 n)
+  -- without the list's check: the answer is a, book and lines stay
+  abbrev Untouched : Answer → Type 0
+  Untouched a = (arrive b (decoded s) ≡ record { answer = a; book = b }) × (linesRead b (decoded s) ls ≡ ls)
 
-  player-away : length s ≡ 13 → 15 < askedPlayer s → stepRecord b s ≡ record { answer = refused 2; book = b }
-  unfolding stepRecord arrive decoded
-  player-away w p = rw (eq-eqb (length s) 13 w, lt-ltb 15 (askedPlayer s) p)
+  -- the answer to a list of numbers that is no event
+  invalid : (code : ℕ) → decoded s ≡ Invalid code → Untouched (refused code)
+  unfolding arrive linesRead
+  invalid code q = (ap (arrive b) q, ap (λ (d : Decoded). linesRead b d ls) q)
+
+  cut-away : (length s ≡ 13 → ⊥) → Untouched (refused 6)
+  unfolding decoded
+  cut-away n = invalid 6 (rw (ne-eqb (length s) 13 n))
+
+  player-away : length s ≡ 13 → 15 < askedPlayer s → Untouched (refused 2)
+  unfolding decoded
+  player-away w p = invalid 2 (rw (eq-eqb (length s) 13 w, lt-ltb 15 (askedPlayer s) p))
 
   request-away : length s ≡ 13 → askedPlayer s ≤ 15 → (LegalRequest (askedOperation s) (askedAsset s) (askedKind s) → ⊥)
-      → stepRecord b s ≡ record { answer = refused 1; book = b }
-  unfolding stepRecord arrive decoded
+      → Untouched (refused 1)
+  unfolding decoded
   request-away w p n =
       let q : requestLegal (askedOperation s) (askedAsset s) (askedKind s) ≡ false =
       on-test (requestLegal (askedOperation s) (askedAsset s) (askedKind s))
       (λ r. absurd (n (test-legal (askedOperation s) (askedAsset s) (askedKind s) r))) (λ r. r) in
-      rw (eq-eqb (length s) 13 w, le-ltb 15 (askedPlayer s) p, q)
+      invalid 1 (rw (eq-eqb (length s) 13 w, le-ltb 15 (askedPlayer s) p, q))
 
   -- a list that is an event takes the step
-  event-is : IsEvent s → stepRecord b s ≡ step b e
-  unfolding stepRecord arrive decoded
+  event-is : IsEvent s → decoded s ≡ Valid e
+  unfolding decoded
   event-is v = rw (
     eq-eqb (length s) 13 (v .whole),
     le-ltb 15 (askedPlayer s) (v .player),
@@ -274,9 +305,30 @@ module _ (b : Book) (s : List ℕ) where
         (askedKind s) (v .request),
   )
 
-  gated : IsEvent s → (g : Gate) → gate (b .time) l e ≡ g → stepRecord b s ≡ stepBy g b e
-  unfolding step eventIn
-  gated v g q = event-is v ∙ ap (λ (x : Gate). stepBy x b e) q
+  gated : IsEvent s → (g : Gate) → gate (b .time) l e ≡ g
+      → (arrive b (decoded s) ≡ stepBy g b e) × (linesRead b (decoded s) ls ≡ linesBy g b e ls)
+  unfolding arrive linesRead step eventIn
+  gated v g q = (
+    ap (arrive b) (event-is v) ∙ ap (λ (x : Gate). stepBy x b e) q,
+    ap (λ (d : Decoded). linesRead b d ls) (event-is v) ∙ ap (λ (x : Gate). linesBy x b e ls) q,
+  )
+
+  -- with a good list nothing else happens, with any other 30
+  module _ (g : GoodList b ls) where
+    goes : received b ls s ≡ arrive b (decoded s)
+    unfolding receive admitted
+    goes = rw (list-good b ls g)
+
+    goes-lines : left b ls s ≡ linesRead b (decoded s) ls
+    unfolding linesLeft admitted
+    goes-lines = rw (list-good b ls g)
+
+    untouched : (a : Answer) → Untouched a → (received b ls s ≡ record { answer = a; book = b }) × (left b ls s ≡ ls)
+    untouched a u = (goes ∙ u .0, goes-lines ∙ u .1)
+
+  bad-away : (GoodList b ls → ⊥) → (received b ls s ≡ record { answer = refused 30; book = b }) × (left b ls s ≡ ls)
+  unfolding receive linesLeft admitted arrive linesRead
+  bad-away n = let q = not-good b ls n in (rw q, rw q)
 
   -- ## The checks in words
 
@@ -308,44 +360,46 @@ module _ (b : Book) (s : List ℕ) where
   other-line : InLine b s → sameNumber l (askedNumber s) ≡ false
   other-line i = other-number l (askedNumber s) (λ p q. omega (arith, q, i .number))
 
-  unlike-away : IsEvent s → SameNumber b s → (SameRequest b s → ⊥) → stepRecord b s ≡ record { answer = refused 4; book = b }
-  unfolding stepBy eventIn
+  unlike-away : IsEvent s → SameNumber b s → (SameRequest b s → ⊥) → Untouched (refused 4)
+  unfolding stepBy linesBy eventIn
   unlike-away v n d =
       let r : sameRequest l (e .request) ≡ false = on-test (sameRequest l (e .request)) (λ q. absurd (d (request-same v q))) (λ q. q) in
       gated v (Refuse 4) (gate-4 (b .time) l e (v .player) (same-number l (askedNumber s) (n .not-none) (n .number))
       (rw r (and-false (sameNumber l (askedNumber s)))))
 
-  line-away : IsEvent s → (SameNumber b s → ⊥) → (InLine b s → ⊥) → stepRecord b s ≡ record { answer = refused 3; book = b }
-  unfolding stepBy eventIn
+  line-away : IsEvent s → (SameNumber b s → ⊥) → (InLine b s → ⊥) → Untouched (refused 3)
+  unfolding stepBy linesBy eventIn
   line-away v n d =
       gated v (Refuse 3)
       (gate-3 (b .time) l e (v .player)
       (other-number l (askedNumber s) (λ p q. n (record { not-none = p; number = q })))
       (line-follows l (askedNumber s) (λ p q. d (record { not-last = p; number = q }))))
 
-  time-away : IsEvent s → InLine b s → (InTime b s → ⊥) → stepRecord b s ≡ record { answer = refused 5; book = b }
-  unfolding stepBy eventIn
+  time-away : IsEvent s → InLine b s → (InTime b s → ⊥) → Untouched (refused 5)
+  unfolding stepBy linesBy eventIn
   time-away v i d =
       gated v (Refuse 5)
       (gate-5 (b .time) l e (v .player) (other-line i) (follows-line l (askedNumber s) (i .not-last) (i .number))
       (not-in-time (b .time) (askedTime s) (λ p q. d (record { not-back = p; not-late = q }))))
 
-  away : (code : ℕ) → Against b s code → stepRecord b s ≡ record { answer = refused code; book = b }
-  away code (cut c n) = rw c (cut-away n)
-  away code (no-player c w p) = rw c (player-away w p)
-  away code (no-request c w p n) = rw c (request-away w p n)
-  away code (unlike c v n d) = rw c (unlike-away v n d)
-  away code (out-of-line c v n d) = rw c (line-away v n d)
-  away code (out-of-time c v i d) = rw c (time-away v i d)
+  away : (code : ℕ) → Against b ls s code → (received b ls s ≡ record { answer = refused code; book = b }) × (left b ls s ≡ ls)
+  away code (bad-list c n) = rw c (bad-away n)
+  away code (cut c g n) = rw c (untouched g (refused 6) (cut-away n))
+  away code (no-player c g w p) = rw c (untouched g (refused 2) (player-away w p))
+  away code (no-request c g w p n) = rw c (untouched g (refused 1) (request-away w p n))
+  away code (unlike c g v n d) = rw c (untouched g (refused 4) (unlike-away v n d))
+  away code (out-of-line c g v n d) = rw c (untouched g (refused 3) (line-away v n d))
+  away code (out-of-time c g v i d) = rw c (untouched g (refused 5) (time-away v i d))
 
-  resent : IsResend b s → stepRecord b s ≡ record { answer = l .answer; book = b }
-  unfolding stepBy eventIn
+  resent : IsResend b ls s → (received b ls s ≡ record { answer = l .answer; book = b }) × (left b ls s ≡ ls)
+  unfolding stepBy linesBy eventIn
   resent r =
-      gated (r .event) Resend
+      untouched (r .list) (l .answer)
+      (gated (r .event) Resend
       (gate-again (b .time) l e (r .event .player) (and-both (same-number l (askedNumber s) (r .number .not-none) (r .number .number))
-      (same-request (r .event) (r .request))))
+      (same-request (r .event) (r .request)))))
 
-  takes : IsTaken b s → gate (b .time) l e ≡ Take
+  takes : IsTaken b ls s → gate (b .time) l e ≡ Take
   unfolding eventIn
   takes t =
       gate-0 (b .time) l e (t .event .player) (other-line (t .line)) (follows-line l (askedNumber s) (t .line .not-last) (t .line .number))
@@ -374,43 +428,45 @@ module _ (b : Book) (s : List ℕ) where
       (λ y. inr (λ i. omega (arith, i .not-late, leb-false (askedTime s) 4000000000 y))))
       (λ z. inr (λ i. omega (arith, i .not-back, leb-false (b .time) (askedTime s) z)))
 
-  event-verdict : IsEvent s → Verdict b s
-  event-verdict v = numbered number-or
+  event-verdict : GoodList b ls → IsEvent s → Verdict b ls s
+  event-verdict g v = numbered number-or
     where
-      timed : InLine b s → InTime b s ⊎ (InTime b s → ⊥) → Verdict b s
-      timed i (inl t) = taken (record { event = v; line = i; time = t })
-      timed i (inr n) = turned-away 5 (out-of-time refl v i n)
+      timed : InLine b s → InTime b s ⊎ (InTime b s → ⊥) → Verdict b ls s
+      timed i (inl t) = taken (record { list = g; event = v; line = i; time = t })
+      timed i (inr n) = turned-away 5 (out-of-time refl g v i n)
 
-      lined : (SameNumber b s → ⊥) → InLine b s ⊎ (InLine b s → ⊥) → Verdict b s
+      lined : (SameNumber b s → ⊥) → InLine b s ⊎ (InLine b s → ⊥) → Verdict b ls s
       lined n (inl i) = timed i time-or
-      lined n (inr d) = turned-away 3 (out-of-line refl v n d)
+      lined n (inr d) = turned-away 3 (out-of-line refl g v n d)
 
-      numbered : SameNumber b s ⊎ (SameNumber b s → ⊥) → Verdict b s
+      numbered : SameNumber b s ⊎ (SameNumber b s → ⊥) → Verdict b ls s
       numbered (inl n) =
           on-test (sameRequest l (e .request))
-          (λ q. resend (record { event = v; number = n; request = request-same v q }))
-          (λ q. turned-away 4 (unlike refl v n (λ r. clash (same-request v r) q)))
+          (λ q. resend (record { list = g; event = v; number = n; request = request-same v q }))
+          (λ q. turned-away 4 (unlike refl g v n (λ r. clash (same-request v r) q)))
       numbered (inr n) = lined n line-or
 
-  verdict : Verdict b s
-  verdict =
-      on-same (length s) 13
-      (λ w. on-test (ltb 15 (askedPlayer s))
-      (λ p. turned-away 2 (no-player refl w (ltb-true 15 (askedPlayer s) p)))
-      (λ p. on-test (requestLegal (askedOperation s) (askedAsset s) (askedKind s))
-      (λ r. event-verdict (record {
-        whole = w;
-        player = ltb-false 15 (askedPlayer s) p;
-        request = test-legal (askedOperation s)
-            (askedAsset s) (askedKind s) r;
-      }))
-      (λ r. turned-away 1 (no-request refl w (ltb-false 15 (askedPlayer s) p)
-      (λ y. clash (legal-test (askedOperation s) (askedAsset s) (askedKind s) y) r)))))
-      (λ n. turned-away 6 (cut refl n))
+  verdict : Verdict b ls s
+  verdict = on-test (good b ls) (λ q. judged (good-list b ls q)) (λ q. turned-away 30 (bad-list refl (λ g. clash (list-good b ls g) q)))
+    where
+      judged : GoodList b ls → Verdict b ls s
+      judged g =
+          on-same (length s) 13
+          (λ w. on-test (ltb 15 (askedPlayer s))
+          (λ p. turned-away 2 (no-player refl g w (ltb-true 15 (askedPlayer s) p)))
+          (λ p. on-test (requestLegal (askedOperation s) (askedAsset s) (askedKind s))
+          (λ r. event-verdict g (record {
+            whole = w;
+            player = ltb-false 15 (askedPlayer s) p;
+            request = test-legal (askedOperation s) (askedAsset s) (askedKind s) r;
+          }))
+          (λ r. turned-away 1 (no-request refl g w (ltb-false 15 (askedPlayer s) p)
+          (λ y. clash (legal-test (askedOperation s) (askedAsset s) (askedKind s) y) r)))))
+          (λ n. turned-away 6 (cut refl g n))
 
   -- ## What is stored
 
-  module _ (t : IsTaken b s) where
+  module _ (t : IsTaken b ls s) where
     abbrev ps : List Player
     ps = map (shut (askedTime s)) (b .players)
 
@@ -421,14 +477,14 @@ module _ (b : Book) (s : List ℕ) where
     o = openAt ps (askedPlayer s)
 
     abbrev d : Done
-    d = done (e .request) (catalogOf b) es o (asks e)
+    d = done (e .request) (catalogOf b) es o (asks b e)
 
     abbrev new : Outcome
     new = takenStep b e
 
-    new-is : stepRecord b s ≡ new
+    new-is : received b ls s ≡ new
     unfolding stepBy
-    new-is = gated (t .event) Take (takes t)
+    new-is = goes (t .list) ∙ gated (t .event) Take (takes t) .0
 
     static : Static b (new .book)
     unfolding step stepBy eventIn
@@ -463,7 +519,7 @@ module _ (b : Book) (s : List ℕ) where
         λ i. record { number = askedNumber s; operation = n .same-operation i; asset = n .same-asset i; kind = n .same-kind i; answer = a }
 
     did : Did es o d
-    did = done-did (e .request) (catalogOf b) es o (asks e)
+    did = done-did (e .request) (catalogOf b) es o (asks b e)
 
     leaves : (d .answer .code ≡ 0 → ⊥) → LeavesSettled b s new
     unfolding takenStep eventIn
@@ -479,8 +535,8 @@ module _ (b : Book) (s : List ℕ) where
         }
 
     -- the operation by its number
-    done-as : (q : Request) → e .request ≡ q → d ≡ done q (catalogOf b) es o (asks e)
-    done-as q x = ap (λ (y : Request). done y (catalogOf b) es o (asks e)) x
+    done-as : (q : Request) → e .request ≡ q → d ≡ done q (catalogOf b) es o (asks b e)
+    done-as q x = ap (λ (y : Request). done y (catalogOf b) es o (asks b e)) x
 
     begin-kind : askedOperation s ≡ 1 → (1 ≤ askedKind s) × (askedKind s ≤ 5)
     begin-kind h = go (t .event .request)
@@ -490,34 +546,45 @@ module _ (b : Book) (s : List ℕ) where
         go (continue x a k) = absurd (omega (arith, h, x))
         go (stop x a k) = absurd (omega (arith, h, x))
 
-    opened : askedOperation s ≡ 1 → d .answer .code ≡ 0 → Opened o (askedTime s) (askedKind s) d
+    opened : askedOperation s ≡ 1 → d .answer .code ≡ 0 → Opened o (askedTime s) (askedAsset s) (askedKind s) d
     unfolding eventIn requestOf done
     opened h z =
         let k : kindNumber (kindOf (askedKind s)) ≡ askedKind s = kind-number (askedKind s) (begin-kind h .0) (begin-kind h .1) in
-        let q : d ≡ doBegin (catalogOf b) es o (asks e) (askedAsset s) (askedKind s) = done-as
+        let q : d ≡ doBegin (catalogOf b) es o (asks b e) (askedAsset s) (askedKind s) = done-as
         (Begin (kindOf (askedKind s)) (askedAsset s)) (rw h) ∙ rw k in
-        subst (Opened o (askedTime s) (askedKind s)) (sym q)
-        (begin-opens (catalogOf b) es o (asks e) (askedAsset s) (askedKind s) (sym (ap (λ (x : Done). x .answer .code) q) ∙ z))
+        subst (Opened o (askedTime s) (askedAsset s) (askedKind s)) (sym q)
+        (begin-opens (catalogOf b) es o (asks b e) (askedAsset s) (askedKind s) (sym (ap (λ (x : Done). x .answer .code) q) ∙ z))
 
     lengthened : askedOperation s ≡ 2 → d .answer .code ≡ 0
-        → d .current ≡ record { on = 1; entry = d .answer .entry; begin = asker b s .current .begin; until = d .answer .until }
+        → d .current ≡ record {
+          on = 1;
+          entry = d .answer .entry;
+          begin = asker b s .current .begin;
+          until = d .answer .until;
+          content = asker b s .current .content;
+        }
     unfolding eventIn requestOf done
     lengthened h z =
         let q : d ≡ doContinue es o (askedTime s) = done-as Continue (rw h) in
         let y = continue-opens es o (askedTime s) (sym (ap (λ (x : Done). x .answer .code) q) ∙ z) in
-        let was : o .begin ≡ asker b s .current .begin =
-        ap (λ (x : Open). x .begin)
-        (ap (λ (x : Player). x .current) (shut-at (askedTime s) (b .players) (askedPlayer s)) ∙
+        let was : o ≡ asker b s .current =
+        ap (λ (x : Player). x .current) (shut-at (askedTime s) (b .players) (askedPlayer s)) ∙
         shut-on (askedTime s) (asker b s) (ap (λ (x : Player). isOn (x .current))
-        (sym (shut-at (askedTime s) (b .players) (askedPlayer s))) ∙ y .0)) in
+        (sym (shut-at (askedTime s) (b .players) (askedPlayer s))) ∙ y .0) in
         subst (λ (x : Done). x .current ≡ record {
           on = 1;
           entry = x .answer .entry;
           begin = asker b s .current .begin;
-          until = x
-              .answer .until;
+          until = x .answer .until;
+          content = asker b s .current .content;
         }) (sym q)
-        (rw (← was) (y .1))
+        (y .1 ∙ ap (λ (w : Open). record {
+          on = 1;
+          entry = doContinue es o (askedTime s) .answer .entry;
+          begin = w .begin;
+          until = doContinue es o (askedTime s) .answer .until;
+          content = w .content;
+        }) was)
 
     halted : askedOperation s ≡ 3 → d .answer .code ≡ 0 → d .current ≡ closed
     unfolding eventIn requestOf done
@@ -546,6 +613,7 @@ module _ (b : Book) (s : List ℕ) where
       currents = λ p n.
           subst (λ (x : Player). Settles (askedTime s) (playerAt (b .players) p .current) (x .current)) (sym (other-record p n))
           (shut-settles (askedTime s) (playerAt (b .players) p));
+      switch = static .switch;
       assets = static .assets;
       assetcount = static .assetcount;
       entrycount = static .entrycount;
@@ -560,27 +628,37 @@ module _ (b : Book) (s : List ℕ) where
 
   -- ## The whole
 
-  against-range : (code : ℕ) → Against b s code → (1 ≤ code) × (code ≤ 6)
-  against-range code (cut c n) = (omega arith, omega arith)
-  against-range code (no-player c w p) = (omega arith, omega arith)
-  against-range code (no-request c w p n) = (omega arith, omega arith)
-  against-range code (unlike c v n r) = (omega arith, omega arith)
-  against-range code (out-of-line c v n i) = (omega arith, omega arith)
-  against-range code (out-of-time c v i n) = (omega arith, omega arith)
+  -- the codes that a record can be turned away with
+  abbrev AwayCode : ℕ → Type 0
+  AwayCode code = ((1 ≤ code) × (code ≤ 6)) ⊎ (code ≡ 30)
 
-  only : (code : ℕ) → 1 ≤ code → code ≤ 6 → stepRecord b s .answer .code ≡ code → (IsResend b s → ⊥) → Against b s code
-  only code low high x n = go verdict
+  against-range : (code : ℕ) → Against b ls s code → AwayCode code
+  against-range code (bad-list c n) = inr c
+  against-range code (cut c g n) = inl (omega arith, omega arith)
+  against-range code (no-player c g w p) = inl (omega arith, omega arith)
+  against-range code (no-request c g w p n) = inl (omega arith, omega arith)
+  against-range code (unlike c g v n r) = inl (omega arith, omega arith)
+  against-range code (out-of-line c g v n i) = inl (omega arith, omega arith)
+  against-range code (out-of-time c g v i n) = inl (omega arith, omega arith)
+
+  not-both : (code : ℕ) → AwayCode code → TakenCode code → ⊥
+  not-both code (inl a) (inl z) = omega (arith, a .0, z)
+  not-both code (inl a) (inr (inl z)) = omega (arith, a .1, z .0)
+  not-both code (inl a) (inr (inr z)) = omega (arith, a .1, z)
+  not-both code (inr a) (inl z) = omega (arith, a, z)
+  not-both code (inr a) (inr (inl z)) = omega (arith, a, z .1)
+  not-both code (inr a) (inr (inr z)) = omega (arith, a, z)
+
+  only : (code : ℕ) → AwayCode code → received b ls s .answer .code ≡ code → (IsResend b ls s → ⊥) → Against b ls s code
+  only code range x n = go verdict
     where
-      taken-not : TakenCode (stepRecord b s .answer .code) → ⊥
-      taken-not (inl z) = omega (arith, z, x, low)
-      taken-not (inr z) = omega (arith, z .0, x, high)
-
-      go : Verdict b s → Against b s code
-      go (turned-away c y) = subst (Against b s) (sym (ap (λ (o : Outcome). o .answer .code) (away c y)) ∙ x) y
+      go : Verdict b ls s → Against b ls s code
+      go (turned-away c y) = subst (Against b ls s) (sym (ap (λ (o : Outcome). o .answer .code) (away c y .0)) ∙ x) y
       go (resend r) = absurd (n r)
-      go (taken t) = absurd (taken-not (subst (λ (o : Outcome). TakenCode (o .answer .code)) (sym (new-is t)) (stores t .code)))
+      go (taken t) = absurd (not-both code range (subst TakenCode (sym (ap (λ (o : Outcome). o .answer .code) (new-is t))
+          ∙ x) (stores t .code)))
 
-  stored-code : Legal b → IsResend b s → TakenCode (l .answer .code)
+  stored-code : Legal b → IsResend b ls s → TakenCode (l .answer .code)
   unfolding answerLegal
   stored-code g r =
       let w =
@@ -588,19 +666,36 @@ module _ (b : Book) (s : List ℕ) where
       (stages-from b (g .rules) .players (askedPlayer s) (omega (arith, r .event .player))) in
       test-code (l .answer .code) (and-left (takenCode (l .answer .code)) _ (w .1 .0))
 
-  code-range : (IsResend b s → Legal b) → TableCode (stepRecord b s .answer .code)
+  code-range : (IsResend b ls s → Legal b) → TableCode (received b ls s .answer .code)
   code-range g = go verdict
     where
       in-table : (o : Outcome) → TakenCode (o .answer .code) → TableCode (o .answer .code)
       in-table o (inl z) = inl (omega (arith, z))
-      in-table o (inr z) = inr z
+      in-table o (inr (inl z)) = inr (inl z)
+      in-table o (inr (inr z)) = inr (inr (inr z))
 
-      go : Verdict b s → TableCode (stepRecord b s .answer .code)
-      go (turned-away c y) = rw (away c y) (inl (against-range c y .1))
-      go (resend r) = rw (resent r) (in-table (record { answer = l .answer; book = b }) (stored-code (g r) r))
+      away-table : (code : ℕ) → AwayCode code → TableCode code
+      away-table code (inl z) = inl (z .1)
+      away-table code (inr z) = inr (inr (inl z))
+
+      go : Verdict b ls s → TableCode (received b ls s .answer .code)
+      go (turned-away c y) = rw (away c y .0) (away-table c (against-range c y))
+      go (resend r) = rw (resent r .0) (in-table (record { answer = l .answer; book = b }) (stored-code (g r) r))
       go (taken t) = rw (new-is t) (in-table (new t) (stores t .code))
 
-  answered : Answered b s
+  -- ## The list after it
+
+  -- the lines are as lent, or what the uses that ended made of them
+  lines-are : (P : List Line → Type 0) → P ls → (t : IsTaken b ls s → P (recordedAll b ls (endings b e))) → P (left b ls s)
+  unfolding linesBy
+  lines-are P same made = go verdict
+    where
+      go : Verdict b ls s → P (left b ls s)
+      go (turned-away c y) = subst P (sym (away c y .1)) same
+      go (resend r) = subst P (sym (resent r .1)) same
+      go (taken t) = subst P (sym (goes-lines (t .list) ∙ gated (t .event) Take (takes t) .1)) (made t)
+
+  answered : Answered b ls s
   answered = record {
     verdict = verdict;
     turned-away = away;
@@ -608,6 +703,10 @@ module _ (b : Book) (s : List ℕ) where
     again = resent;
     stored-code = stored-code;
     taken = λ t. subst (Stored b s) (sym (new-is t)) (stores t);
+    further = λ k h. lines-are (λ x. lineAt x k ≡ lineAt ls k) refl (λ t. all-further b (endings b e) ls k h);
+    contents = λ k. lines-are (λ x. lineAt x k .content ≡ lineAt ls k .content) refl (λ t. all-content b (endings b e) ls k);
+    size = lines-are (λ x. length x ≡ length ls) refl (λ t. all-size b (endings b e) ls);
+    off = λ z. lines-are (λ x. x ≡ ls) refl (λ t. all-off b (ne-eqb (b .switch) 1 (λ w. omega arith)) (endings b e) ls);
     code = code-range;
   }
 
@@ -628,7 +727,7 @@ unfolding ruleBroken
 rule-code b =
     stage (not (assetsLegal b)) 24 _ (omega arith) (omega arith)
     (stage (not (entriesLegal b)) 25 _ (omega arith) (omega arith)
-    (stage (not (playersLegal b)) 26 _ (omega arith) (omega arith)
+    (stage (not (switchLegal b && playersLegal b)) 26 _ (omega arith) (omega arith)
     (stage (not (metersLegal b)) 27 _ (omega arith) (omega arith)
     (inl refl))))
 

@@ -16,11 +16,8 @@ use Rattle.model.specs.Step.{refusal, lastAt, stepBy, step}
 use Rattle.model.specs.Ledger.{Taken, latestTaken, resent, calledTaken}
 use Rattle.model.specs.Demand3.{State, lastBy, numberBy, numberOf, Follows, OnlyAnswers, Checked}
 use Rattle.model.proofs.Ledger.Facts.{on-test, on-same, and-left, and-right, and-both}
+use Rattle.model.proofs.Ledger.Bounded.{number-by}
 use Rattle.model.proofs.Ledger.Steps.{Inv, again, gate-take, resent-is, taken-called}
-
-number-by : (x : Option Taken) → lastBy x .number ≡ numberBy x
-number-by none = refl
-number-by (some x) = refl
 
 -- ## The gate of one event
 

@@ -84,9 +84,9 @@ module _ (s : State) (e : Event) (h : Inv (s .book) (s .account)) (t : Takes s e
   taking : gate (B .time) (lastAt (B .players) (e .player)) e ≡ Take
   taking = takes-gate B (s .account) e h (t .new) (t .taken)
 
-  pub answer-is : (q : Request) → e .request ≡ q → step B e .answer ≡ done q (catalogOf B) F O (asks e) .answer
+  pub answer-is : (q : Request) → e .request ≡ q → step B e .answer ≡ done q (catalogOf B) F O (asks B e) .answer
   unfolding step stepBy
-  answer-is q x = rw taking (judged B (s .account) e h taking ∙ ap (λ (r : Request). done r (catalogOf B) F O (asks e) .answer) x)
+  answer-is q x = rw taking (judged B (s .account) e h taking ∙ ap (λ (r : Request). done r (catalogOf B) F O (asks B e) .answer) x)
 
   -- the invariant at the event's time, on the ledger's figures
   now : Invariant (e .time) (length (map (shut (e .time)) (B .players))) (length F) (limitsAt F) (metersAt F)

@@ -2,7 +2,7 @@
 -- Resends struck out leave the other answers and the book as they were.
 use mathlib.Core.Path.{_≡_, refl, sym, ap, _∙_}
 use Prim.Native.Nat.{ℕ, zero, suc, _+_, _≤_, zero-le}
-use mathlib.Core.Bool.{Bool, true, false, and-false}
+use mathlib.Core.Bool.{Bool, true, false, not, and-false}
 use mathlib.Core.List.{List, [], _∷_, map}
 use mathlib.Core.Option.{Option, none, some, Option·none-ne-some}
 use lib.ListN.{length}
@@ -18,6 +18,7 @@ use Rattle.book.specs.declared.Answer.{Answer}
 use Rattle.book.specs.declared.Last.{Last}
 use Rattle.book.specs.declared.Open.{Open}
 use Rattle.book.specs.declared.Player.{Player}
+use Rattle.book.specs.declared.Line.{Line}
 use Rattle.book.specs.declared.Book.{Book}
 use Rattle.book.specs.declared.Event.{Event}
 use Rattle.book.specs.declared.Decoded.{Decoded}
@@ -28,20 +29,22 @@ use Rattle.book.specs.Blank.{noLimits, noMeters, noEntry}
 use Rattle.model.specs.Book.{limitsAt, metersAt, flagged, Fresh}
 use Rattle.model.specs.Choice.{asks, Catalog, catalogOf}
 use Rattle.model.specs.Meters.{where-flagged, settled}
-use Rattle.model.specs.Step.{done, lastAt, openAt, takenStep, stepBy, step, arrive, stepRecord}
+use Rattle.model.specs.Step.{done, lastAt, openAt, takenStep, stepBy, step, arrive}
+use Rattle.model.specs.Report.{Arrival, good, admitted, receive, linesLeft, lent}
 use Rattle.model.specs.Gate.{gate}
 use Rattle.model.specs.Record.{decoded}
 use Rattle.model.specs.Ledger.{Use, Account, empty, latestTaken, resent, timeOf, latest, sumOf, counts, countsTimed, countsSeconds}
 use Rattle.model.specs.Ledger.{earliest, sooner, noteArrival}
 use Rattle.model.specs.Demand3.{State, advance, after, Every, startOr, isSome, figures, filledFrom, filled, UseInside, Limited}
-use Rattle.model.specs.Demand3.{isResend, struck, kept, heldIn, lastOf, predictBy, predict, predicted}
-use Rattle.model.specs.History.{answers, final, recordAnswers, recordFinal}
-use Rattle.model.proofs.Ledger.Facts.{on-test, clash, eqb-self, flag-on, meters-path}
+use Rattle.model.specs.Demand3.{readResend, isResend, struck, kept, heldIn, lastOf, predictBy, predict, predicted}
+use Rattle.model.specs.History.{answers, final, handed, handedLines, recordAnswers, recordFinal, recordLines}
+use Rattle.model.proofs.Ledger.Facts.{on-test, clash, and-left, and-right, eqb-self, flag-on, meters-path}
 use Rattle.model.proofs.Ledger.Sums.{all-both}
 use Rattle.model.proofs.Ledger.Invariant.{Invariant, Sound, Spanned, Dated, all-earliest}
 use Rattle.model.proofs.Ledger.Concrete.{settled-held, settled-limits, settled-size}
-use Rattle.model.proofs.Ledger.WellFormed.{WellFormed, Static, static-self, static-trans, catalog-static, arrive-static}
-use Rattle.model.proofs.Ledger.Steps.{Inv, gate-take, resent-is, note-skip, arrive-keeps}
+use Rattle.model.proofs.Ledger.WellFormed.{WellFormed, Static, static-self, static-trans, catalog-static, admitted-static}
+use Rattle.model.proofs.Ledger.WellFormed.{receive-static}
+use Rattle.model.proofs.Ledger.Steps.{Inv, gate-take, resent-is, note-skip, receive-keeps}
 
 -- ## The invariant holds after every list
 
@@ -71,15 +74,23 @@ fresh-inv b g f = record {
   formed = g;
 }
 
-pub after-inv : (ds : List Decoded) (s : State) → Inv (s .book) (s .account) → Inv (after s ds .book) (after s ds .account)
+pub advance-book : (s : State) (x : Arrival) → advance s x .book ≡ receive (s .book) x .book
+unfolding advance
+advance-book s x = refl
+
+pub after-inv : (xs : List Arrival) (s : State) → Inv (s .book) (s .account) → Inv (after s xs .book) (after s xs .account)
 unfolding after advance
 after-inv [] s h = h
-after-inv (d ∷ ds) s h = after-inv ds (advance s d) (arrive-keeps (s .book) (s .account) d h)
+after-inv (x ∷ xs) s h = after-inv xs (advance s x) (receive-keeps (s .book) (s .account) x h)
 
-pub after-static : (ds : List Decoded) (s : State) → Static (s .book) (after s ds .book)
+pub advance-keeps : (s : State) (x : Arrival) → Inv (s .book) (s .account) → Inv (advance s x .book) (advance s x .account)
+unfolding advance
+advance-keeps s x h = receive-keeps (s .book) (s .account) x h
+
+pub after-static : (xs : List Arrival) (s : State) → Static (s .book) (after s xs .book)
 unfolding after advance
 after-static [] s = static-self (s .book)
-after-static (d ∷ ds) s = static-trans (arrive-static (s .book) d) (after-static ds (advance s d))
+after-static (x ∷ xs) s = static-trans (receive-static (s .book) x) (after-static xs (advance s x))
 
 -- ## The limits
 
@@ -158,37 +169,45 @@ resent-stays b a e h r = go (gate (b .time) (lastAt (b .players) (e .player)) e)
     go Resend q = refl
     go Take q = clash r (resent-is b a e h ∙ gate-take _ _ e q .fresh)
 
-resend-book : (s : State) (d : Decoded) → Inv (s .book) (s .account) → isResend (s .account) d ≡ true → arrive (s .book) d .book ≡ s .book
+resend-book : (s : State) (d : Decoded) → Inv (s .book) (s .account) → readResend (s .account) d ≡ true → arrive (s .book) d .book ≡ s .book
 unfolding arrive
 resend-book s (Invalid code) h r = refl
 resend-book s (Valid e) h r = resent-stays (s .book) (s .account) e h r
 
-resend-account : (s : State) (d : Decoded) → isResend (s .account) d ≡ true → noteArrival (s .account) d (arrive (s .book) d .answer) ≡
-    s .account
+resend-account : (a : Account) (d : Decoded) (r : Answer) → readResend a d ≡ true → noteArrival a d r ≡ a
 unfolding noteArrival
-resend-account s (Invalid code) r = refl
-resend-account s (Valid e) r = note-skip (s .account) e (arrive (s .book) (Valid e) .answer) (rw r)
+resend-account a (Invalid code) r q = refl
+resend-account a (Valid e) r q = note-skip a e r (rw q)
 
-resend-same : (s : State) (d : Decoded) → Inv (s .book) (s .account) → isResend (s .account) d ≡ true → advance s d ≡ s
-unfolding advance
-resend-same s d h r = λ i. record { book = resend-book s d h r i; account = resend-account s d r i }
+-- a resend has a good list, and leaves the book and the account
+resend-same : (s : State) (x : Arrival) → Inv (s .book) (s .account) → isResend s x ≡ true → advance s x ≡ s
+unfolding advance receive admitted arrive
+resend-same s x h r =
+    let z = and-right (not (eqb (receive (s .book) x .answer .code) 30)) (readResend (s .account) (x .event)) r in
+    on-test (good (s .book) (x .lines))
+    (λ q. rw q (λ i. record {
+      book = resend-book s (x .event) h z i;
+      account = resend-account (s .account) (x .event) (arrive (s .book) (x .event) .answer) z i;
+    }))
+    (λ q. clash (and-left (not (eqb (receive (s .book) x .answer .code) 30)) (readResend (s .account) (x .event)) r) (rw q))
 
-pub struck-answers : (ds : List Decoded) (s : State) → Inv (s .book) (s .account) → answers (s .book) (struck s ds) ≡ kept s ds
+pub struck-answers : (xs : List Arrival) (s : State) → Inv (s .book) (s .account) → answers (s .book) (struck s xs) ≡ kept s xs
 unfolding answers struck kept advance
 struck-answers [] s h = refl
-struck-answers (d ∷ ds) s h =
-    on-test (isResend (s .account) d)
-    (λ r. rw (r, resend-same s d h r) (struck-answers ds s h))
-    (λ r. rw r (ap (λ (x : List Answer). arrive (s .book) d .answer ∷ x)
-    (struck-answers ds (advance s d) (arrive-keeps (s .book) (s .account) d h))))
+struck-answers (x ∷ xs) s h =
+    on-test (isResend s x)
+    (λ r. rw (r, resend-same s x h r) (struck-answers xs s h))
+    (λ r. rw r (ap (λ (as′ : List Answer). receive (s .book) x .answer ∷ as′)
+    (struck-answers xs (advance s x) (advance-keeps s x h))))
 
-pub struck-book : (ds : List Decoded) (s : State) → Inv (s .book) (s .account) → final (s .book) (struck s ds) ≡ final (s .book) ds
+pub struck-book : (xs : List Arrival) (s : State) → Inv (s .book) (s .account) → final (s .book) (struck s xs) ≡ final (s .book) xs
 unfolding final struck advance
 struck-book [] s h = refl
-struck-book (d ∷ ds) s h =
-    on-test (isResend (s .account) d)
-    (λ r. rw (r, resend-same s d h r, resend-book s d h r) (struck-book ds s h))
-    (λ r. rw r (struck-book ds (advance s d) (arrive-keeps (s .book) (s .account) d h)))
+struck-book (x ∷ xs) s h =
+    on-test (isResend s x)
+    (λ r. rw (r, resend-same s x h r)
+    (struck-book xs s h ∙ ap (λ (y : Book). final y xs) (sym (sym (advance-book s x) ∙ ap (λ (y : State). y .book) (resend-same s x h r)))))
+    (λ r. rw r (struck-book xs (advance s x) (advance-keeps s x h)))
 
 -- ## The entries with the ledger's figures
 
@@ -234,7 +253,7 @@ settled-filled S T es ps us later h =
 -- a taken event is judged on the ledger's figures
 pub judged : (b : Book) (a : Account) (e : Event) → Inv b a → gate (b .time) (lastAt (b .players) (e .player)) e ≡ Take
     → takenStep b e .answer ≡ done (e .request) (catalogOf b) (filled (e .time) (a .uses) (b .entries))
-    (heldIn (e .time) (e .player) (a .uses)) (asks e) .answer
+    (heldIn (e .time) (e .player) (a .uses)) (asks b e) .answer
 unfolding takenStep
 judged b a e h q =
     let k = gate-take _ _ e q in
@@ -271,28 +290,38 @@ predict-same b c a (Valid e) s = go (gate (timeOf (a .taken)) (lastOf (e .player
     go Resend = refl
     go Take =
         ap (λ (x : Catalog). done (e .request) x (filled (e .time) (a .uses) (c .entries)) (heldIn (e .time) (e .player) (a .uses))
-        (asks e) .answer) (catalog-static s) ∙
-        ap (λ (y : List Entry). done (e .request) (catalogOf b) y (heldIn (e .time) (e .player) (a .uses)) (asks e) .answer)
+        (asks c e) .answer) (catalog-static s) ∙
+        ap (λ (w : ℕ). done (e .request) (catalogOf b) (filled (e .time) (a .uses) (c .entries)) (heldIn (e .time) (e .player) (a .uses))
+        (record { player = e .player; time = e .time; switch = w }) .answer) (s .switch) ∙
+        ap (λ (y : List Entry). done (e .request) (catalogOf b) y (heldIn (e .time) (e .player) (a .uses)) (asks b e) .answer)
         (filled-same (e .time) (a .uses) (b .entries) (c .entries) (s .entries) (s .limits))
 
-pub answers-predicted : (b : Book) (ds : List Decoded) (s : State) → Inv (s .book) (s .account) → Static b (s .book) → answers (s .book)
-    ds ≡ predicted b (s .account) ds
-unfolding answers predicted advance
+pub answers-predicted : (b : Book) (xs : List Arrival) (s : State) → Inv (s .book) (s .account) → Static b (s .book) → answers (s .book)
+    xs ≡ predicted b (s .account) xs
+unfolding answers predicted advance receive
 answers-predicted b [] s h k = refl
-answers-predicted b (d ∷ ds) s h k =
-    let q : arrive (s .book) d .answer ≡ predict b (s .account) d = arrive-predicted (s .book) (s .account) d h ∙ predict-same b
-    (s .book) (s .account) d k in
-    rw (← q) (ap (λ (x : List Answer). arrive (s .book) d .answer ∷ x)
-    (answers-predicted b ds (advance s d) (arrive-keeps (s .book) (s .account) d h) (static-trans k (arrive-static (s .book) d))))
+answers-predicted b (x ∷ xs) s h k =
+    let q : arrive (s .book) (admitted (s .book) x) .answer ≡ predict b (s .account) (admitted b x) =
+    arrive-predicted (s .book) (s .account) (admitted (s .book) x) h
+    ∙ predict-same b (s .book) (s .account) (admitted (s .book) x) k
+    ∙ ap (predict b (s .account)) (admitted-static k x) in
+    rw (← q) (ap (λ (as′ : List Answer). arrive (s .book) (admitted (s .book) x) .answer ∷ as′)
+    (answers-predicted b xs (advance s x) (receive-keeps (s .book) (s .account) x h) (static-trans k (receive-static (s .book) x))))
 
 -- ## Records of bytes
 
-pub record-answers : (rs : List (List ℕ)) (b : Book) → recordAnswers b rs ≡ answers b (map decoded rs)
-unfolding recordAnswers answers stepRecord
-record-answers [] b = refl
-record-answers (r ∷ rs) b = ap (λ (x : List Answer). arrive b (decoded r) .answer ∷ x) (record-answers rs (arrive b (decoded r) .book))
+pub record-answers : (ls : List Line) (rs : List (List ℕ)) (b : Book) → recordAnswers b ls rs ≡ answers b (handed b ls (map decoded rs))
+unfolding recordAnswers answers handed
+record-answers ls [] b = refl
+record-answers ls (r ∷ rs) b =
+    ap (λ (x : List Answer). receive b (lent ls r) .answer ∷ x) (record-answers (linesLeft b (lent ls r)) rs (receive b (lent ls r) .book))
 
-pub record-final : (rs : List (List ℕ)) (b : Book) → recordFinal b rs ≡ final b (map decoded rs)
-unfolding recordFinal final stepRecord
-record-final [] b = refl
-record-final (r ∷ rs) b = record-final rs (arrive b (decoded r) .book)
+pub record-final : (ls : List Line) (rs : List (List ℕ)) (b : Book) → recordFinal b ls rs ≡ final b (handed b ls (map decoded rs))
+unfolding recordFinal final handed
+record-final ls [] b = refl
+record-final ls (r ∷ rs) b = record-final (linesLeft b (lent ls r)) rs (receive b (lent ls r) .book)
+
+pub record-lines : (ls : List Line) (rs : List (List ℕ)) (b : Book) → recordLines b ls rs ≡ handedLines b ls (map decoded rs)
+unfolding recordLines handedLines
+record-lines ls [] b = refl
+record-lines ls (r ∷ rs) b = record-lines (linesLeft b (lent ls r)) rs (receive b (lent ls r) .book)

@@ -10,7 +10,7 @@ use Rattle.numbers.specs.Count.{first}
 use Rattle.book.specs.declared.Asset.{Asset}
 use Rattle.book.specs.declared.Book.{Book}
 use Rattle.book.specs.Blank.{noAsset}
-use Rattle.model.specs.Book.{assetAt, limitsAt, assetsIn, entriesIn, isParent, isIllegal, assetPosition}
+use Rattle.model.specs.Book.{assetAt, limitsAt, assetsIn, entriesIn, isParent, isIllegal, assetPosition, inBook}
 use Rattle.model.specs.Choice.{catalogOf, holds, assetNamed, usable, parentOf, own, suitable, suits, anyOf}
 use Rattle.model.specs.Demand3.{InBookWithKey, Serves, Suits}
 use Rattle.model.proofs.Ledger.Facts.{on-test, on-same, clash, and-left, and-right, and-both, cond-off}
@@ -38,6 +38,14 @@ first-found f (suc n) h =
     on-test (ltb (first f n) n)
     (λ q. rw q (first-found f n (ltb-true (first f n) n q)))
     (λ q. on-test (f n) (λ r. rw (q, r) r) (λ r. let z : suc n < suc n = rw (q, r) at h in absurd (omega arith)))
+
+-- a number in the book is that of the asset at its position
+pub in-book : (b : Book) (number : ℕ) → inBook b number ≡ true → (assetPosition (b .assets) (assetsIn b) number < assetsIn b)
+    × (assetAt (b .assets) (assetPosition (b .assets) (assetsIn b) number) .number ≡ number)
+unfolding inBook assetPosition
+in-book b number e =
+    let h = ltb-true _ (assetsIn b) e in
+    (h, eqb-true _ number (first-found (λ i. eqb (assetAt (b .assets) i .number) number) (assetsIn b) h))
 
 pub any-sure : (ok : ℕ → Bool) (n : ℕ) → anyOf ok n ≡ true → (i : ℕ) × Sure ok n i
 unfolding anyOf

@@ -11,34 +11,48 @@ use Rattle.book.specs.declared.Request.the-variants.{Stop}
 use Rattle.model.specs.Book.{flagged}
 use Rattle.model.specs.Ledger.{Use, empty, latestTaken, resent, calledTaken, timeOf, latest, revise, posted, note, noteArrival}
 use Rattle.model.specs.Ledger.{isOpen, sumOf, earliest, count-spent, timed-spent, seconds-spent, interval-over, interval-zero}
-use Rattle.model.specs.Ledger.{before-start, after-end, stands}
+use Rattle.model.specs.Ledger.{before-start, after-end, switch-off, stands}
+use Rattle.model.specs.Report.{Arrival}
+use Rattle.model.specs.History.{handed}
+use Rattle.model.specs.Run.{zeroLines}
 use Rattle.model.specs.Demand3.{advance, after, starting, figures, filledFrom, predictBy, predict, predicted}
 use Rattle.model.proofs.Examples.Afternoon.{start, events, expected, limits}
 use Rattle.model.proofs.Examples.Computes.{events-run}
 
-abbrev ran : ℕ → ℕ → ℕ → ℕ → Bool → Use
-ran entry player begin until stopped = record { entry = entry; player = player; begin = begin; until = until; stopped = stopped }
+abbrev ran : ℕ → ℕ → ℕ → ℕ → Bool → ℕ → Use
+ran entry player begin until stopped content = record {
+  entry = entry;
+  player = player;
+  begin = begin;
+  until = until;
+  stopped = stopped;
+  content = content;
+}
+
+-- the afternoon's events, each with its list
+abbrev arrivals : List Arrival
+arrivals = handed start (zeroLines start) events
 
 -- newest first: player 2's was stopped, player 0's continued
-pub uses-left : after (starting start) events .account .uses
-    ≡ ran 2 7 1080 1140 false
-    ∷ ran 1 4 1045 1085 false
-    ∷ ran 1 3 1030 1070 false
-    ∷ ran 1 2 1020 1040 true
-    ∷ ran 0 1 1010 1070 false
-    ∷ ran 0 0 1000 1119 false
+pub uses-left : after (starting start) arrivals .account .uses
+    ≡ ran 2 7 1080 1140 false 1
+    ∷ ran 1 4 1045 1085 false 1
+    ∷ ran 1 3 1030 1070 false 1
+    ∷ ran 1 2 1020 1040 true 2
+    ∷ ran 0 1 1010 1070 false 2
+    ∷ ran 0 0 1000 1119 false 1
     ∷ []
 unfolding events-run latestTaken resent calledTaken revise posted note noteArrival advance after
 uses-left = refl
 
-pub by-ledger : predicted start empty events ≡ expected
+pub by-ledger : predicted start empty arrivals ≡ expected
 unfolding events-run latestTaken resent calledTaken timeOf latest revise posted note noteArrival isOpen sumOf earliest figures
     filledFrom predictBy predict predicted
 by-ledger = refl
 
 -- entry 0 was used for 30 seconds, stopped, and for 60
 abbrev uses : List Use
-uses = ran 0 1 100 160 false ∷ ran 0 0 10 40 true ∷ []
+uses = ran 0 1 100 160 false 1 ∷ ran 0 0 10 40 true 2 ∷ []
 
 -- an event at t
 abbrev at : ℕ → Event
@@ -47,21 +61,21 @@ at t = record { player = 0; number = 1; request = Stop; time = t }
 -- count; timed count with its timer; accumulated; interval; an interval of 0, of 1, and one that is not flagged
 abbrev judged : List Bool
 judged =
-    stands (at 159) uses 0 (limits 1 1 1 2 0 0 0 0 0 0) count-spent
-    ∷ stands (at 159) uses 0 (limits 1 1 1 3 0 0 0 0 0 0) count-spent
-    ∷ stands (at 159) uses 0 (limits 1 1 2 0 2 30 0 0 0 0) timed-spent
-    ∷ stands (at 159) uses 0 (limits 1 1 2 0 3 30 0 0 0 0) timed-spent
-    ∷ stands (at 159) uses 0 (limits 1 1 2 0 2 31 0 0 0 0) timed-spent
-    ∷ stands (at 159) uses 0 (limits 1 1 2 0 1 61 0 0 0 0) timed-spent
-    ∷ stands (at 160) uses 0 (limits 1 1 2 0 1 61 0 0 0 0) timed-spent
-    ∷ stands (at 39) uses 0 (limits 1 1 2 0 2 61 0 0 0 0) timed-spent
-    ∷ stands (at 159) uses 0 (limits 1 1 32 0 0 0 0 0 0 90) seconds-spent
-    ∷ stands (at 159) uses 0 (limits 1 1 32 0 0 0 0 0 0 91) seconds-spent
-    ∷ stands (at 109) uses 0 (limits 1 1 16 0 0 0 0 0 100 0) interval-over
-    ∷ stands (at 110) uses 0 (limits 1 1 16 0 0 0 0 0 100 0) interval-over
-    ∷ stands (at 159) uses 1 (limits 1 1 16 0 0 0 0 0 0 0) interval-zero
-    ∷ stands (at 159) uses 1 (limits 1 1 16 0 0 0 0 0 1 0) interval-zero
-    ∷ stands (at 159) uses 1 (limits 1 1 47 1 1 0 0 0 0 1) interval-zero
+    stands 0 (at 159) uses 0 (limits 1 1 1 2 0 0 0 0 0 0) count-spent
+    ∷ stands 0 (at 159) uses 0 (limits 1 1 1 3 0 0 0 0 0 0) count-spent
+    ∷ stands 0 (at 159) uses 0 (limits 1 1 2 0 2 30 0 0 0 0) timed-spent
+    ∷ stands 0 (at 159) uses 0 (limits 1 1 2 0 3 30 0 0 0 0) timed-spent
+    ∷ stands 0 (at 159) uses 0 (limits 1 1 2 0 2 31 0 0 0 0) timed-spent
+    ∷ stands 0 (at 159) uses 0 (limits 1 1 2 0 1 61 0 0 0 0) timed-spent
+    ∷ stands 0 (at 160) uses 0 (limits 1 1 2 0 1 61 0 0 0 0) timed-spent
+    ∷ stands 0 (at 39) uses 0 (limits 1 1 2 0 2 61 0 0 0 0) timed-spent
+    ∷ stands 0 (at 159) uses 0 (limits 1 1 32 0 0 0 0 0 0 90) seconds-spent
+    ∷ stands 0 (at 159) uses 0 (limits 1 1 32 0 0 0 0 0 0 91) seconds-spent
+    ∷ stands 0 (at 109) uses 0 (limits 1 1 16 0 0 0 0 0 100 0) interval-over
+    ∷ stands 0 (at 110) uses 0 (limits 1 1 16 0 0 0 0 0 100 0) interval-over
+    ∷ stands 0 (at 159) uses 1 (limits 1 1 16 0 0 0 0 0 0 0) interval-zero
+    ∷ stands 0 (at 159) uses 1 (limits 1 1 16 0 0 0 0 0 1 0) interval-zero
+    ∷ stands 0 (at 159) uses 1 (limits 1 1 47 1 1 0 0 0 0 1) interval-zero
     ∷ []
 
 pub entries-spent : judged ≡ (true ∷ false ∷ true ∷ false ∷ false ∷ true ∷ false ∷ false ∷ true ∷ false ∷ false ∷ true ∷ true ∷ false
@@ -71,11 +85,11 @@ entries-spent = refl
 
 -- all grounds against an entry, in turn
 abbrev every : ℕ → ℕ → Limits → List Bool
-every t i l = map (stands (at t) uses i l)
-    (count-spent ∷ timed-spent ∷ seconds-spent ∷ interval-over ∷ interval-zero ∷ before-start ∷ after-end ∷ [])
+every t i l = map (stands 0 (at t) uses i l)
+    (count-spent ∷ timed-spent ∷ seconds-spent ∷ interval-over ∷ interval-zero ∷ before-start ∷ after-end ∷ switch-off ∷ [])
 
 abbrev nothing : List Bool
-nothing = replicate 7 false
+nothing = replicate 8 false
 
 -- an entry that was not used, and one without a flag
 pub unused : every 159 1 (limits 1 1 51 1 1 0 0 0 1 1) ≡ nothing
@@ -89,7 +103,7 @@ unlimited = refl
 -- the seconds around start and end
 pub dates :
     map (λ (t : ℕ). every t 1 (limits 1 1 12 0 0 0 100 200 0 0)) (99 ∷ 100 ∷ 200 ∷ 201 ∷ [])
-    ≡ ((replicate 5 false ++ (true ∷ false ∷ [])) ∷ nothing ∷ nothing ∷ (replicate 6 false ++ (true ∷ [])) ∷ [])
+    ≡ ((replicate 5 false ++ (true ∷ false ∷ false ∷ [])) ∷ nothing ∷ nothing ∷ (replicate 6 false ++ (true ∷ false ∷ [])) ∷ [])
 unfolding flagged isOpen sumOf earliest stands
 dates = refl
 
@@ -100,10 +114,10 @@ pub zero-limits :
     ∷ every 159 1 (limits 1 1 32 0 0 0 0 0 0 0)
     ∷ every 159 1 (limits 1 1 16 0 0 0 0 0 0 0)
     ∷ []
-    ≡ ((true ∷ replicate 6 false)
-    ∷ (false ∷ true ∷ replicate 5 false)
-    ∷ (false ∷ false ∷ true ∷ replicate 4 false)
-    ∷ (false ∷ false ∷ false ∷ false ∷ true ∷ false ∷ false ∷ [])
+    ≡ ((true ∷ replicate 7 false)
+    ∷ (false ∷ true ∷ replicate 6 false)
+    ∷ (false ∷ false ∷ true ∷ replicate 5 false)
+    ∷ (false ∷ false ∷ false ∷ false ∷ true ∷ replicate 3 false)
     ∷ [])
 unfolding flagged isOpen sumOf earliest stands
 zero-limits = refl

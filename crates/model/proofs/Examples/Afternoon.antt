@@ -16,7 +16,8 @@ use Rattle.book.specs.declared.Decoded.{Decoded}
 use Rattle.book.specs.declared.Decoded.the-variants.{Valid}
 use Rattle.book.specs.Blank.{noAsset, noMeters, noEntry, noPlayer}
 use Rattle.model.specs.Step.{refusal}
-use Rattle.model.specs.History.{answers}
+use Rattle.model.specs.History.{answers, handed}
+use Rattle.model.specs.Run.{zeroLines}
 use Rattle.model.proofs.Examples.Computes.{events-run}
 
 abbrev pub asset : ℕ → ℕ → ℕ → Asset
@@ -36,6 +37,9 @@ limits asset kind flags count timed timer start end interval accumulated = recor
   end = end;
   interval = interval;
   accumulated = accumulated;
+  tracked = 0;
+  timedvalue = 0;
+  mark = 0;
 }
 
 -- an unused entry with these limits
@@ -50,6 +54,7 @@ entry asset kind flags count timed timer start end interval accumulated = record
 abbrev pub start : Book
 start = record {
   time = 0;
+  switch = 0;
   assetcount = 4;
   entrycount = 3;
   assets = asset 1 1 9 ∷ asset 2 1 9 ∷ asset 9 0 0 ∷ asset 7 0 9 ∷ replicate 60 noAsset;
@@ -105,7 +110,11 @@ expected =
     ∷ granted 2 1140
     ∷ []
 
+-- the answers to a list of events, each lent the lines that the last one left, the first one zeros
+abbrev pub run : Book → List Decoded → List Answer
+run b ds = answers b (handed b (zeroLines b) ds)
+
 -- line 15 is two events
-pub lines : answers start events ≡ expected
+pub lines : run start events ≡ expected
 unfolding events-run
 lines = refl

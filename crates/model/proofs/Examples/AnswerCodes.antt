@@ -8,10 +8,11 @@ use Rattle.book.specs.declared.Answer.{Answer}
 use Rattle.book.specs.declared.Entry.{Entry}
 use Rattle.book.specs.declared.Open.{Open}
 use Rattle.book.specs.declared.Player.{Player}
+use Rattle.book.specs.declared.Line.{Line}
 use Rattle.book.specs.declared.Book.{Book}
 use Rattle.book.specs.declared.Outcome.{Outcome}
 use Rattle.book.specs.Blank.{noPlayer, closed}
-use Rattle.model.specs.Step.{stepRecord}
+use Rattle.model.specs.Report.{receive, lent}
 use Rattle.model.specs.Demand1.{refused}
 use Rattle.model.proofs.Examples.Afternoon.{asset, limits, granted}
 use Rattle.model.proofs.Examples.Computes.{events-run}
@@ -32,11 +33,12 @@ player number operation asset kind answer current = record {
 }
 
 abbrev pub running : ℕ → ℕ → Open
-running begin until = record { on = 1; entry = 0; begin = begin; until = until }
+running begin until = record { on = 1; entry = 0; begin = begin; until = until; content = 1 }
 
 abbrev pub book : ℕ → ℕ → Player → Player → Book
 book time timed zeroth first = record {
   time = time;
+  switch = 0;
   assetcount = 1;
   entrycount = 1;
   assets = asset 1 1 0 ∷ [];
@@ -50,6 +52,14 @@ stale = player 5 1 1 1 (record { code = 7; entry = 3; until = 9 }) (running 40 9
 
 abbrev pub odd : Book
 odd = book 100 2 stale noPlayer
+
+-- a good list for it
+abbrev pub kept : List Line
+kept = record { content = 1; times = 8; seconds = 9 } ∷ []
+
+-- a record on the odd book, lent that list
+abbrev pub met : List ℕ → Outcome
+met s = receive odd (lent kept s)
 
 -- number, asset and time below 256
 abbrev pub bytes : ℕ → ℕ → ℕ → ℕ → ℕ → ℕ → List ℕ
@@ -65,24 +75,24 @@ left a = record { answer = a; book = odd }
 
 -- 6 before all others; 2 before 1; 1 before the number; 4 and a resend, whose time is not read; 3 before 5; 5
 pub nothing-changed : (
-    stepRecord odd []
-    ∷ stepRecord odd (0 ∷ bytes 0 5 1 1 1 100)
-    ∷ stepRecord odd (bytes 16 5 9 0 0 100)
-    ∷ stepRecord odd (bytes 0 5 4 1 1 100)
-    ∷ stepRecord odd (bytes 0 6 0 0 0 100)
-    ∷ stepRecord odd (bytes 0 6 1 1 0 100)
-    ∷ stepRecord odd (bytes 0 6 1 1 6 100)
-    ∷ stepRecord odd (bytes 0 6 3 1 0 100)
-    ∷ stepRecord odd (bytes 0 6 2 0 1 100)
-    ∷ stepRecord odd (bytes 0 5 1 2 1 100)
-    ∷ stepRecord odd (bytes 0 5 1 1 2 100)
-    ∷ stepRecord odd (bytes 0 5 3 0 0 0)
-    ∷ stepRecord odd (bytes 0 5 1 1 1 0)
-    ∷ stepRecord odd (bytes 0 4 3 0 0 100)
-    ∷ stepRecord odd (bytes 0 7 3 0 0 0)
-    ∷ stepRecord odd (bytes 1 0 3 0 0 100)
-    ∷ stepRecord odd (bytes 0 6 3 0 0 99)
-    ∷ stepRecord odd too-late
+    met []
+    ∷ met (0 ∷ bytes 0 5 1 1 1 100)
+    ∷ met (bytes 16 5 9 0 0 100)
+    ∷ met (bytes 0 5 4 1 1 100)
+    ∷ met (bytes 0 6 0 0 0 100)
+    ∷ met (bytes 0 6 1 1 0 100)
+    ∷ met (bytes 0 6 1 1 6 100)
+    ∷ met (bytes 0 6 3 1 0 100)
+    ∷ met (bytes 0 6 2 0 1 100)
+    ∷ met (bytes 0 5 1 2 1 100)
+    ∷ met (bytes 0 5 1 1 2 100)
+    ∷ met (bytes 0 5 3 0 0 0)
+    ∷ met (bytes 0 5 1 1 1 0)
+    ∷ met (bytes 0 4 3 0 0 100)
+    ∷ met (bytes 0 7 3 0 0 0)
+    ∷ met (bytes 1 0 3 0 0 100)
+    ∷ met (bytes 0 6 3 0 0 99)
+    ∷ met too-late
     ∷ [])
     ≡ (left (refused 6)
     ∷ left (refused 6)
@@ -109,7 +119,7 @@ nothing-changed = refl
 -- Taken: number, request, answer and time are stored. The stale use ends at its until and, being shorter than the timer, gives its
 -- timed count back: in both
 -- cases, whichever player asks. The stop then finds nothing open; the other player's begin adds its own timed count.
-pub stored : (stepRecord odd (bytes 0 6 3 0 0 100) ∷ stepRecord odd (bytes 1 1 1 1 1 101) ∷ []) ≡ (
+pub stored : (met (bytes 0 6 3 0 0 100) ∷ met (bytes 1 1 1 1 1 101) ∷ []) ≡ (
     record { answer = refused 14; book = book 100 1 (player 6 3 0 0 (refused 14) closed) noPlayer }
     ∷ record {
       answer = granted 0 161;

@@ -4,15 +4,14 @@ use mathlib.Core.List.{[], _∷_}
 use Rattle.book.specs.declared.Kind.the-variants.{Play, Display, Execute, Print}
 use Rattle.book.specs.declared.Request.the-variants.{Begin}
 use Rattle.model.specs.Step.{refusal}
-use Rattle.model.specs.History.{answers}
-use Rattle.model.proofs.Examples.Afternoon.{start, event, granted}
+use Rattle.model.proofs.Examples.Afternoon.{start, event, granted, run}
 use Rattle.model.proofs.Examples.Computes.{events-run}
 
 -- Player 0 has a use open from 1000 to 1060: 11, whatever it asks for. Asset 5 is not in the book, 7 is illegal, 9 is a parent: 10, both
 -- where an entry of 9 itself would be suitable (play) and where none would be (print). Asset 1 has no print or execute entry: 12. Its one
 -- display entry is in use by player 2: 13. At 1060 player 0's use has ended: 10.
 pub in-order :
-    answers start
+    run start
     (event 0 1 (Begin Play 1) 1000
     ∷ event 0 2 (Begin Play 5) 1001
     ∷ event 0 3 (Begin Play 7) 1002

@@ -12,8 +12,7 @@ use Rattle.book.specs.Blank.{noPlayer}
 use Rattle.model.specs.Image.{readCode}
 use Rattle.model.specs.Record.{kindOf, requestOf}
 use Rattle.model.specs.Step.{refusal}
-use Rattle.model.specs.History.{answers}
-use Rattle.model.proofs.Examples.Afternoon.{asset, entry, event, granted}
+use Rattle.model.proofs.Examples.Afternoon.{asset, entry, event, granted, run}
 use Rattle.model.proofs.Examples.Computes.{events-run, image-run}
 
 -- ## Events
@@ -22,6 +21,7 @@ use Rattle.model.proofs.Examples.Computes.{events-run, image-run}
 abbrev book : List Entry → ℕ → Book
 book entries count = record {
   time = 0;
+  switch = 0;
   assetcount = 4;
   entrycount = count;
   assets = asset 1 1 8 ∷ asset 8 1 0 ∷ asset 2 1 9 ∷ asset 9 0 0 ∷ [];
@@ -39,7 +39,7 @@ abbrev ending : List Entry
 ending = entry 2 4 24 0 0 0 0 5000 1000 0 ∷ entry 9 4 12 0 0 0 100 4000 0 0 ∷ []
 
 pub end-before-interval :
-    answers (book ending 2) (event 0 1 (Begin Print 2) 10 ∷ event 0 2 (Begin Print 2) 99 ∷ event 0 3 (Begin Print 2) 100 ∷ [])
+    run (book ending 2) (event 0 1 (Begin Print 2) 10 ∷ event 0 2 (Begin Print 2) 99 ∷ event 0 3 (Begin Print 2) 100 ∷ [])
     ≡ (granted 0 10 ∷ granted 0 99 ∷ granted 1 100 ∷ [])
 unfolding events-run
 end-before-interval = refl
@@ -49,7 +49,7 @@ abbrev kept : List Entry
 kept = entry 8 1 1 9 0 0 0 0 0 0 ∷ entry 9 2 1 9 0 0 0 0 0 0 ∷ []
 
 pub parent-key :
-    answers (book kept 2)
+    run (book kept 2)
     (event 0 1 (Begin Play 1) 10
     ∷ event 0 2 (Begin Display 9) 11
     ∷ event 0 3 (Begin Play 8) 12
@@ -65,7 +65,7 @@ abbrev clocks : List Entry
 clocks = timed 8 1 1 30 ∷ timed 8 2 1 60 ∷ timed 8 3 1 61 ∷ []
 
 pub exactly-the-timer :
-    answers (book clocks 3)
+    run (book clocks 3)
     (event 0 1 (Begin Play 8) 10
     ∷ event 0 2 Stop 39
     ∷ event 0 3 (Begin Play 8) 40
@@ -94,7 +94,7 @@ abbrev pair : List Entry
 pair = timed 8 1 2 100 ∷ []
 
 pub settled-together :
-    answers (book pair 1)
+    run (book pair 1)
     (event 0 1 (Begin Play 8) 10
     ∷ event 1 1 (Begin Play 8) 10
     ∷ event 2 1 (Begin Play 8) 69

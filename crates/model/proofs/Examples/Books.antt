@@ -5,7 +5,7 @@ use Prim.Native.Nat.{ℕ, suc, _+_, _*_, _-_, _%_, _<_}
 use mathlib.Core.Path.{_≡_, refl, sym, ap, subst, _∙_}
 use mathlib.Core.List.{List, [], _∷_, _++_, append-nil}
 use native.Mathlib.Omega.{arith}
-use lib.ListN.{getD, set, take, replicate, List·getD-eq-default}
+use lib.ListN.{length, getD, set, take, drop, replicate, List·getD-eq-default}
 use Rattle.numbers.specs.Count.{first, joined, listed}
 use Rattle.numbers.specs.Fields.{Width, size, Fit}
 use Rattle.numbers.proofs.FieldLaws.{zeros-fit}
@@ -20,7 +20,8 @@ use Rattle.model.specs.Book.{Legal, Fresh}
 use Rattle.model.specs.Image.{newest, headerStart, headerTail, assetWidths, assetValues, entryWidths, entryValues, playerWidths}
 use Rattle.model.specs.Image.{playerValues, headerSize, assetSize, entrySize, playerSize, imageLength, headerBytes, assetBytes}
 use Rattle.model.specs.Image.{entryBytes, playerBytes, image, lengthOf}
-use Rattle.model.specs.Image.{readCode, readBook, Typed}
+use Rattle.model.specs.Image.{readCode, readBook, bookIn, Typed}
+use Rattle.model.specs.Demand2.{imageAs}
 use Rattle.model.proofs.Image.RoundTrip.{demand2}
 use Rattle.model.proofs.Examples.Computes.{image-run, legal-run}
 
@@ -77,6 +78,9 @@ greatEntry i = record {
     end = 4000000000;
     interval = 100000000;
     accumulated = 100000000;
+    tracked = 1;
+    timedvalue = 4294967295;
+    mark = 1;
   };
   meters = record { count = 1000000; timed = 1000000; first = 3999999990; seconds = 100000000; started = 1 };
 }
@@ -90,12 +94,13 @@ greatPlayer p = record {
     kind = 5;
     answer = record { code = 0; entry = 63; until = 4294967295 };
   };
-  current = record { on = 1; entry = 48 + p; begin = 3999999990; until = 4000000001 };
+  current = record { on = 1; entry = 48 + p; begin = 3999999990; until = 4000000001; content = 65535 - p };
 }
 
 unfoldable pub greatest : Book
 greatest = record {
   time = 4000000000;
+  switch = 1;
   assetcount = 64;
   entrycount = 64;
   assets = listed greatAsset 64;
@@ -128,7 +133,7 @@ at-each P f n d each blank i =
 pub greatest-typed : Typed greatest
 unfolding greatest
 greatest-typed = record {
-  header = tt;
+  header = omega arith;
   assets = at-each (λ (x : Asset). Fit (assetWidths newest) (assetValues x)) greatAsset 64 noAsset (λ i h. omega arith)
       (zeros-fit (assetWidths newest));
   entries = at-each (λ (x : Entry). Fit (entryWidths newest) (entryValues x)) greatEntry 64 noEntry (λ i h. omega arith)
@@ -137,7 +142,7 @@ greatest-typed = record {
       (zeros-fit (playerWidths newest));
 }
 
--- the reader run on its 3,979 bytes
+-- the reader run on its 4,815 bytes
 pub greatest-read : readCode (image greatest) ≡ 0
 unfolding legal-run image-run greatest
 greatest-read = refl
@@ -146,7 +151,7 @@ greatest-read = refl
 pub greatest-back : readBook noBook (image greatest) ≡ greatest
 greatest-back = demand2 .readsBack noBook greatest greatest-legal greatest-typed .1
 
-pub greatest-length : lengthOf greatest ≡ 3979
+pub greatest-length : lengthOf greatest ≡ 4815
 unfolding greatest assetsIn entriesIn imageLength headerSize assetSize entrySize playerSize lengthOf
 greatest-length = refl
 
@@ -155,6 +160,7 @@ greatest-length = refl
 unfoldable pub small : Book
 small = record {
   time = 168496141;
+  switch = 1;
   assetcount = 2;
   entrycount = 2;
   assets = record { number = 258; inherit = 2; key = 1 } ∷ record { number = 2; inherit = 0; key = 0 } ∷ replicate 62 noAsset;
@@ -172,6 +178,9 @@ small = record {
           end = 168496383;
           interval = 200;
           accumulated = 100000;
+          tracked = 1;
+          timedvalue = 505093152;
+          mark = 1;
         };
         meters = record { count = 3; timed = 4; first = 168496130; seconds = 100; started = 1 };
       }
@@ -188,6 +197,9 @@ small = record {
           end = 0;
           interval = 0;
           accumulated = 0;
+          tracked = 0;
+          timedvalue = 0;
+          mark = 0;
         };
         meters = noMeters;
       }
@@ -201,22 +213,23 @@ small = record {
           kind = 3;
           answer = record { code = 0; entry = 1; until = 421141276 };
         };
-        current = record { on = 1; entry = 0; begin = 168496136; until = 168496142 };
+        current = record { on = 1; entry = 0; begin = 168496136; until = 168496142; content = 258 };
       }
       ∷ replicate 15 noPlayer;
 }
 
 -- its bytes, one line for each of the header, the assets, the entries and the players
 pub small-bytes : image small
-    ≡ 82 ∷ 66 ∷ 75 ∷ 0 ∷ 1 ∷ 2 ∷ 2 ∷ 10 ∷ 11 ∷ 12 ∷ 13 ∷ []
+    ≡ 82 ∷ 66 ∷ 75 ∷ 0 ∷ 2 ∷ 2 ∷ 2 ∷ 10 ∷ 11 ∷ 12 ∷ 13 ∷ 0 ∷ 0 ∷ 0 ∷ 1 ∷ []
     ++ 1 ∷ 2 ∷ 0 ∷ 2 ∷ 1 ∷ []
     ++ 0 ∷ 2 ∷ 0 ∷ 0 ∷ 0 ∷ []
     ++ 5 ∷ 6 ∷ 1 ∷ 2 ∷ 2 ∷ 63 ∷ 0 ∷ 0 ∷ 0 ∷ 10 ∷ 0 ∷ 0 ∷ 0 ∷ 11 ∷ 0 ∷ 0 ∷ 0 ∷ 12 ∷ 10 ∷ 11 ∷ 12 ∷ 1 ∷ 10 ∷ 11 ∷ 12 ∷ 255 ∷ 0 ∷ 0 ∷ 0 ∷
     200 ∷ 0 ∷ 1 ∷ 134 ∷ 160
-    ∷ 0 ∷ 0 ∷ 0 ∷ 3 ∷ 0 ∷ 0 ∷ 0 ∷ 4 ∷ 10 ∷ 11 ∷ 12 ∷ 2 ∷ 0 ∷ 0 ∷ 0 ∷ 100 ∷ 1 ∷ []
-    ++ 0 ∷ 7 ∷ 0 ∷ 2 ∷ 4 ∷ replicate 46 0
-    ++ 17 ∷ 18 ∷ 19 ∷ 20 ∷ 1 ∷ 21 ∷ 22 ∷ 3 ∷ 0 ∷ 1 ∷ 25 ∷ 26 ∷ 27 ∷ 28 ∷ 1 ∷ 0 ∷ 10 ∷ 11 ∷ 12 ∷ 8 ∷ 10 ∷ 11 ∷ 12 ∷ 14 ∷ []
-    ++ replicate 360 0
+    ∷ 0 ∷ 0 ∷ 0 ∷ 3 ∷ 0 ∷ 0 ∷ 0 ∷ 4 ∷ 10 ∷ 11 ∷ 12 ∷ 2 ∷ 0 ∷ 0 ∷ 0 ∷ 100 ∷ 1
+    ∷ 0 ∷ 0 ∷ 0 ∷ 1 ∷ 30 ∷ 27 ∷ 28 ∷ 32 ∷ 0 ∷ 0 ∷ 0 ∷ 1 ∷ []
+    ++ 0 ∷ 7 ∷ 0 ∷ 2 ∷ 4 ∷ replicate 58 0
+    ++ 17 ∷ 18 ∷ 19 ∷ 20 ∷ 1 ∷ 21 ∷ 22 ∷ 3 ∷ 0 ∷ 1 ∷ 25 ∷ 26 ∷ 27 ∷ 28 ∷ 1 ∷ 0 ∷ 10 ∷ 11 ∷ 12 ∷ 8 ∷ 10 ∷ 11 ∷ 12 ∷ 14 ∷ 0 ∷ 0 ∷ 1 ∷ 2 ∷ []
+    ++ replicate 420 0
 unfolding small joined headerBytes assetBytes entryBytes playerBytes assetsIn entriesIn image
 small-bytes = refl
 
@@ -255,7 +268,8 @@ abbrev setPlayer : ℕ → ℕ → ℕ → ℕ
 setPlayer p k v = with (inPlayer p k) v
 
 -- one group for each of 20 to 25, two for 26, one for 27; the last are accepted, most of them exactly at a bound, three with a flagged
--- limit of 0. A count or timed count set to 0 where some was used is 27, an interval set to 0 under an open use 26.
+-- limit of 0, one with a content that has no key. A count or timed count set to 0 where some was used is 27, an interval set to 0 under
+-- an open use 26.
 pub damaged :
     (readCode (take 10 (image small)) ∷ readCode (take (lengthOf small - 1) (image small)) ∷ readCode (image small ++ (0 ∷ []))
     ∷ setHeader 5 1 ∷ [])
@@ -264,10 +278,11 @@ pub damaged :
     ∷ (setHeader 4 65 ∷ setHeader 5 65 ∷ with (inHeader 6 - 3) 239 ∷ [])
     ∷ (setAsset 0 2 2 ∷ with (inAsset 1 0 - 1) 1 ∷ setAsset 1 0 0 ∷ [])
     ∷ (setEntry 0 2 0 ∷ setEntry 0 2 4 ∷ setEntry 0 2 6 ∷ setEntry 0 3 64 ∷ setEntry 0 8 0 ∷ setEntry 1 0 0
-    ∷ setEntry 1 1 9 ∷ setEntry 1 2 0 ∷ setEntry 1 4 1 ∷ setEntry 1 5 1 ∷ setEntry 1 9 1 ∷ [])
+    ∷ setEntry 1 1 9 ∷ setEntry 1 2 0 ∷ setEntry 1 4 1 ∷ setEntry 1 5 1 ∷ setEntry 1 9 1
+    ∷ setEntry 0 16 0 ∷ setEntry 0 16 2 ∷ setEntry 0 18 2 ∷ setEntry 1 16 2 ∷ setEntry 1 17 1 ∷ setEntry 1 18 1 ∷ [])
     ∷ (setPlayer 0 1 2 ∷ setPlayer 0 1 4 ∷ setPlayer 0 3 0 ∷ setPlayer 0 3 6 ∷ setPlayer 0 4 9 ∷ setPlayer 0 4 16
     ∷ setPlayer 0 4 10 ∷ setPlayer 0 5 2 ∷ setPlayer 0 7 0 ∷ setPlayer 0 7 2 ∷ setPlayer 0 8 1 ∷ setPlayer 0 8 2
-    ∷ setPlayer 1 1 1 ∷ [])
+    ∷ setPlayer 1 1 1 ∷ setPlayer 1 11 1 ∷ setPlayer 0 11 3 ∷ with (headerSize newest - 1) 2 ∷ [])
     ∷ (setPlayer 0 9 14 ∷ setPlayer 0 10 13 ∷ setPlayer 0 10 74 ∷ setEntry 0 7 9 ∷ setEntry 0 8 12 ∷ setEntry 0 13 9
     ∷ setEntry 0 9 11 ∷ setEntry 0 15 0 ∷ setEntry 0 9 0 ∷ [])
     ∷ (setEntry 0 4 0 ∷ setEntry 0 5 0 ∷ setEntry 0 11 0 ∷ setEntry 0 11 11 ∷ setEntry 0 12 0 ∷ setEntry 0 12 12
@@ -275,18 +290,19 @@ pub damaged :
     ∷ setEntry 1 15 1 ∷ [])
     ∷ (readCode (image small) ∷ setPlayer 0 9 13 ∷ setPlayer 0 10 73 ∷ setEntry 0 7 8 ∷ setEntry 0 8 13 ∷ setEntry 0 13 8
     ∷ setEntry 0 9 12 ∷ setEntry 0 11 10 ∷ setEntry 0 12 11 ∷ setEntry 0 14 6 ∷ setPlayer 0 5 0 ∷ setEntry 1 3 1
-    ∷ setEntry 1 3 2 ∷ setEntry 1 3 16 ∷ [])
+    ∷ setEntry 1 3 2 ∷ setEntry 1 3 16 ∷ setEntry 0 17 0 ∷ setEntry 0 18 0 ∷ setEntry 1 16 1 ∷ with (inPlayer 0 11 - 1) 0
+    ∷ with (headerSize newest - 1) 0 ∷ [])
     ∷ []
     ≡ replicate 4 20
     ∷ replicate 4 21
     ∷ replicate 3 22
     ∷ replicate 3 23
     ∷ replicate 3 24
-    ∷ replicate 11 25
-    ∷ replicate 13 26
+    ∷ replicate 17 25
+    ∷ replicate 16 26
     ∷ replicate 9 26
     ∷ replicate 9 27
-    ∷ replicate 14 0
+    ∷ replicate 19 0
     ∷ []
 unfolding legal-run image-run small
 damaged = refl
@@ -295,13 +311,73 @@ damaged = refl
 abbrev both : ℕ → ℕ → ℕ → ℕ → ℕ
 both i v j w = readCode (set (set (image small) i v) j w)
 
--- if two neighbouring stages fail, the first is reported, from "20 wrong length, 24 asset rules" on; the header's are in `BetweenRules`
+-- if two neighbouring stages fail, the first is reported, from "20 wrong length, 24 asset rules" on; the header's are in `BetweenRules`.
+-- The switch is judged with the players: after the entries, before the meters.
 pub two-faults :
     readCode (take (lengthOf small - 1) (set (image small) (inAsset 0 2) 2))
     ∷ both (inAsset 0 2) 2 (inEntry 0 2) 0
     ∷ both (inEntry 0 2) 0 (inPlayer 0 1) 4
     ∷ both (inPlayer 0 1) 4 (inEntry 0 11) 11
+    ∷ both (inEntry 0 2) 0 (headerSize newest - 1) 2
+    ∷ both (headerSize newest - 1) 2 (inEntry 0 11) 11
     ∷ []
-    ≡ 20 ∷ 24 ∷ 25 ∷ 26 ∷ []
+    ≡ 20 ∷ 24 ∷ 25 ∷ 26 ∷ 25 ∷ 26 ∷ []
 unfolding legal-run image-run small
 two-faults = refl
+
+-- ## Its image of version 1, which has no switch, track and content
+
+abbrev older : Book
+older = record {
+  time = small .time;
+  switch = 0;
+  assetcount = 2;
+  entrycount = 2;
+  assets = small .assets;
+  entries =
+      record {
+        limits = record {
+          object = 1286;
+          asset = 258;
+          kind = 2;
+          flags = 63;
+          count = 10;
+          timed = 11;
+          timer = 12;
+          start = 168496129;
+          end = 168496383;
+          interval = 200;
+          accumulated = 100000;
+          tracked = 0;
+          timedvalue = 0;
+          mark = 0;
+        };
+        meters = record { count = 3; timed = 4; first = 168496130; seconds = 100; started = 1 };
+      }
+      ∷ drop 1 (small .entries);
+  players =
+      record {
+        last = record {
+          number = 286397204;
+          operation = 1;
+          asset = 5398;
+          kind = 3;
+          answer = record { code = 0; entry = 1; until = 421141276 };
+        };
+        current = record { on = 1; entry = 0; begin = 168496136; until = 168496142; content = 0 };
+      }
+      ∷ replicate 15 noPlayer;
+}
+
+-- 11 + 5 * 2 + 51 * 2 + 384 bytes
+pub older-length : length (imageAs 1 small) ≡ 507
+unfolding imageAs image-run small
+older-length = refl
+
+pub older-read : readCode (imageAs 1 small) ≡ 0
+unfolding imageAs legal-run image-run small
+older-read = refl
+
+pub older-book : bookIn (imageAs 1 small) ≡ older
+unfolding imageAs image-run small
+older-book = refl

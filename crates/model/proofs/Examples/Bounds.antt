@@ -8,7 +8,9 @@ use lib.ListN.{replicate}
 use Rattle.numbers.specs.Count.{first}
 use Rattle.book.specs.declared.Asset.{Asset}
 use Rattle.model.specs.Book.{grantLength, flagged, momentary, limit, assetPosition, assetLegal, rangesLegal, limitsLegal, takenCode}
-use Rattle.model.specs.Book.{answerLegal, insideDates, insideInterval, useLegal, meterLegal, startLegal, metersCover}
+use Rattle.book.specs.Blank.{noMeters, noEntry}
+use Rattle.model.specs.Book.{trackLegal, contentLegal, openLegal, answerLegal, insideDates, insideInterval, useLegal, meterLegal}
+use Rattle.model.specs.Book.{startLegal, metersCover}
 use Rattle.model.proofs.Examples.Afternoon.{limits}
 
 -- ## Assets
@@ -81,6 +83,9 @@ known object kind flags count timed timer start end interval accumulated = limit
   end = end;
   interval = interval;
   accumulated = accumulated;
+  tracked = 0;
+  timedvalue = 0;
+  mark = 0;
 })
 
 -- "rights object number (1 to 65535), asset (in the book), kind .., flags"; "start at most end where both are flagged";
@@ -103,12 +108,45 @@ pub entries :
     ∷ limitsLegal false (limits 1 1 0 0 0 0 0 0 0 0)
     ∷ []
     ≡ true ∷ true ∷ true ∷ true ∷ false ∷ false ∷ false ∷ false ∷ false ∷ false ∷ false ∷ false ∷ false ∷ false ∷ false ∷ []
-unfolding flagged momentary limit rangesLegal limitsLegal
+unfolding flagged momentary limit rangesLegal limitsLegal trackLegal
 entries = refl
+
+-- order 3 of document 02: "tracked (1, else 0), with a timed value in seconds and the contentAccessGranted mark (0 or 1), both 0 if
+-- untracked"
+abbrev track : ℕ → ℕ → ℕ → Bool
+track tracked value mark = trackLegal (record {
+  object = 1;
+  asset = 1;
+  kind = 1;
+  flags = 0;
+  count = 0;
+  timed = 0;
+  timer = 0;
+  start = 0;
+  end = 0;
+  interval = 0;
+  accumulated = 0;
+  tracked = tracked;
+  timedvalue = value;
+  mark = mark;
+})
+
+pub tracks :
+    track 0 0 0
+    ∷ track 1 0 0
+    ∷ track 1 4294967295 1
+    ∷ track 2 0 0
+    ∷ track 1 0 2
+    ∷ track 0 1 0
+    ∷ track 0 0 1
+    ∷ []
+    ≡ true ∷ true ∷ true ∷ false ∷ false ∷ false ∷ false ∷ []
+unfolding trackLegal
+tracks = refl
 
 -- ## Players
 
--- "code 0 or 10 to 15; entry a position if code 0, else entry 255 and until 0"; there are two entries
+-- "code 0 or 10 to 15", and 43 of order 3; "entry a position if code 0, else entry 255 and until 0"; there are two entries
 abbrev stored : ℕ → ℕ → ℕ → Bool
 stored code entry until = answerLegal 2 (record { code = code; entry = entry; until = until })
 
@@ -122,15 +160,20 @@ pub answers :
     ∷ stored 10 254 0
     ∷ stored 10 256 0
     ∷ stored 10 255 1
+    ∷ stored 43 255 0
+    ∷ stored 42 255 0
+    ∷ stored 44 255 0
+    ∷ stored 30 255 0
+    ∷ stored 43 0 0
     ∷ []
-    ≡ true ∷ true ∷ true ∷ false ∷ false ∷ false ∷ false ∷ false ∷ false ∷ []
+    ≡ true ∷ true ∷ true ∷ false ∷ false ∷ false ∷ false ∷ false ∷ false ∷ true ∷ false ∷ false ∷ false ∷ false ∷ []
 unfolding takenCode answerLegal
 answers = refl
 
 -- "begin ≤ book time < until ≤ book time + 60, an open entry that is a position of kind 1 to 3, and [begin, until) inside its flagged
 -- dates and, where flagged, an interval with started 1": book time 100, two entries, dates 40 to 109, interval 50 to 110
 abbrev used : ℕ → ℕ → ℕ → ℕ → ℕ → ℕ → Bool
-used kind flags started entry begin until = useLegal 100 2 (record {
+used kind flags started entry begin until = useLegal 100 2 true (record {
   limits = record {
     object = 1;
     asset = 1;
@@ -143,9 +186,12 @@ used kind flags started entry begin until = useLegal 100 2 (record {
     end = 109;
     interval = 60;
     accumulated = 0;
+    tracked = 0;
+    timedvalue = 0;
+    mark = 0;
   };
   meters = record { count = 0; timed = 0; first = 50; seconds = 0; started = started };
-}) (record { on = 1; entry = entry; begin = begin; until = until })
+}) (record { on = 1; entry = entry; begin = begin; until = until; content = 1 })
 
 pub uses :
     used 1 0 0 1 100 101
@@ -166,8 +212,48 @@ pub uses :
     ∷ used 2 16 2 0 50 110
     ∷ []
     ≡ true ∷ true ∷ true ∷ true ∷ false ∷ false ∷ false ∷ false ∷ false ∷ false ∷ false ∷ false ∷ false ∷ false ∷ false ∷ false ∷ []
-unfolding grantLength flagged insideDates insideInterval useLegal
+unfolding grantLength flagged insideDates insideInterval contentLegal useLegal
 uses = refl
+
+-- order 3: "The content, an asset of the book, is kept with every open use: 0 if closed, and on reading allowed 0 if untracked.": of an
+-- open use, whether its content is in the book, its entry's track, its content; then a closed one
+abbrev content : Bool → ℕ → ℕ → Bool
+content known tracked number = openLegal 100 2 known (record {
+  limits = record {
+    object = 1;
+    asset = 1;
+    kind = 1;
+    flags = 0;
+    count = 0;
+    timed = 0;
+    timer = 0;
+    start = 0;
+    end = 0;
+    interval = 0;
+    accumulated = 0;
+    tracked = tracked;
+    timedvalue = 0;
+    mark = 0;
+  };
+  meters = noMeters;
+}) (record { on = 1; entry = 1; begin = 100; until = 101; content = number })
+
+abbrev shut : ℕ → Bool
+shut number = openLegal 100 2 true noEntry (record { on = 0; entry = 0; begin = 0; until = 0; content = number })
+
+pub contents :
+    content true 1 7
+    ∷ content true 0 7
+    ∷ content false 0 0
+    ∷ content false 0 7
+    ∷ content false 1 0
+    ∷ content false 1 7
+    ∷ shut 0
+    ∷ shut 7
+    ∷ []
+    ≡ true ∷ true ∷ true ∷ false ∷ false ∷ false ∷ true ∷ false ∷ []
+unfolding grantLength flagged insideDates insideInterval contentLegal useLegal openLegal
+contents = refl
 
 -- ## Meters
 

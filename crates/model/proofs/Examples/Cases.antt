@@ -20,8 +20,7 @@ use Rattle.model.specs.Book.{requestLegal}
 use Rattle.model.specs.Record.{kindOf, requestOf, eventIn, decoded}
 use Rattle.model.specs.Gate.{sameRequest, sameNumber, inLine, timely, gate}
 use Rattle.model.specs.Step.{refusal}
-use Rattle.model.specs.History.{answers}
-use Rattle.model.proofs.Examples.Afternoon.{asset, entry, event, granted}
+use Rattle.model.proofs.Examples.Afternoon.{asset, entry, event, granted, run}
 use Rattle.model.proofs.Examples.Computes.{events-run}
 
 abbrev free : ℕ → ℕ → Entry
@@ -50,6 +49,7 @@ lasting asset kind accumulated = entry asset kind 32 0 0 0 0 0 0 accumulated
 abbrev book : List Entry → ℕ → Book
 book entries count = record {
   time = 0;
+  switch = 0;
   assetcount = 8;
   entrycount = count;
   assets = asset 1 1 9 ∷ asset 2 1 9 ∷ asset 3 1 7 ∷ asset 4 1 8 ∷ asset 5 1 6 ∷ asset 7 0 9 ∷ asset 8 1 9 ∷ asset 9 0 0 ∷ [];
@@ -62,7 +62,7 @@ abbrev shelf : List Entry
 shelf = counted 7 1 9 ∷ counted 8 2 9 ∷ counted 9 3 9 ∷ counted 6 4 9 ∷ counted 0 5 9 ∷ []
 
 pub one-level :
-    answers (book shelf 5)
+    run (book shelf 5)
     (event 0 1 (Begin Play 3) 1
     ∷ event 0 2 (Begin Display 4) 2
     ∷ event 0 3 (Begin Execute 3) 3
@@ -104,7 +104,7 @@ ordered =
     ∷ []
 
 pub in-order :
-    answers (book ordered 11)
+    run (book ordered 11)
     (event 0 1 (Begin Play 1) 10
     ∷ event 1 1 (Begin Display 1) 10
     ∷ event 2 1 (Begin Print 2) 10
@@ -122,7 +122,7 @@ abbrev moments : List Entry
 moments = counted 1 4 1 ∷ timed 1 5 1 0 ∷ counted 1 1 1 ∷ []
 
 pub momentary-begins :
-    answers (book moments 3)
+    run (book moments 3)
     (event 0 1 (Begin Print 1) 10
     ∷ event 0 2 Stop 10
     ∷ event 0 3 (Begin Export 1) 10
@@ -141,7 +141,7 @@ abbrev windows : List Entry
 windows = dated 1 1 100 200 ∷ spanned 1 2 100 ∷ []
 
 pub dates-and-interval :
-    answers (book windows 2)
+    run (book windows 2)
     (event 0 1 (Begin Play 1) 99
     ∷ event 0 2 (Begin Play 1) 100
     ∷ event 1 1 (Begin Display 1) 101
@@ -159,7 +159,7 @@ abbrev given : List Entry
 given = timed 1 1 1 30 ∷ counted 1 2 1 ∷ lasting 1 3 70 ∷ []
 
 pub ends :
-    answers (book given 3)
+    run (book given 3)
     (event 0 1 (Begin Play 1) 10
     ∷ event 0 2 Stop 39
     ∷ event 0 3 (Begin Play 1) 40
@@ -196,7 +196,7 @@ abbrev shared : List Entry
 shared = timed 1 1 2 100 ∷ []
 
 pub all-settled :
-    answers (book shared 1)
+    run (book shared 1)
     (event 0 1 (Begin Play 1) 10
     ∷ event 1 1 (Begin Play 1) 20
     ∷ event 2 1 (Begin Play 1) 69

@@ -7,7 +7,7 @@ use mathlib.Core.List.{List, [], _∷_, _++_}
 use lib.ListN.{length, replicate}
 use Rattle.model.specs.Image.{newest, headerSize, assetSize, entrySize, playerSize}
 use Rattle.model.specs.Image.{image}
-use Rattle.model.specs.Run.{decimalIn, decimal, runText, runBook}
+use Rattle.model.specs.Run.{decimalIn, decimal, runText, runBook, zeroLines}
 use Rattle.model.proofs.Examples.Afternoon.{start}
 use Rattle.model.proofs.Examples.Computes.{events-run, image-run, text-run}
 
@@ -55,11 +55,11 @@ text =
     ∷ 48 ∷ 32 ∷ 50 ∷ 32 ∷ 49 ∷ 49 ∷ 52 ∷ 48 ∷ 10
     ∷ 54 ∷ 32 ∷ 50 ∷ 53 ∷ 53 ∷ 32 ∷ 48 ∷ 10 ∷ []
 
-pub printed : runText start records ≡ text
+pub printed : runText start (zeroLines start) records ≡ text
 unfolding events-run text-run
 printed = refl
 
--- the bytes of a record: document 01's, then 0 for what later versions add
+-- the bytes of a record, then 0 for what they leave out of what later versions add
 abbrev row : ℕ → List ℕ → List ℕ
 row width bytes = bytes ++ replicate (width - length bytes) 0
 
@@ -77,17 +77,20 @@ after =
     0 ∷ 0 ∷ 0 ∷ 0 ∷ 0 ∷ 0 ∷ 0 ∷ 100 ∷ 0 ∷ 0 ∷ 0 ∷ 0 ∷ 0 ∷ 0 ∷ 0 ∷ 0 ∷ 0 ∷ 0 ∷ 0 ∷ 0 ∷ 0 ∷ 0 ∷ 0 ∷ 100 ∷ 0 ∷ [])
     ++ row (entrySize newest) (0 ∷ 1 ∷ 0 ∷ 1 ∷ 2 ∷ 2 ∷ 0 ∷ 0 ∷ 0 ∷ 0 ∷ 0 ∷ 0 ∷ 0 ∷ 1 ∷ 0 ∷ 0 ∷ 0 ∷ 30 ∷ 0 ∷ 0 ∷ 0 ∷ 0 ∷ 0 ∷ 0 ∷ 0 ∷ 0 ∷
     0 ∷ 0 ∷ 0 ∷ 0 ∷ 0 ∷ 0 ∷ 0 ∷ 0 ∷ 0 ∷ 0 ∷ 0 ∷ 0 ∷ 0 ∷ 0 ∷ 0 ∷ 1 ∷ 0 ∷ 0 ∷ 0 ∷ 0 ∷ 0 ∷ 0 ∷ 0 ∷ 0 ∷ 0 ∷ [])
-    ++ row (playerSize newest) (0 ∷ 0 ∷ 0 ∷ 2 ∷ 2 ∷ 0 ∷ 0 ∷ 0 ∷ 0 ∷ 0 ∷ 0 ∷ 0 ∷ 4 ∷ 95 ∷ 1 ∷ 0 ∷ 0 ∷ 0 ∷ 3 ∷ 232 ∷ 0 ∷ 0 ∷ 4 ∷ 95 ∷ [])
+    ++ row (playerSize newest) (0 ∷ 0 ∷ 0 ∷ 2 ∷ 2 ∷ 0 ∷ 0 ∷ 0 ∷ 0 ∷ 0 ∷ 0 ∷ 0 ∷ 4 ∷ 95 ∷ 1 ∷ 0 ∷ 0 ∷ 0 ∷ 3 ∷ 232 ∷ 0 ∷ 0 ∷ 4 ∷ 95 ∷ 0 ∷ 0
+    ∷ 0 ∷ 1 ∷ [])
     ++ row (playerSize newest) (0 ∷ 0 ∷ 0 ∷ 2 ∷ 2 ∷ 0 ∷ 0 ∷ 0 ∷ 14 ∷ 255 ∷ 0 ∷ 0 ∷ 0 ∷ 0 ∷ 0 ∷ 0 ∷ 0 ∷ 0 ∷ 0 ∷ 0 ∷ 0 ∷ 0 ∷ 0 ∷ 0 ∷ [])
     ++ row (playerSize newest) (0 ∷ 0 ∷ 0 ∷ 2 ∷ 3 ∷ 0 ∷ 0 ∷ 0 ∷ 0 ∷ 1 ∷ 0 ∷ 0 ∷ 4 ∷ 16 ∷ 0 ∷ 0 ∷ 0 ∷ 0 ∷ 0 ∷ 0 ∷ 0 ∷ 0 ∷ 0 ∷ 0 ∷ [])
     ++ row (playerSize newest) (0 ∷ 0 ∷ 0 ∷ 2 ∷ 2 ∷ 0 ∷ 0 ∷ 0 ∷ 15 ∷ 255 ∷ 0 ∷ 0 ∷ 0 ∷ 0 ∷ 0 ∷ 0 ∷ 0 ∷ 0 ∷ 0 ∷ 0 ∷ 0 ∷ 0 ∷ 0 ∷ 0 ∷ [])
-    ++ row (playerSize newest) (0 ∷ 0 ∷ 0 ∷ 2 ∷ 1 ∷ 0 ∷ 1 ∷ 1 ∷ 0 ∷ 1 ∷ 0 ∷ 0 ∷ 4 ∷ 61 ∷ 1 ∷ 1 ∷ 0 ∷ 0 ∷ 4 ∷ 21 ∷ 0 ∷ 0 ∷ 4 ∷ 61 ∷ [])
+    ++ row (playerSize newest) (0 ∷ 0 ∷ 0 ∷ 2 ∷ 1 ∷ 0 ∷ 1 ∷ 1 ∷ 0 ∷ 1 ∷ 0 ∷ 0 ∷ 4 ∷ 61 ∷ 1 ∷ 1 ∷ 0 ∷ 0 ∷ 4 ∷ 21 ∷ 0 ∷ 0 ∷ 4 ∷ 61 ∷ 0 ∷ 0 ∷
+    0 ∷ 1 ∷ [])
     ++ row (playerSize newest) (0 ∷ 0 ∷ 0 ∷ 1 ∷ 1 ∷ 0 ∷ 7 ∷ 1 ∷ 10 ∷ 255 ∷ 0 ∷ 0 ∷ 0 ∷ 0 ∷ 0 ∷ 0 ∷ 0 ∷ 0 ∷ 0 ∷ 0 ∷ 0 ∷ 0 ∷ 0 ∷ 0 ∷ [])
     ++ row (playerSize newest) (0 ∷ 0 ∷ 0 ∷ 1 ∷ 1 ∷ 0 ∷ 1 ∷ 4 ∷ 12 ∷ 255 ∷ 0 ∷ 0 ∷ 0 ∷ 0 ∷ 0 ∷ 0 ∷ 0 ∷ 0 ∷ 0 ∷ 0 ∷ 0 ∷ 0 ∷ 0 ∷ 0 ∷ [])
-    ++ row (playerSize newest) (0 ∷ 0 ∷ 0 ∷ 1 ∷ 1 ∷ 0 ∷ 1 ∷ 2 ∷ 0 ∷ 2 ∷ 0 ∷ 0 ∷ 4 ∷ 116 ∷ 1 ∷ 2 ∷ 0 ∷ 0 ∷ 4 ∷ 56 ∷ 0 ∷ 0 ∷ 4 ∷ 116 ∷ [])
+    ++ row (playerSize newest) (0 ∷ 0 ∷ 0 ∷ 1 ∷ 1 ∷ 0 ∷ 1 ∷ 2 ∷ 0 ∷ 2 ∷ 0 ∷ 0 ∷ 4 ∷ 116 ∷ 1 ∷ 2 ∷ 0 ∷ 0 ∷ 4 ∷ 56 ∷ 0 ∷ 0 ∷ 4 ∷ 116 ∷ 0 ∷ 0
+    ∷ 0 ∷ 1 ∷ [])
     ++ replicate (playerSize newest * 8) 0
 
-pub saved : image (runBook start records) ≡ after
+pub saved : image (runBook start (zeroLines start) records) ≡ after
 unfolding events-run image-run text-run
 saved = refl
 

@@ -16,10 +16,9 @@ use Rattle.book.specs.Blank.{noAsset, noEntry, noPlayer, noMeters}
 use Rattle.model.specs.Book.{assetAt, limitsAt, metersAt, flagged, ruleBroken, Legal}
 use Rattle.model.specs.Choice.{groundsOf, groundList}
 use Rattle.model.specs.Step.{refusal, step}
-use Rattle.model.specs.History.{answers}
 use Rattle.model.specs.Ledger.{latestTaken, resent, calledTaken}
 use Rattle.model.specs.Demand3.{after, own, ZeroLimit, zero-count, zero-timed, zero-interval, zero-accumulated, NeverGranted}
-use Rattle.model.proofs.Examples.Afternoon.{asset, limits, entry, event, granted}
+use Rattle.model.proofs.Examples.Afternoon.{asset, limits, entry, event, granted, run}
 use Rattle.model.proofs.Examples.Computes.{events-run, legal-run}
 use Rattle.model.proofs.Demand3.Proof.{demand3}
 
@@ -27,6 +26,7 @@ use Rattle.model.proofs.Demand3.Proof.{demand3}
 abbrev book : List Entry → ℕ → Book
 book entries count = record {
   time = 0;
+  switch = 0;
   assetcount = 3;
   entrycount = count;
   assets = asset 1 1 9 ∷ asset 2 1 9 ∷ asset 9 0 0 ∷ replicate 61 noAsset;
@@ -46,7 +46,7 @@ zeros =
 
 -- "a begin with only such entries gets 13", the second time as the first; a resend of it gets 13 again, and nothing is open
 pub alone :
-    answers (book zeros 5)
+    run (book zeros 5)
     (event 0 1 (Begin Play 1) 10
     ∷ event 1 1 (Begin Display 1) 10
     ∷ event 2 1 (Begin Execute 1) 10
@@ -76,7 +76,7 @@ pairs =
     ∷ []
 
 pub beside :
-    answers (book pairs 9)
+    run (book pairs 9)
     (event 0 1 (Begin Play 1) 10
     ∷ event 1 1 (Begin Display 1) 10
     ∷ event 2 1 (Begin Execute 1) 10
@@ -90,17 +90,17 @@ beside = refl
 
 -- the grounds against an interval that has not started, or has at 5; at 7
 abbrev grounds : ℕ → ℕ → List Bool
-grounds interval started = groundList (groundsOf (record { player = 0; time = 7 }) (limits 1 1 16 0 0 0 0 0 interval 0)
+grounds interval started = groundList (groundsOf (record { player = 0; time = 7; switch = 0 }) (limits 1 1 16 0 0 0 0 0 interval 0)
     (record { count = 0; timed = 0; first = 5; seconds = 0; started = started }))
 
 -- an interval of 0 is a ground by itself, and is over once it has started; one of 2 is over, one of 3 is not
 pub interval-grounds :
     grounds 0 0 ∷ grounds 0 1 ∷ grounds 2 0 ∷ grounds 2 1 ∷ grounds 3 1 ∷ []
-    ≡ ((replicate 6 false ++ (true ∷ []))
-    ∷ (replicate 4 false ++ (true ∷ false ∷ true ∷ []))
-    ∷ replicate 7 false
-    ∷ (replicate 4 false ++ (true ∷ false ∷ false ∷ []))
-    ∷ replicate 7 false
+    ≡ ((replicate 6 false ++ (true ∷ false ∷ []))
+    ∷ (replicate 4 false ++ (true ∷ false ∷ true ∷ false ∷ []))
+    ∷ replicate 8 false
+    ∷ (replicate 4 false ++ (true ∷ false ∷ false ∷ false ∷ []))
+    ∷ replicate 8 false
     ∷ [])
 unfolding flagged groundsOf
 interval-grounds = refl

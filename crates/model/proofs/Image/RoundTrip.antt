@@ -21,13 +21,13 @@ use Rattle.book.specs.declared.Entry.{Entry}
 use Rattle.book.specs.declared.Player.{Player}
 use Rattle.book.specs.declared.Book.{Book}
 use Rattle.book.specs.Blank.{noAsset, noEntry, noPlayer}
-use Rattle.model.specs.Book.{assetAt, playerAt, assetsIn, entriesIn, latestTime, between, ruleBroken, Legal}
+use Rattle.model.specs.Book.{assetAt, limitsAt, playerAt, assetsIn, entriesIn, latestTime, between, ruleBroken, Legal}
 use Rattle.model.specs.Image.{headerStart, headerTail, headerWidths, startValues, tailValues, newest, assetWidths, assetValues}
 use Rattle.model.specs.Image.{assetOf, entryWidths, entryValues, entryOf, playerWidths, playerValues, playerOf, imageLength}
 use Rattle.model.specs.Image.{headerBytes, assetBytes, entryBytes, playerBytes, image, headerSize, assetSize, entrySize, playerSize}
 use Rattle.model.specs.Image.{lengthOf, writeAnswer, writeBuffer, markIn, versionIn, assetCountIn, entryCountIn, timeIn, assetIn}
 use Rattle.model.specs.Image.{entryIn, playerIn, assetTable, entryTable, playerTable, entriesFrom, playersFrom, tailIn, bookAs}
-use Rattle.model.specs.Image.{bookIn, headerBroken, readCode, readBook, Typed, Bytes}
+use Rattle.model.specs.Image.{bookIn, headerBroken, readCode, readBook, trackValues, Typed, Bytes}
 use Rattle.model.specs.Demand2.{imageAs, Demand2}
 use Rattle.model.proofs.Image.Header.{by-version, HeaderPassed, header-passed, accepted-stages, accepted-book, refused-book}
 
@@ -101,7 +101,7 @@ image-length : (b : Book) → length (image b) ≡ lengthOf b
 unfolding image lengthOf imageLength
 image-length b = rw (length-append, before-players b, length-playerPart b)
 
-length-bounds : (b : Book) → (395 ≤ lengthOf b) × (lengthOf b ≤ 3979)
+length-bounds : (b : Book) → (463 ≤ lengthOf b) × (lengthOf b ≤ 4815)
 unfolding lengthOf imageLength assetsIn entriesIn headerSize assetSize entrySize playerSize
 length-bounds b = (omega arith, omega arith)
 
@@ -233,6 +233,7 @@ module _ (b : Book) (l : Legal b) where
     unfolding bookAs
     as-back = λ i. record {
       time = time-back i;
+      switch = ap (λ (vs : List ℕ). getD vs 0 0) (tail-back (y .header)) i;
       assetcount = (assets-counted ∙ assets-in) i;
       entrycount = (entries-counted ∙ entries-in) i;
       assets = (ap (assetTable newest (image b) (headerSize newest)) assets-counted ∙ assets-back) i;
@@ -361,11 +362,11 @@ module _ (s : List ℕ) (b : Bytes s) (p : HeaderPassed s) where
 module _ (v : ℕ) (h : 1 ≤ v) (k : v ≤ newest) where
   header-sizes : headerSize v ≡ size headerStart + size (headerTail v)
   unfolding headerSize
-  header-sizes = by-version (λ v. headerSize v ≡ size headerStart + size (headerTail v)) refl v h k
+  header-sizes = by-version (λ v. headerSize v ≡ size headerStart + size (headerTail v)) refl refl v h k
 
   tail-same : (s : List ℕ) → laidOut (headerTail v) (tailValues (bookAs v s)) ≡ laidOut (headerTail v) (tailIn v s)
   unfolding bookAs
-  tail-same s = by-version (λ v. laidOut (headerTail v) (tailValues (bookAs v s)) ≡ laidOut (headerTail v) (tailIn v s)) refl v h k
+  tail-same s = by-version (λ v. laidOut (headerTail v) (tailValues (bookAs v s)) ≡ laidOut (headerTail v) (tailIn v s)) refl refl v h k
 
   asset-same : (o : ℕ) (s : List ℕ)
       → laidOut (assetWidths v) (assetValues (assetOf (valuesAt (assetWidths v) o s))) ≡ laidOut (assetWidths v)
@@ -373,7 +374,7 @@ module _ (v : ℕ) (h : 1 ≤ v) (k : v ≤ newest) where
   asset-same o s = by-version
       (λ v. laidOut (assetWidths v) (assetValues (assetOf (valuesAt (assetWidths v) o s))) ≡ laidOut (assetWidths v)
       (valuesAt (assetWidths v) o s))
-      refl v h k
+      refl refl v h k
 
   entry-same : (o : ℕ) (s : List ℕ)
       → laidOut (entryWidths v) (entryValues (entryOf (valuesAt (entryWidths v) o s))) ≡ laidOut (entryWidths v)
@@ -381,7 +382,7 @@ module _ (v : ℕ) (h : 1 ≤ v) (k : v ≤ newest) where
   entry-same o s = by-version
       (λ v. laidOut (entryWidths v) (entryValues (entryOf (valuesAt (entryWidths v) o s))) ≡ laidOut (entryWidths v)
       (valuesAt (entryWidths v) o s))
-      refl v h k
+      refl refl v h k
 
   player-same : (o : ℕ) (s : List ℕ)
       → laidOut (playerWidths v) (playerValues (playerOf (valuesAt (playerWidths v) o s))) ≡ laidOut (playerWidths v)
@@ -389,7 +390,7 @@ module _ (v : ℕ) (h : 1 ≤ v) (k : v ≤ newest) where
   player-same o s = by-version
       (λ v. laidOut (playerWidths v) (playerValues (playerOf (valuesAt (playerWidths v) o s))) ≡ laidOut (playerWidths v)
       (valuesAt (playerWidths v) o s))
-      refl v h k
+      refl refl v h k
 
 module _ (s : List ℕ) (b : Bytes s) (p : HeaderPassed s) where
   abbrev v : ℕ
@@ -472,6 +473,36 @@ module _ (s : List ℕ) (b : Bytes s) (p : HeaderPassed s) where
       ∙ sym (take-add (playersFrom v s) k s)
       ∙ take-all (playersFrom v s + k) s (omega (arith, ends))
 
+-- ## An image of version 1 has none of the fields that version 2 added
+
+module _ (s : List ℕ) where
+  first-tracks : (i : ℕ) → trackValues (limitsAt (bookAs 1 s .entries) i) ≡ 0 ∷ 0 ∷ 0 ∷ []
+  unfolding bookAs entryTable entryIn
+  first-tracks i =
+      below-or-not i (entryCountIn s)
+      (λ h. ap (λ (e : Entry). trackValues (e .limits)) (listed-at _ (entryCountIn s) i noEntry _ h))
+      (λ h. ap (λ (e : Entry). trackValues (e .limits)) (blank-at _ (entryCountIn s) i (64 - entryCountIn s) noEntry h))
+
+  first-contents : (p : ℕ) → playerAt (bookAs 1 s .players) p .current .content ≡ 0
+  unfolding bookAs playerTable playerIn
+  first-contents p =
+      ap (λ (l : List Player). playerAt l p .current .content) (sym (append-nil (playerTable 1 s (playersFrom 1 s))))
+      ∙ below-or-not p 16
+      (λ h. ap (λ (x : Player). x .current .content) (listed-at _ 16 p noPlayer [] h))
+      (λ h. ap (λ (x : Player). x .current .content) (blank-at _ 16 p 0 noPlayer h))
+
+older-zero : (held : Book) (s : List ℕ) → readCode s ≡ 0 → versionIn s ≡ 1
+    → (readBook held s .switch ≡ 0)
+    × ((i : ℕ) → trackValues (limitsAt (readBook held s .entries) i) ≡ 0 ∷ 0 ∷ 0 ∷ [])
+    × ((p : ℕ) → playerAt (readBook held s .players) p .current .content ≡ 0)
+unfolding bookIn bookAs
+older-zero held s e first =
+    let as-first : readBook held s ≡ bookAs 1 s = accepted-book held s e ∙ ap (λ (v : ℕ). bookAs v s) first in (
+      ap (λ (b : Book). b .switch) as-first,
+      λ i. ap (λ (b : Book). trackValues (limitsAt (b .entries) i)) as-first ∙ first-tracks s i,
+      λ p. ap (λ (b : Book). playerAt (b .players) p .current .content) as-first ∙ first-contents s p,
+    )
+
 -- the layout of the newest version is what is written
 as-newest : (b : Book) → imageAs newest b ≡ image b
 unfolding imageAs image headerBytes assetBytes entryBytes playerBytes
@@ -530,6 +561,7 @@ demand2 = record {
   newestWritten = version-back;
   writesBack = writes-back;
   laidAgain = laid-again;
+  olderZero = older-zero;
   olderSame = older-same;
   acceptedLegal = accepted-legal;
   refusedKeeps = refused-book;

@@ -88,7 +88,7 @@ within-ended b u e l m w = record {
 }
 
 abbrev pub heldAs : Use → Open
-heldAs u = record { on = 1; entry = u .entry; begin = u .begin; until = u .until }
+heldAs u = record { on = 1; entry = u .entry; begin = u .begin; until = u .until; content = u .content }
 
 -- what is open, by the player's latest use
 pub held-cases : {P : Type 0} (T p : ℕ) (us : List Use) (o : Open) → o ≡ heldIn T p us →
@@ -300,7 +300,7 @@ module _ {T k n : ℕ} {lim : ℕ → Limits} {met : ℕ → Meters} {opn : ℕ 
     more-ge = rw more-eq (caps-ge _ _ _ _ _ _ _ (u .until) (own-sound .dates .last) (λ f. omega (arith, own-from f, own-span .last f))
         (λ f. omega arith) (own-sound .near))
 
-    more-near : v ≤ T + grantLength (lim (u .entry) .kind)
+    pub more-near : v ≤ T + grantLength (lim (u .entry) .kind)
     more-near = rw more-eq (caps-le _ _ _ _ _ _ _)
 
     more-last : flagged 8 (lim (u .entry)) ≡ true → v ≤ (lim (u .entry)) .end + 1
@@ -321,9 +321,16 @@ module _ {T k n : ℕ} {lim : ℕ → Limits} {met : ℕ → Meters} {opn : ℕ 
     }
 
     pub continued-held : Invariant T k n lim (upd (u .entry) (continued (u .until) v (lim (u .entry)) (met (u .entry))) met)
-        (upd p (record { on = 1; entry = u .entry; begin = u .begin; until = v }) opn) (revise p (goOn v) us)
+        (upd p (record { on = 1; entry = u .entry; begin = u .begin; until = v; content = u .content }) opn) (revise p (goOn v) us)
     continued-held =
-        revised (goOn v) (goOn-keeps v) (continued (u .until) v) (record { on = 1; entry = u .entry; begin = u .begin; until = v })
+        revised (goOn v) (goOn-keeps v) (continued (u .until) v) (record {
+          on = 1;
+          entry = u .entry;
+          begin = u .begin;
+          until = v;
+          content
+              = u .content;
+        })
         (rw (open-on T v u more-ge o))
         (figures-continued (λ _. T) us (lim (u .entry)) p u v s o (own-sound .ordered) more-ge)
         (record {
@@ -344,6 +351,11 @@ module _ {T k n : ℕ} {lim : ℕ → Limits} {met : ℕ → Meters} {opn : ℕ 
 pub length-pos : (kind : ℕ) → 0 < grantLength kind
 unfolding grantLength
 length-pos kind = omega arith
+
+-- and at most 300
+pub grant-most : (kind : ℕ) → grantLength kind ≤ 300
+unfolding grantLength
+grant-most kind = omega arith
 
 module _ (ask : Ask) (l : Limits) (m : Meters) (ok : grantable ask l m ≡ true) where
   abbrev T : ℕ
@@ -396,7 +408,7 @@ module _ (ask : Ask) (l : Limits) (m : Meters) (ok : grantable ask l m ≡ true)
   grantCaps = caps (flagged 8 l) (flagged 16 l) (flagged 32 l) (l .end + 1) (intervalFrom T m + l .interval)
       (T + (l .accumulated - m .seconds)) (T + grantLength (l .kind))
 
-  until-now : momentary (l .kind) ≡ true → grantUntil T l m ≡ T
+  pub until-now : momentary (l .kind) ≡ true → grantUntil T l m ≡ T
   unfolding grantUntil
   until-now e = rw e
 
@@ -439,7 +451,7 @@ module _ (ask : Ask) (l : Limits) (m : Meters) (ok : grantable ask l m ≡ true)
 module _ (ask : Ask) {k n : ℕ} {lim : ℕ → Limits} {met : ℕ → Meters} {opn : ℕ → Open} {us : List Use}
     (h : Invariant (ask .time) k n lim met opn us)
     (pk : ask .player < k) (nobody : (u : Use) → latest (ask .player) us ≡ some u → isOpen (ask .time) u ≡ false)
-    (i : ℕ) (ni : i < n) (ok : grantable ask (lim i) (met i) ≡ true) (lawful : Lawful (lim i)) where
+    (i : ℕ) (ni : i < n) (ok : grantable ask (lim i) (met i) ≡ true) (lawful : Lawful (lim i)) (asset : ℕ) where
   abbrev now : ℕ
   now = ask .time
 
@@ -447,10 +459,11 @@ module _ (ask : Ask) {k n : ℕ} {lim : ℕ → Limits} {met : ℕ → Meters} {
   who = ask .player
 
   abbrev pub newUse : Use
-  newUse = record { entry = i; player = who; begin = now; until = grantUntil now (lim i) (met i); stopped = false }
+  newUse = record { entry = i; player = who; begin = now; until = grantUntil now (lim i) (met i); stopped = false; content = asset }
 
   abbrev pub newOpen : Open
-  newOpen = cond (momentary (lim i .kind)) closed (record { on = 1; entry = i; begin = now; until = grantUntil now (lim i) (met i) })
+  newOpen = cond (momentary (lim i .kind)) closed
+      (record { on = 1; entry = i; begin = now; until = grantUntil now (lim i) (met i); content = asset })
 
   begins : Every (λ u. u .begin ≤ now) us
   begins = all-map (λ u w. w .begun) us (h .sound)

@@ -5,6 +5,7 @@ use Prim.Native.Nat.{ℕ, _+_, _≤_}
 use mathlib.Core.Bool.{true, false, not}
 use mathlib.Core.List.{List, [], _∷_}
 use mathlib.Core.Option.{some, Option·none-ne-some}
+use lib.ListN.{length}
 use lib.Dec.{eqb}
 use native.Mathlib.Omega.{arith}
 use borrow.Author.Tests.{eqb-true, eqb-false, eq-eqb, ne-eqb, ltb-false, le-ltb}
@@ -82,6 +83,21 @@ sum-revise w p f (v ∷ us) u e =
     on-test (eqb (v .player) p)
     (λ q. rw (← latest-here p v us u e q, q) (omega arith))
     (λ q. rw q (omega (arith, sum-revise w p f us u (latest-behind p v us u e q))))
+
+pub length-revise : (p : ℕ) (f : Use → Use) (us : List Use) → length (revise p f us) ≡ length us
+unfolding revise
+length-revise p f [] = refl
+length-revise p f (v ∷ us) = on-test (eqb (v .player) p) (λ q. rw q) (λ q. rw q (omega (arith, length-revise p f us)))
+
+pub sum-most : (w v : Use → ℕ) → ((u : Use) → w u ≤ v u) → (us : List Use) → sumOf w us ≤ sumOf v us
+unfolding sumOf
+sum-most w v h [] = omega arith
+sum-most w v h (u ∷ us) = omega (arith, h u, sum-most w v h us)
+
+pub sum-ones : (us : List Use) → sumOf (λ u. 1) us ≡ length us
+unfolding sumOf
+sum-ones [] = refl
+sum-ones (u ∷ us) = omega (arith, sum-ones us)
 
 -- ## What a revision leaves unchanged
 

@@ -13,6 +13,7 @@ pub use Rattle.numbers.proofs.Tests.{all-below}
 use Rattle.book.specs.declared.Limits.{Limits}
 use Rattle.book.specs.declared.Entry.{Entry}
 use Rattle.book.specs.declared.Open.{Open}
+use Rattle.book.specs.declared.Line.{Line}
 use Rattle.book.specs.declared.Book.{Book}
 use Rattle.book.specs.declared.Event.{Event}
 use Rattle.book.specs.declared.Request.{Request}
@@ -26,12 +27,13 @@ use Rattle.book.specs.Blank.{noLimits}
 use Rattle.model.specs.Book.{assetAt, limitsAt, assetsIn, entriesIn, latestTime, assetPosition, inBook, between, flagged, momentary}
 use Rattle.model.specs.Book.{limit, assetLegal, assetsLegal, rangesLegal, limitsLegal, entriesLegal, ruleBroken, Legal}
 use Rattle.model.specs.Book.{countFlag, timedFlag, startFlag, endFlag, intervalFlag, accumulatedFlag, mostTimes}
-use Rattle.model.specs.Book.{mostSeconds}
+use Rattle.model.specs.Book.{mostSeconds, trackLegal, switchLegal, playersLegal}
 use Rattle.model.specs.Record.{kindNumber}
 use Rattle.model.specs.Meters.{isOn, shut, settled}
-use Rattle.model.specs.Choice.{Catalog, catalogOf, usable, suits, asks, anyOf, Choice, nobody, chosen, choose}
+use Rattle.model.specs.Choice.{Catalog, catalogOf, usable, suits, asks, anyOf, Choice, nobody, chosen, choose, noneGrantable}
 use Rattle.model.specs.Step.{Done, unchanged, granted, doBegin, more, doContinue, doStop, done, openAt, takenStep, lastAt, stepBy}
 use Rattle.model.specs.Step.{step, arrive}
+use Rattle.model.specs.Report.{Arrival, good, admitted, receive}
 use Rattle.model.specs.Gate.{gate}
 use Rattle.model.proofs.Ledger.Facts.{on-test, and-left, and-right}
 use Rattle.model.proofs.Ledger.Invariant.{Lawful}
@@ -63,9 +65,9 @@ ranges-tests l e = row-passed _ (_ ∷ _ ∷ _ ∷ _ ∷ _ ∷ _ ∷ []) e
 pub limits-tests : (known : Bool) (l : Limits) → limitsLegal known l ≡ true → (between 1 65535 (l .object) ≡ true)
     × Pass (known ∷ between 1 5 (l .kind) ∷ leb (l .flags) 63 ∷ rangesLegal l
     ∷ (not (flagged startFlag l && flagged endFlag l) || leb (l .start) (l .end)) ∷
-    (not (momentary (l .kind)) || (not (flagged accumulatedFlag l) && eqb (l .timer) 0)) ∷ [])
+    (not (momentary (l .kind)) || (not (flagged accumulatedFlag l) && eqb (l .timer) 0)) ∷ trackLegal l ∷ [])
 unfolding limitsLegal
-limits-tests known l e = row-passed _ (_ ∷ _ ∷ _ ∷ _ ∷ _ ∷ _ ∷ []) e
+limits-tests known l e = row-passed _ (_ ∷ _ ∷ _ ∷ _ ∷ _ ∷ _ ∷ _ ∷ []) e
 
 limits-lawful : (known : Bool) (l : Limits) → limitsLegal known l ≡ true → Lawful l
 limits-lawful known l e =
@@ -88,7 +90,15 @@ broken-25 : (b : Book) → ruleBroken b ≡ 0 → entriesLegal b ≡ true
 unfolding ruleBroken
 broken-25 b e = not-false _ (passed (not (entriesLegal b)) 24 _ (passed (not (assetsLegal b)) 23 _ e .1) .0)
 
-asset-tests : (b : Book) → Legal b → (i : ℕ) → i < assetsIn b → (between 1 65535 (assetAt (b .assets) i .number) ≡ true)
+-- the switch is 0 or 1
+pub switch-most : (b : Book) → Legal b → b .switch ≤ 1
+unfolding ruleBroken switchLegal
+switch-most b g =
+    leb-true _ _ (and-left (leb (b .switch) 1) (playersLegal b)
+    (not-false _ (passed (not (switchLegal b && playersLegal b)) 25 _
+    (passed (not (entriesLegal b)) 24 _ (passed (not (assetsLegal b)) 23 _ (g .rules) .1) .1) .0)))
+
+pub asset-tests : (b : Book) → Legal b → (i : ℕ) → i < assetsIn b → (between 1 65535 (assetAt (b .assets) i .number) ≡ true)
     × Pass (eqb (assetPosition (b .assets) (assetsIn b) (assetAt (b .assets) i .number)) i ∷ leb (assetAt (b .assets) i .key) 1 ∷ [])
 unfolding assetsLegal assetLegal
 asset-tests b g i h =
@@ -119,6 +129,7 @@ legal-formed b g = record {
 -- ## What no event changes
 
 pub record Static (b c : Book) : Type 0 where
+  pub switch : c .switch ≡ b .switch
   pub assets : c .assets ≡ b .assets
   pub assetcount : c .assetcount ≡ b .assetcount
   pub entrycount : c .entrycount ≡ b .entrycount
@@ -127,10 +138,20 @@ pub record Static (b c : Book) : Type 0 where
   pub players : length (c .players) ≡ length (b .players)
 
 pub static-self : (b : Book) → Static b b
-static-self b = record { assets = refl; assetcount = refl; entrycount = refl; limits = λ i. refl; entries = refl; players = refl }
+static-self b = record {
+  switch = refl;
+  assets = refl;
+  assetcount = refl;
+  entrycount = refl;
+  limits = λ i. refl;
+  entries = refl;
+  players =
+      refl;
+}
 
 pub static-trans : {b c d : Book} → Static b c → Static c d → Static b d
 static-trans x y = record {
+  switch = y .switch ∙ x .switch;
   assets = y .assets ∙ x .assets;
   assetcount = y .assetcount ∙ x .assetcount;
   entrycount = y .entrycount ∙ x .entrycount;
@@ -171,8 +192,8 @@ begin-steady c es o t asset kind =
     on-test (not (anyOf (suits c es asset kind) (c .entryCount))) (λ u. rw (q, r, u) (steady es 12 _))
     (λ u. rw (q, r, u) (go _ (choose c es t asset kind)))))
   where
-    go : (o′ : Open) (x : Choice) → Steady es (granted (t .time) es o′ x)
-    go o′ nobody = steady es 13 o′
+    go : (o′ : Open) (x : Choice) → Steady es (granted (noneGrantable c es t asset kind) (t .time) asset es o′ x)
+    go o′ nobody = steady es _ o′
     go o′ (chosen i) = record { limits = amend-limits i _ es; size = amend-length i _ es }
 
 done-steady : (q : Request) (c : Catalog) (es : List Entry) (o : Open) (t : Ask) → Steady es (done q c es o t)
@@ -186,26 +207,44 @@ done-steady Stop c es o t =
     on-test (not (isOn o)) (λ q. rw q (steady es 14 _)) (λ q. rw q
     (record { limits = amend-limits (o .entry) _ es; size = amend-length (o .entry) _ es }))
 
+pub taken-static : (b : Book) (e : Event) → Static b (takenStep b e .book)
+unfolding takenStep
+taken-static b e =
+    let d : Steady _ _ = done-steady (e .request) (catalogOf b) (settled (e .time) (b .players) (b .entries))
+    (openAt (map (shut (e .time)) (b .players)) (e .player)) (asks b e) in
+    record {
+      switch = refl;
+      assets = refl;
+      assetcount = refl;
+      entrycount = refl;
+      limits = λ i. d .limits i ∙ settled-limits (e .time) (b .players) (b .entries) i;
+      entries = d .size ∙ settled-size (e .time) (b .players) (b .entries);
+      players = length-set (map (shut (e .time)) (b .players)) (e .player) _ ∙ length-map (b .players) (shut (e .time));
+    }
+
 pub step-static : (b : Book) (e : Event) → Static b (step b e .book)
-unfolding step stepBy takenStep
+unfolding step stepBy
 step-static b e = go (gate (b .time) (lastAt (b .players) (e .player)) e)
   where
     go : (g : Gate) → Static b (stepBy g b e .book)
     go (Refuse code) = static-self b
     go Resend = static-self b
-    go Take =
-        let d : Steady _ _ = done-steady (e .request) (catalogOf b) (settled (e .time) (b .players) (b .entries))
-        (openAt (map (shut (e .time)) (b .players)) (e .player)) (asks e) in
-        record {
-          assets = refl;
-          assetcount = refl;
-          entrycount = refl;
-          limits = λ i. d .limits i ∙ settled-limits (e .time) (b .players) (b .entries) i;
-          entries = d .size ∙ settled-size (e .time) (b .players) (b .entries);
-          players = length-set (map (shut (e .time)) (b .players)) (e .player) _ ∙ length-map (b .players) (shut (e .time));
-        }
+    go Take = taken-static b e
 
 pub arrive-static : (b : Book) (d : Decoded) → Static b (arrive b d .book)
 unfolding arrive
 arrive-static b (Invalid code) = static-self b
 arrive-static b (Valid e) = step-static b e
+
+-- a list is good by what no event changes
+pub good-static : {b c : Book} → Static b c → (ls : List Line) → good c ls ≡ good b ls
+unfolding good assetsIn
+good-static s ls = rw (s .assets, s .assetcount)
+
+pub admitted-static : {b c : Book} → Static b c → (x : Arrival) → admitted c x ≡ admitted b x
+unfolding admitted
+admitted-static s x = rw (good-static s (x .lines))
+
+pub receive-static : (b : Book) (x : Arrival) → Static b (receive b x .book)
+unfolding receive
+receive-static b x = arrive-static b (admitted b x)

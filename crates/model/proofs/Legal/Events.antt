@@ -1,7 +1,7 @@
 -- From lists of entries and players to functions of a position: settling all players, and then the event itself, preserve the rules.
 use mathlib.Core.Path.{_≡_, refl, sym, ap, _∙_, subst, fun-ext}
 use Prim.Native.Nat.{ℕ, zero, suc, _+_, _≤_, _<_, zero-le}
-use mathlib.Core.Bool.{true, false, not, _&&_, _||_, cond}
+use mathlib.Core.Bool.{Bool, true, false, not, _&&_, _||_, cond}
 use mathlib.Core.List.{List, [], _∷_, map}
 use lib.ListN.{length, take}
 use lib.Seq.{take-all}
@@ -22,17 +22,17 @@ use Rattle.book.specs.declared.Kind.the-variants.{Play, Display, Execute, Print
 use Rattle.book.specs.declared.Request.{Request}
 use Rattle.book.specs.declared.Request.the-variants.{Begin, Continue, Stop}
 use Rattle.book.specs.Blank.{closed}
-use Rattle.model.specs.Book.{limitsAt, metersAt, between, momentary, takenCode}
+use Rattle.model.specs.Book.{limitsAt, metersAt, between, momentary, takenCode, contentLegal}
 use Rattle.model.specs.Record.{kindNumber}
 use Rattle.model.specs.Meters.{amend, begun, continued, ended, isOn, expired, shut, released, settled}
 use Rattle.model.specs.Choice.{Catalog, suitable, usable, parentOf, own, grantable, Choice, nobody, chosen, anyOf, suits, allowed}
-use Rattle.model.specs.Choice.{goesBefore, choose, leastUntil, grantUntil}
+use Rattle.model.specs.Choice.{goesBefore, choose, leastUntil, grantUntil, failsForSwitch, noneGrantable}
 use Rattle.model.specs.Step.{Done, unchanged, granted, doBegin, more, doContinue, doStop, done, openAt}
 use Rattle.model.proofs.Ledger.Facts.{on-test, on-same, clash, and-left, and-right, cond-on, cond-off, upd, upd-same, upd-other}
 use Rattle.model.proofs.Legal.Facts.{upd-own}
 use Rattle.model.proofs.Ledger.Invariant.{shutO}
 use Rattle.model.proofs.Ledger.Concrete.{amend-length, amend-limits, amend-meters, shut-open, Sure, choose-sound}
-use Rattle.model.proofs.Legal.Rules.{MeterOk, UseOk, Sound, Live}
+use Rattle.model.proofs.Legal.Rules.{MeterOk, UseOk, Sound, Live, Named}
 use Rattle.model.proofs.Legal.Meters.{ended-sound, continued-sound, more-near, Grant, grant-of, momentary-sound, begun-sound}
 use Rattle.model.proofs.Legal.Meters.{begun-live, grant-near}
 
@@ -213,27 +213,30 @@ pub record AnswerOk (T n : ℕ) (a : Answer) : Type 0 where
   pub refuses : eqb (a .code) 0 ≡ false → (a .entry ≡ 255) × (a .until ≡ 0)
   pub near : a .until ≤ T + 300
 
-pub record DoneOk (T n p : ℕ) (lim : ℕ → Limits) (opn : ℕ → Open) (d : Done) : Type 0 where
+pub record DoneOk (has : ℕ → Bool) (T n p : ℕ) (lim : ℕ → Limits) (opn : ℕ → Open) (d : Done) : Type 0 where
   pub answer : AnswerOk T n (d .answer)
   pub part : Effect T n lim (d .entries) (upd p (d .current) opn)
   pub live : isOn (d .current) ≡ true → T < d .current .until
+  pub named : Named has lim (d .current)
 
 module _ (ask : Ask) {n : ℕ} (room : n ≤ 64) (es : List Entry) {opn : ℕ → Open} (slots : length es ≡ 64)
-    (h : Sound (ask .time) n (limitsAt es) (metersAt es) opn) (running : Live (ask .time) opn) (pl : ask .player < 16) where
+    (h : Sound (ask .time) n (limitsAt es) (metersAt es) opn) (running : Live (ask .time) opn) (pl : ask .player < 16)
+    (has : ℕ → Bool) (named : (p : ℕ) → Named has (limitsAt es) (opn p)) where
   abbrev T : ℕ
   T = ask .time
 
   abbrev p : ℕ
   p = ask .player
 
-  unchanged-ok : (code : ℕ) → takenCode code ≡ true → eqb code 0 ≡ false → DoneOk T n p (limitsAt es) opn (unchanged code es (opn p))
+  unchanged-ok : (code : ℕ) → takenCode code ≡ true → eqb code 0 ≡ false → DoneOk has T n p (limitsAt es) opn (unchanged code es (opn p))
   unchanged-ok code e f = record {
     answer = record { code = e; grants = λ q. clash q f; refuses = λ q. (refl, refl); near = omega arith };
     part = record { slots = slots; limits = λ i. refl; sound = subst (Sound T n (limitsAt es) (metersAt es)) (sym (upd-own p opn)) h };
     live = running p;
+    named = named p;
   }
 
-  stop-ok : DoneOk T n p (limitsAt es) opn (doStop es (opn p) T)
+  stop-ok : DoneOk has T n p (limitsAt es) opn (doStop es (opn p) T)
   unfolding doStop takenCode
   stop-ok =
       on-test (isOn (opn p))
@@ -245,14 +248,15 @@ module _ (ask : Ask) {n : ℕ} (room : n ≤ 64) (es : List Entry) {opn : ℕ �
             (use₁ on .entry) slots (λ i. refl)
             (ended-sound h p pl on T (omega (arith, use₁ on .begun)));
         live = λ q. clash q refl;
+        named = λ q. clash q refl;
       }))
       (λ on. rw on (unchanged-ok 14 refl refl))
     where
       use₁ : isOn (opn p) ≡ true → UseOk T n (limitsAt es (opn p .entry)) (metersAt es (opn p .entry)) (opn p)
       use₁ on = h .opens p .runs on
 
-  continue-ok : DoneOk T n p (limitsAt es) opn (doContinue es (opn p) T)
-  unfolding doContinue takenCode
+  continue-ok : DoneOk has T n p (limitsAt es) opn (doContinue es (opn p) T)
+  unfolding doContinue takenCode contentLegal
   continue-ok =
       on-test (isOn (opn p))
       (λ on. rw on
@@ -269,21 +273,22 @@ module _ (ask : Ask) {n : ℕ} (room : n ≤ 64) (es : List Entry) {opn : ℕ �
         };
         part =
             amend-part T n room (limitsAt es) es (upd p (record
-            { on = 1; entry = opn p .entry; begin = opn p .begin; until = more es (opn p) T }) opn) (opn p .entry)
+            { on = 1; entry = opn p .entry; begin = opn p .begin; until = more es (opn p) T; content = opn p .content }) opn) (opn p .entry)
             (continued (opn p .until) (more es (opn p) T)) (use₁ on .entry) slots (λ i. refl)
             (continued-sound h p pl on (running p on) (leb-false _ _ q));
         live = λ z. omega (arith, running p on, leb-false (more es (opn p) T) (opn p .until) q);
+        named = λ z. named p on;
       }))))
       (λ on. rw on (unchanged-ok 14 refl refl))
     where
       use₁ : isOn (opn p) ≡ true → UseOk T n (limitsAt es (opn p .entry)) (metersAt es (opn p .entry)) (opn p)
       use₁ on = h .opens p .runs on
 
-  chosen-ok : (kind : Kind) (i : ℕ) → isOn (opn p) ≡ false → i < n → eqb (limitsAt es i .kind) (kindNumber kind) ≡ true → grantable
-      ask (limitsAt es i) (metersAt es i) ≡ true →
-      DoneOk T n p (limitsAt es) opn (granted T es (opn p) (chosen i))
-  unfolding grantUntil takenCode
-  chosen-ok kind i off k e g =
+  chosen-ok : (kind : Kind) (asset none i : ℕ) → has asset ≡ true → isOn (opn p) ≡ false → i < n
+      → eqb (limitsAt es i .kind) (kindNumber kind) ≡ true → grantable ask (limitsAt es i) (metersAt es i) ≡ true →
+      DoneOk has T n p (limitsAt es) opn (granted none T asset es (opn p) (chosen i))
+  unfolding grantUntil takenCode contentLegal
+  chosen-ok kind asset none i known off k e g =
       let a : AnswerOk T n (record { code = 0; entry = i; until = grantUntil T (limitsAt es i) (metersAt es i) }) =
       record { code = refl; grants = λ q. k; refuses = λ q. clash refl q; near = grant-near T (limitsAt es i) (metersAt es i) } in
       let grant : Grant T (limitsAt es i) (metersAt es i) = grant-of ask (limitsAt es i) (metersAt es i) g in
@@ -293,20 +298,22 @@ module _ (ask : Ask) {n : ℕ} (room : n ≤ 64) (es : List Entry) {opn : ℕ �
         part = rw q (amend-part T n room (limitsAt es) es (upd p (opn p) opn) i (begun T T) k slots (λ j. refl)
             (momentary-sound h p pl off i k grant));
         live = rw q (running p);
+        named = rw q (named p);
       })
       (λ q. record {
         answer = a;
         part = rw q
             (amend-part T n room (limitsAt es) es (upd p (record
-            { on = 1; entry = i; begin = T; until = leastUntil T T (limitsAt es i) (metersAt es i) }) opn) i
+            { on = 1; entry = i; begin = T; until = leastUntil T T (limitsAt es i) (metersAt es i); content = asset }) opn) i
             (begun T (leastUntil T T (limitsAt es i) (metersAt es i))) k slots (λ j. refl)
-            (begun-sound h p pl off i k grant (kind-runs kind (limitsAt es i .kind) e q)));
+            (begun-sound h p pl off i k grant (kind-runs kind (limitsAt es i .kind) e q) asset));
         live = rw q (λ z. begun-live h p pl off i k grant);
+        named = rw q (λ z. rw known);
       })
 
-  module _ (c : Catalog) (counted : c .entryCount ≡ n) where
-    begin-ok : (kind : Kind) (asset : ℕ) → DoneOk T n p (limitsAt es) opn (doBegin c es (opn p) ask asset (kindNumber kind))
-    unfolding doBegin choose suitable takenCode
+  module _ (c : Catalog) (counted : c .entryCount ≡ n) (known : (asset : ℕ) → usable c asset ≡ true → has asset ≡ true) where
+    begin-ok : (kind : Kind) (asset : ℕ) → DoneOk has T n p (limitsAt es) opn (doBegin c es (opn p) ask asset (kindNumber kind))
+    unfolding doBegin choose suitable takenCode noneGrantable
     begin-ok kind asset =
         on-test (isOn (opn p))
         (λ on. rw on (unchanged-ok 11 refl refl))
@@ -314,24 +321,28 @@ module _ (ask : Ask) {n : ℕ} (room : n ≤ 64) (es : List Entry) {opn : ℕ �
         (on-test (usable c asset)
         (λ q. rw q
         (on-test (anyOf (suits c es asset (kindNumber kind)) (c .entryCount))
-        (λ r. rw r (go on (choose c es ask asset (kindNumber kind)) refl))
+        (λ r. rw r (go (known asset q) on (choose c es ask asset (kindNumber kind)) refl))
         (λ r. rw r (unchanged-ok 12 refl refl))))
         (λ q. rw q (unchanged-ok 10 refl refl))))
       where
-        go : isOn (opn p) ≡ false → (x : Choice) → choose c es ask asset (kindNumber kind) ≡ x → DoneOk T n p (limitsAt es) opn
-            (granted T es (opn p) x)
-        go off nobody e = unchanged-ok 13 refl refl
-        go off (chosen i) e =
+        go : has asset ≡ true → isOn (opn p) ≡ false → (x : Choice) → choose c es ask asset (kindNumber kind) ≡ x
+            → DoneOk has T n p (limitsAt es) opn (granted (noneGrantable c es ask asset (kindNumber kind)) T asset es (opn p) x)
+        go y off nobody e =
+            on-test (anyOf (failsForSwitch c es ask asset (kindNumber kind)) (c .entryCount))
+            (λ z. rw z (unchanged-ok 43 refl refl))
+            (λ z. rw z (unchanged-ok 13 refl refl))
+        go y off (chosen i) e =
             let s : Sure (allowed c es ask asset (kindNumber kind)) (c .entryCount) i = choose-sound _ (goesBefore es asset)
             (c .entryCount) i e in
             let a : suits c es asset (kindNumber kind) i ≡ true = and-left _ (grantable ask (limitsAt es i) (metersAt es i))
             (s .passes) in
             let g : grantable ask (limitsAt es i) (metersAt es i) ≡ true = and-right (suits c es asset (kindNumber kind) i) _
             (s .passes) in
-            chosen-ok kind i off (omega (arith, s .below)) (and-left (eqb (limitsAt es i .kind) (kindNumber kind))
+            chosen-ok kind asset (noneGrantable c es ask asset (kindNumber kind)) i y off (omega (arith, s .below)) (and-left (eqb
+            (limitsAt es i .kind) (kindNumber kind))
             (own asset (limitsAt es i) || (not (eqb (parentOf c asset) 0) && eqb (limitsAt es i .asset) (parentOf c asset))) a) g
 
-    pub done-ok : (r : Request) → DoneOk T n p (limitsAt es) opn (done r c es (opn p) ask)
+    pub done-ok : (r : Request) → DoneOk has T n p (limitsAt es) opn (done r c es (opn p) ask)
     unfolding done
     done-ok (Begin kind asset) = begin-ok kind asset
     done-ok Continue = continue-ok

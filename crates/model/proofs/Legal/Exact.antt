@@ -1,9 +1,9 @@
--- On a legal book no subtraction of the rules is cut off, and no new until is below the old one.
+-- On a legal book no subtraction of the rules is cut off, no new until is below the old one, and no sum of the report is cut off.
 use mathlib.Core.Path.{_≡_, refl, sym, ap, _∙_, subst}
 use Prim.Native.Nat.{ℕ, suc, _+_, _≤_, _<_}
 use mathlib.Core.Bool.{true}
 use mathlib.Core.List.{List, [], _∷_, _++_, map}
-use lib.ListN.{take}
+use lib.ListN.{length, take, length-append}
 use lib.Seq.{take-suc, take-all}
 use lib.Dec.{leb}
 use native.Mathlib.Omega.{arith}
@@ -11,6 +11,7 @@ use Rattle.numbers.proofs.TableLaws.{below-or-not}
 use Rattle.book.specs.declared.Entry.{Entry}
 use Rattle.book.specs.declared.Open.{Open}
 use Rattle.book.specs.declared.Player.{Player}
+use Rattle.book.specs.declared.Line.{Line}
 use Rattle.book.specs.declared.Book.{Book}
 use Rattle.book.specs.declared.Event.{Event}
 use Rattle.book.specs.Blank.{noPlayer}
@@ -18,11 +19,14 @@ use Rattle.model.specs.Book.{limitsAt, metersAt, playerAt, entriesIn, pl
 use Rattle.model.specs.Meters.{isOn, expired, shut, released, settled}
 use Rattle.model.specs.Choice.{asks, catalogOf, grantable, chosen, suits, allowed, goesBefore, choose}
 use Rattle.model.specs.Step.{openAt}
-use Rattle.model.specs.Exact.{ExactEnd, ExactBegin, ExactContinue, Taken, atTurn, atRequest, asking, Exact}
+use Rattle.model.specs.Report.{lineAt, good, Ended, recordedAll, endings}
+use Rattle.model.specs.Exact.{ExactEnd, ExactBegin, ExactContinue, ExactLine, Taken, atTurn, atRequest, asking, Exact}
 use Rattle.model.proofs.Ledger.Facts.{clash, and-left, and-right}
 use Rattle.model.proofs.Ledger.Invariant.{grant-seconds, until-from}
 use Rattle.model.proofs.Ledger.Concrete.{choose-sound}
 use Rattle.model.proofs.Ledger.WellFormed.{all-below}
+use Rattle.model.proofs.Ledger.Steps.{gate-take}
+use Rattle.model.proofs.Demand3.Lines.{good-list, Brief, brief-before, brief-behind, endings-brief, endings-few, all-most}
 use Rattle.model.proofs.Legal.Rules.{Sound, UseOk, playerPasses, player-live, player-open, no-player, stages-from}
 use Rattle.model.proofs.Legal.Meters.{more-ge, own-timed, own-spent}
 use Rattle.model.proofs.Legal.Events.{stage, stage-own, settled-live}
@@ -91,15 +95,15 @@ module _ (b : Book) (e : Event) (h : Legal b) where
     abbrev es : List Entry
     es = atRequest b e
 
-    begin-exact : (asset kind i : ℕ) → choose (catalogOf b) es (asks e) asset kind ≡ chosen i → ExactBegin T es i
+    begin-exact : (asset kind i : ℕ) → choose (catalogOf b) es (asks b e) asset kind ≡ chosen i → ExactBegin T es i
     unfolding choose
     begin-exact asset kind i x =
-        let s = choose-sound (allowed (catalogOf b) es (asks e) asset kind) (goesBefore es asset) (catalogOf b .entryCount) i x in
-        let ok : grantable (asks e) (limitsAt es i) (metersAt es i) ≡ true = and-right (suits (catalogOf b) es asset kind i) _
+        let s = choose-sound (allowed (catalogOf b) es (asks b e) asset kind) (goesBefore es asset) (catalogOf b .entryCount) i x in
+        let ok : grantable (asks b e) (limitsAt es i) (metersAt es i) ≡ true = and-right (suits (catalogOf b) es asset kind i) _
         (s .passes) in
         record {
-          unused = λ f. omega (arith, grant-seconds (asks e) (limitsAt es i) (metersAt es i) ok f);
-          until = until-from (asks e) (limitsAt es i) (metersAt es i) ok;
+          unused = λ f. omega (arith, grant-seconds (asks b e) (limitsAt es i) (metersAt es i) ok f);
+          until = until-from (asks b e) (limitsAt es i) (metersAt es i) ok;
         }
 
     module _ (on : isOn (asking b e) ≡ true) where
@@ -121,6 +125,22 @@ module _ (b : Book) (e : Event) (h : Legal b) where
       stop-exact : ExactEnd T es (asking b e)
       stop-exact = end-exact es (openAt (map (shut T) ps)) sound (e .player) T (t .player) on (own .begun) (omega (arith, live))
 
+-- ## The report
+
+sums-exact : (b : Book) (e : Event) (ls : List Line) (done left : List Ended) (x : Ended) (k : ℕ) → Legal b → Taken b e
+    → good b ls ≡ true → endings b e ≡ done ++ x ∷ left → ExactLine (lineAt (recordedAll b ls done) k) x
+sums-exact b e ls done left x k h g list all-are =
+    let early = gate-take _ _ e g .early in
+    let short : Brief (e .time) (done ++ x ∷ left) = rw (← all-are) (endings-brief b e) in
+    let few : length (done ++ x ∷ left) ≤ 17 = rw (← all-are) (endings-few b e (h .playerSlots)) in
+    let room : length done + suc (length left) ≤ 17 = rw length-append at few in
+    let lines = good-list b ls list in
+    let most = all-most b (e .time) early done ls k (brief-before (e .time) done (x ∷ left) short) in
+    record {
+      times = omega (arith, most .0, lines .times k, room);
+      seconds = omega (arith, most .1, lines .seconds k, room, brief-behind (e .time) done (x ∷ left) short .0, early);
+    }
+
 pub exact : Exact
 unfolding playersLegal
 exact = record {
@@ -131,4 +151,5 @@ exact = record {
   continue = continue-exact;
   stop = stop-exact;
   lasts = λ b p h k on. ran-on b p (all-below _ 16 h p k) on;
+  sums = sums-exact;
 }

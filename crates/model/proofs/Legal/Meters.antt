@@ -16,7 +16,7 @@ use Rattle.model.specs.Meters.{where-flagged, isStarted, intervalFrom, b
 use Rattle.model.specs.Choice.{grantable, leastUntil, grantUntil, moreUntil}
 use Rattle.model.proofs.Ledger.Facts.{on-test, on-same, clash, cond-on, cond-off, flag-le, upd, upd-same, upd-other}
 use Rattle.model.proofs.Legal.Facts.{sum-upd}
-use Rattle.model.proofs.Ledger.Invariant.{length-pos, caps, caps-le, caps-first, caps-second, caps-third, caps-ge}
+use Rattle.model.proofs.Ledger.Invariant.{length-pos, grant-most, caps, caps-le, caps-first, caps-second, caps-third, caps-ge}
 use Rattle.model.proofs.Ledger.Invariant.{grant-count, grant-timed, grant-start, grant-end, grant-from, grant-seconds}
 use Rattle.model.proofs.Legal.Rules.{MeterOk, UseOk, OpenOk, useIn, secondsIn, usesOf, secondsOf, Sound}
 
@@ -206,12 +206,6 @@ module _ {T n : ℕ} {lim : ℕ → Limits} {met : ℕ → Meters} {opn : ℕ �
 
 -- ## Until
 
--- the most that a grant gives
-
-pub grant-most : (k : ℕ) → grantLength k ≤ 300
-unfolding grantLength
-grant-most k = omega arith
-
 module _ (t from : ℕ) (l : Limits) (m : Meters) where
   least-near : leastUntil t from l m ≤ t + grantLength (l .kind)
   unfolding leastUntil caps
@@ -280,10 +274,17 @@ module _ {T n : ℕ} {lim : ℕ → Limits} {met : ℕ → Meters} {opn : ℕ �
   more-unused f = omega (arith, least-unused T (oₚ .until) lₚ mₚ f, h .meters (oₚ .entry) (useₚ .entry) .seconds .within f)
 
   pub continued-sound : oₚ .until < v → Sound T n lim (upd (oₚ .entry) (continued (oₚ .until) v lₚ mₚ) met)
-      (upd p (record { on = 1; entry = oₚ .entry; begin = oₚ .begin; until = v }) opn)
+      (upd p (record { on = 1; entry = oₚ .entry; begin = oₚ .begin; until = v; content = oₚ .content }) opn)
   unfolding continued moreUntil
   continued-sound g =
-      changed h p (oₚ .entry) (continued (oₚ .until) v lₚ mₚ) (record { on = 1; entry = oₚ .entry; begin = oₚ .begin; until = v })
+      changed h p (oₚ .entry) (continued (oₚ .until) v lₚ mₚ) (record {
+        on = 1;
+        entry = oₚ .entry;
+        begin = oₚ .begin;
+        until = v;
+        content =
+            oₚ .content;
+      })
       (record {
         player = pl;
         entry = useₚ .entry;
@@ -408,10 +409,11 @@ module _ {T n : ℕ} {lim : ℕ → Limits} {met : ℕ → Meters} {opn : ℕ �
     abbrev w : ℕ
     w = leastUntil T T lⱼ mⱼ
 
-    pub begun-sound : Sound T n lim (upd j (begun T w lⱼ mⱼ) met) (upd p (record { on = 1; entry = j; begin = T; until = w }) opn)
+    pub begun-sound : (asset : ℕ) → Sound T n lim (upd j (begun T w lⱼ mⱼ) met)
+        (upd p (record { on = 1; entry = j; begin = T; until = w; content = asset }) opn)
     unfolding begun
-    begun-sound =
-        changed h p j (begun T w lⱼ mⱼ) (record { on = 1; entry = j; begin = T; until = w })
+    begun-sound asset =
+        changed h p j (begun T w lⱼ mⱼ) (record { on = 1; entry = j; begin = T; until = w; content = asset })
         (record {
           player = pl;
           entry = jn;

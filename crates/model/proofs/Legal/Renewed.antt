@@ -15,7 +15,7 @@ use Rattle.book.specs.declared.Player.{Player}
 use Rattle.book.specs.declared.Book.{Book}
 use Rattle.book.specs.Blank.{noMeters, noEntry, noPlayer}
 use Rattle.model.specs.Book.{limitsAt, metersAt, playerAt, assetsIn, entriesIn, inBook, assetLegal, assetsLegal, limitsLegal}
-use Rattle.model.specs.Book.{entriesLegal, playerBlank, playerLegal, opens, openUses, openSeconds, Legal, Fresh}
+use Rattle.model.specs.Book.{entriesLegal, switchLegal, playerBlank, playerLegal, opens, openUses, openSeconds, Legal, Fresh}
 use Rattle.model.specs.Image.{newest, entryWidths, entryValues, playerWidths, playerValues, Typed}
 use Rattle.model.specs.Renewed.{unused, renewed, Renewed}
 use Rattle.model.proofs.Ledger.WellFormed.{all-below}
@@ -72,11 +72,12 @@ module _ (b : Book) where
   blank-passes = refl
 
   new-stages : Legal b → Stages new
-  unfolding renewed assetsLegal assetLegal assetsIn entriesLegal limitsLegal inBook entriesIn
+  unfolding renewed assetsLegal assetLegal assetsIn entriesLegal limitsLegal inBook entriesIn switchLegal
   new-stages h =
       let s = stages-from b (h .rules) in
       record {
         assets = s .assets;
+        switch = s .switch;
         entries = all-of (λ i. lawfulIn new (limitsAt (new .entries) i)) (entriesIn new)
             (λ i k. subst (λ (l : Limits). lawfulIn b l ≡ true) (sym (limits-at i))
             (all-below (λ j. lawfulIn b (limitsAt (b .entries) j)) (entriesIn b) (s .entries) i k));
@@ -123,6 +124,7 @@ module _ (b : Book) where
       let ps : new .players ≡ b .players = ext-getD noPlayer _ _ (sym (h .playerSlots)) (λ p k. player-at p ∙ sym (f .players p)) in
       λ k. record {
         time = sym (f .time) k;
+        switch = b .switch;
         assetcount = b .assetcount;
         entrycount = b .entrycount;
         assets = b .assets;

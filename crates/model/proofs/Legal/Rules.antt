@@ -47,13 +47,15 @@ use Rattle.model.specs.Book.{
   entriesLegal,
   ruleBroken,
   Legal,
-  openEntry,
   limitsLegal,
   inBook,
+  contentLegal,
+  switchLegal,
 }
+pub use Rattle.model.specs.Book.{playerPasses}
 use Rattle.model.specs.Meters.{isOn}
 use Rattle.model.specs.Step.{openAt}
-use Rattle.model.proofs.Ledger.Facts.{on-test, clash, and-both, cond-on, cond-off}
+use Rattle.model.proofs.Ledger.Facts.{on-test, clash, and-left, and-right, and-both, cond-on, cond-off}
 use Rattle.model.proofs.Ledger.WellFormed.{all-below}
 use Rattle.model.proofs.Legal.Facts.{all-of}
 
@@ -119,21 +121,22 @@ abbrev pub lawfulIn : Book → Limits → Bool
 lawfulIn b l = limitsLegal (inBook b (l .asset)) l
 
 abbrev usePasses : Book → Open → Bool
-usePasses b o = useLegal (b .time) (entriesIn b) (getD (b .entries) (o .entry) noEntry) o
+usePasses b o = useLegal (b .time) (entriesIn b) (inBook b (o .content)) (getD (b .entries) (o .entry) noEntry) o
 
 abbrev pub openPasses : Book → Open → Bool
-openPasses b o = openLegal (b .time) (entriesIn b) (getD (b .entries) (o .entry) noEntry) o
+openPasses b o = openLegal (b .time) (entriesIn b) (inBook b (o .content)) (getD (b .entries) (o .entry) noEntry) o
 
-abbrev pub playerPasses : Book → Player → Bool
-playerPasses b x = playerLegal (b .time) (entriesIn b) (openEntry (b .entries) x) x
+-- the content of an open use passes; `has` says which assets there are
+abbrev pub Named : (ℕ → Bool) → (ℕ → Limits) → Open → Type 0
+Named has lim o = isOn o ≡ true → contentLegal (has (o .content)) (lim (o .entry)) o ≡ true
 
 abbrev pub metersPass : Book → ℕ → Bool
 metersPass b i = entryMetersLegal (b .time) (b .players) i (getD (b .entries) i noEntry)
 
 -- ## Open uses
 
-pub open-closed : (o : Open) → o .on ≡ 0 → o .entry ≡ 0 → o .begin ≡ 0 → o .until ≡ 0 → o ≡ closed
-open-closed o a b c d = λ k. record { on = a k; entry = b k; begin = c k; until = d k }
+pub open-closed : (o : Open) → o .on ≡ 0 → o .entry ≡ 0 → o .begin ≡ 0 → o .until ≡ 0 → o .content ≡ 0 → o ≡ closed
+open-closed o a b c d e = λ k. record { on = a k; entry = b k; begin = c k; until = d k; content = e k }
 
 zero-not-one : (n : ℕ) → n ≡ 0 → eqb n 1 ≡ true → ⊥
 zero-not-one n e h = let j : n ≡ 1 = eqb-true n 1 h in omega arith
@@ -147,10 +150,10 @@ module _ (b : Book) (o : Open) where
 
   use-tests : usePasses b o ≡ true → (leb (o .begin) (b .time) ≡ true) × Pass
       (ltb (b .time) (o .until) ∷ leb (o .until) (b .time + grantLength (l .kind)) ∷ ltb (o .entry) (entriesIn b) ∷ between 1 3
-      (l .kind) ∷ insideDates o l ∷ insideInterval o l m ∷ [])
+      (l .kind) ∷ insideDates o l ∷ insideInterval o l m ∷ contentLegal (inBook b (o .content)) l o ∷ [])
   unfolding useLegal
   use-tests e = row-passed _ (ltb (b .time) (o .until) ∷ leb (o .until) (b .time + grantLength (l .kind)) ∷ ltb (o .entry) (entriesIn b)
-      ∷ between 1 3 (l .kind) ∷ insideDates o l ∷ insideInterval o l m ∷ []) e
+      ∷ between 1 3 (l .kind) ∷ insideDates o l ∷ insideInterval o l m ∷ contentLegal (inBook b (o .content)) l o ∷ []) e
 
   date-tests : insideDates o l ≡ true → ((not (flagged 4 l) || leb (l .start) (o .begin)) ≡ true) × Pass
       ((not (flagged 8 l) || leb (o .until) (l .end + 1)) ∷ [])
@@ -182,10 +185,13 @@ module _ (b : Book) (o : Open) where
   use-live : usePasses b o ≡ true → b .time < o .until
   use-live e = ltb-true _ _ (use-tests e .1 .0)
 
-  use-to : UseOk (b .time) (entriesIn b) l m o → b .time < o .until → usePasses b o ≡ true
+  use-named : usePasses b o ≡ true → contentLegal (inBook b (o .content)) l o ≡ true
+  use-named e = use-tests e .1 .1 .1 .1 .1 .1 .1 .0
+
+  use-to : UseOk (b .time) (entriesIn b) l m o → b .time < o .until → contentLegal (inBook b (o .content)) l o ≡ true → usePasses b o ≡ true
   unfolding useLegal insideDates insideInterval
-  use-to u h =
-      and-both (and-both (and-both (and-both (and-both (and-both
+  use-to u h c =
+      and-both (and-both (and-both (and-both (and-both (and-both (and-both
       (le-leb _ _ (u .begun))
       (lt-ltb _ _ h))
       (le-leb _ _ (u .near)))
@@ -195,7 +201,8 @@ module _ (b : Book) (o : Open) where
       (implied (flagged 4 l) (leb (l .start) (o .begin)) (λ f. le-leb _ _ (u .from f)))
       (implied (flagged 8 l) (leb (o .until) (l .end + 1)) (λ f. le-leb _ _ (u .last f)))))
       (implied (flagged 16 l) (eqb (m .started) 1 && leb (m .first) (o .begin) && leb (o .until) (m .first + l .interval))
-      (λ f. and-both (and-both (eq-eqb _ _ (u .started f)) (le-leb _ _ (u .since f))) (le-leb _ _ (u .span f))))
+      (λ f. and-both (and-both (eq-eqb _ _ (u .started f)) (le-leb _ _ (u .since f))) (le-leb _ _ (u .span f)))))
+      c
 
   open-tests : eqb (o .on) 0 ≡ false → openPasses b o ≡ true → (eqb (o .on) 1 ≡ true) × Pass (usePasses b o ∷ [])
   unfolding openLegal
@@ -204,8 +211,10 @@ module _ (b : Book) (o : Open) where
   closed-tests : eqb (o .on) 0 ≡ true → openPasses b o ≡ true → o ≡ closed
   unfolding openLegal
   closed-tests q e =
-      let h = row-passed (eqb (o .entry) 0) (eqb (o .begin) 0 ∷ eqb (o .until) 0 ∷ []) (sym (cond-on (eqb (o .on) 0) _ _ q) ∙ e) in
+      let h = row-passed (eqb (o .entry) 0) (eqb (o .begin) 0 ∷ eqb (o .until) 0 ∷ eqb (o .content) 0 ∷ [])
+      (sym (cond-on (eqb (o .on) 0) _ _ q) ∙ e) in
       open-closed o (eqb-true _ _ q) (eqb-true _ _ (h .0)) (eqb-true _ _ (h .1 .0)) (eqb-true _ _ (h .1 .1 .0))
+      (eqb-true _ _ (h .1 .1 .1 .0))
 
   on-use : openPasses b o ≡ true → isOn o ≡ true → usePasses b o ≡ true
   on-use e q =
@@ -222,12 +231,15 @@ module _ (b : Book) (o : Open) where
   open-live : openPasses b o ≡ true → isOn o ≡ true → b .time < o .until
   open-live e q = use-live (on-use e q)
 
+  open-named : openPasses b o ≡ true → Named (inBook b) (limitsAt (b .entries)) o
+  open-named e q = use-named (on-use e q)
+
   pub open-to : OpenOk (b .time) (entriesIn b) (limitsAt (b .entries)) (metersAt (b .entries)) o → (isOn o ≡ true → b .time < o .until)
-      → openPasses b o ≡ true
+      → Named (inBook b) (limitsAt (b .entries)) o → openPasses b o ≡ true
   unfolding openLegal
-  open-to h live =
+  open-to h live named =
       on-test (isOn o)
-      (λ q. cond-off (eqb (o .on) 0) _ _ (one-not-zero q) ∙ and-both q (use-to (h .runs q) (live q)))
+      (λ q. cond-off (eqb (o .on) 0) _ _ (one-not-zero q) ∙ and-both q (use-to (h .runs q) (live q) (named q)))
       (λ q. ap (λ (x : Open). openPasses b x) (h .shut q))
     where
       one-not-zero : eqb (o .on) 1 ≡ true → eqb (o .on) 0 ≡ false
@@ -245,9 +257,11 @@ blank-current x e =
     row-passed (eqb (x .last .number) 0)
     (eqb (x .last .operation) 0 ∷ eqb (x .last .asset) 0 ∷ eqb (x .last .kind) 0
     ∷ eqb (x .last .answer .code) 0 ∷ eqb (x .last .answer .entry) 0 ∷ eqb (x .last .answer .until) 0
-    ∷ eqb (x .current .on) 0 ∷ eqb (x .current .entry) 0 ∷ eqb (x .current .begin) 0 ∷ eqb (x .current .until) 0 ∷ []) e in
+    ∷ eqb (x .current .on) 0 ∷ eqb (x .current .entry) 0 ∷ eqb (x .current .begin) 0 ∷ eqb (x .current .until) 0
+    ∷ eqb (x .current .content) 0 ∷ []) e in
     let c = h .1 .1 .1 .1 .1 .1 .1 in
     open-closed (x .current) (eqb-true _ _ (c .0)) (eqb-true _ _ (c .1 .0)) (eqb-true _ _ (c .1 .1 .0)) (eqb-true _ _ (c .1 .1 .1 .0))
+    (eqb-true _ _ (c .1 .1 .1 .1 .0))
 
 module _ (b : Book) (x : Player) where
   pub unused-from : eqb (x .last .number) 0 ≡ true → playerPasses b x ≡ true → playerBlank x ≡ true
@@ -266,6 +280,12 @@ module _ (b : Book) (x : Player) where
       on-test (eqb (x .last .number) 0)
       (λ q. clash on (ap isOn (blank-current x (unused-from q e))))
       (λ q. open-live b (x .current) (used-from q e .1 .1 .0) on)
+
+  pub player-named : playerPasses b x ≡ true → Named (inBook b) (limitsAt (b .entries)) (x .current)
+  player-named e on =
+      on-test (eqb (x .last .number) 0)
+      (λ q. clash on (ap isOn (blank-current x (unused-from q e))))
+      (λ q. open-named b (x .current) (used-from q e .1 .1 .0) on)
 
   pub player-open : playerPasses b x ≡ true → OpenOk (b .time) (entriesIn b) (limitsAt (b .entries)) (metersAt (b .entries)) (x .current)
   player-open e =
@@ -368,6 +388,7 @@ module _ (b : Book) (i : ℕ) where
 pub record Stages (b : Book) : Type 0 where
   pub assets : assetsLegal b ≡ true
   pub entries : entriesLegal b ≡ true
+  pub switch : switchLegal b ≡ true
   pub players : (p : ℕ) → p < 16 → playerPasses b (playerAt (b .players) p) ≡ true
   pub meters : (i : ℕ) → i < entriesIn b → metersPass b i ≡ true
 
@@ -376,20 +397,22 @@ unfolding ruleBroken playersLegal metersLegal
 stages-from b e =
     let p = passed (not (assetsLegal b)) 23 _ e in
     let q = passed (not (entriesLegal b)) 24 _ (p .1) in
-    let r = passed (not (playersLegal b)) 25 _ (q .1) in
+    let r = passed (not (switchLegal b && playersLegal b)) 25 _ (q .1) in
     let s = passed (not (metersLegal b)) 26 _ (r .1) in
     record {
       assets = not-false _ (p .0);
       entries = not-false _ (q .0);
-      players = all-below _ 16 (not-false _ (r .0));
+      switch = and-left (switchLegal b) (playersLegal b) (not-false _ (r .0));
+      players = all-below _ 16 (and-right (switchLegal b) (playersLegal b) (not-false _ (r .0)));
       meters = all-below _ (entriesIn b) (not-false _ (s .0));
     }
 
 pub stages-to : (b : Book) → Stages b → ruleBroken b ≡ 0
 unfolding ruleBroken playersLegal metersLegal
 stages-to b h =
-    go (assetsLegal b) (entriesLegal b) (playersLegal b) (metersLegal b) (h .assets) (h .entries)
-    (all-of (λ p. playerPasses b (playerAt (b .players) p)) 16 (h .players)) (all-of (metersPass b) (entriesIn b) (h .meters))
+    go (assetsLegal b) (entriesLegal b) (switchLegal b && playersLegal b) (metersLegal b) (h .assets) (h .entries)
+    (and-both (h .switch) (all-of (λ p. playerPasses b (playerAt (b .players) p)) 16 (h .players)))
+    (all-of (metersPass b) (entriesIn b) (h .meters))
   where
     go : (p q r s : Bool) → p ≡ true → q ≡ true → r ≡ true → s ≡ true → _≡_ {A = ℕ}
         (cond (not p) 24 (cond (not q) 25 (cond (not r) 26 (cond (not s) 27 0)))) 0

@@ -33,26 +33,28 @@ use Rattle.book.specs.Blank.{noEntry, noPlayer, closed}
 use Rattle.book.specs.Changed.{changed}
 use Rattle.model.specs.Book.{limitsAt, metersAt, playerAt, assetsIn, entriesIn, latestTime, inBook, between, assetLegal, assetsLegal}
 use Rattle.model.specs.Book.{limitsLegal, entriesLegal, playerBlank, requestLegal, takenCode, answerLegal, openUses, openSeconds}
-use Rattle.model.specs.Book.{Legal}
+use Rattle.model.specs.Book.{Legal, assetPosition, contentLegal, switchLegal}
 use Rattle.model.specs.Image.{newest, entryWidths, entryValues, playerWidths, playerValues, Typed, Bytes}
 use Rattle.model.specs.Record.{operationNumber, requestAsset, requestKind, recordWidths, recordField, kindOf, requestOf, eventIn}
 use Rattle.model.specs.Record.{decoded}
 use Rattle.model.specs.Gate.{sameRequest, sameNumber, inLine, timely, gate}
 use Rattle.model.specs.Meters.{isOn, expired, shut, settled}
-use Rattle.model.specs.Choice.{catalogOf, asks}
-use Rattle.model.specs.Step.{Done, done, lastAt, openAt, noted, takenStep, stepBy, step, arrive, stepRecord}
+use Rattle.model.specs.Choice.{catalogOf, asks, usable, holds}
+use Rattle.model.specs.Step.{Done, done, lastAt, openAt, noted, takenStep, stepBy, step, arrive}
+use Rattle.model.specs.Report.{Arrival, good, admitted, receive, lent}
 use Rattle.model.specs.History.{answers, final}
 use Rattle.model.specs.Saved.{Survives, Fits, FitsRead, Turn, handedOn, eventOf, savedAnswers, savedFinal, AllFit, Saved}
 use Rattle.model.proofs.Image.RoundTrip.{demand2}
-use Rattle.model.proofs.Ledger.Facts.{on-test, on-same, clash, and-right, and-both, cond-on, cond-off, upd, upd-same, upd-other}
-use Rattle.model.proofs.Ledger.Invariant.{shutO}
+use Rattle.model.proofs.Ledger.Facts.{on-test, on-same, clash, and-left, and-right, and-both, cond-on, cond-off, upd, upd-same}
+use Rattle.model.proofs.Ledger.Facts.{upd-other}
+use Rattle.model.proofs.Ledger.Invariant.{shutO, grant-most}
 use Rattle.model.proofs.Ledger.Concrete.{store-open, shut-at, shut-open}
 use Rattle.model.proofs.Ledger.WellFormed.{all-below}
 use Rattle.model.proofs.Legal.Facts.{all-of}
 use Rattle.model.proofs.Legal.Rules.{openPasses, playerPasses, lawfulIn, Counted, MeterOk, OpenOk, Sound, Live, open-to}
 use Rattle.model.proofs.Legal.Rules.{blank-current, unused-from, used-from, player-to, meter-to, Stages, stages-from, stages-to}
-use Rattle.model.proofs.Legal.Rules.{entries-counted, no-player, sound-of}
-use Rattle.model.proofs.Legal.Meters.{grant-most}
+use Rattle.model.proofs.Legal.Rules.{entries-counted, no-player, sound-of, Named, player-named}
+use Rattle.model.proofs.Demand3.Suitable.{in-book}
 use Rattle.model.proofs.Legal.Events.{Effect, stage, turn-part, settled-part, settled-live, AnswerOk, DoneOk, done-ok}
 
 -- ## An event that is taken
@@ -128,7 +130,9 @@ unfolding takenCode
 code-fits c e =
     on-test (eqb c 0)
     (λ q. omega (arith, eqb-true c 0 q))
-    (λ q. omega (arith, leb-true c 15 (and-right (leb 10 c) (leb c 15) (otherwise-at (eqb c 0) (between 10 15 c) e q))))
+    (λ q. on-test (between 10 15 c)
+    (λ r. omega (arith, leb-true c 15 (and-right (leb 10 c) (leb c 15) r)))
+    (λ r. omega (arith, eqb-true c 43 (rw (q, r) at e))))
 
 entry-fits : (T n : ℕ) (a : Answer) → n ≤ 64 → AnswerOk T n a → a .entry < 256
 entry-fits T n a k h =
@@ -155,6 +159,7 @@ record OpenFits (o : Open) : Type 0 where
   entry : o .entry < 256
   begin : o .begin < 4294967296
   until : o .until < 4294967296
+  content : o .content < 4294967296
 
 record LastFits (l : Last) : Type 0 where
   number : l .number < 4294967296
@@ -178,11 +183,44 @@ last-fits x (number, (operation, (asset, (kind, (code, (entry, (until, rest)))))
 
 player-fits : (x : Player) {l : Last} → l ≡ x .last → OpenFits (x .current) → LastFits l → Fit (playerWidths newest) (playerValues x)
 player-fits x e o h =
-    let l = subst LastFits e h in
-    (l .number, (l .operation, (l .asset, (l .kind, (l .code, (l .entry, (l .until, (o .on, (o .entry, (o .begin, (o .until, tt)))))))))))
+    let l = subst LastFits e h in (
+      l .number,
+      (
+        l .operation,
+        (
+          l .asset,
+          (
+            l .kind,
+            (
+              l .code,
+              (
+                l .entry,
+                (
+                  l .until,
+                  (
+                    o .on,
+                    (
+                      o .entry,
+                      (
+                        o .begin,
+                        (
+                          o .until,
+                          (o .content, tt),
+                        ),
+                      ),
+                    ),
+                  ),
+                ),
+              ),
+            ),
+          ),
+        ),
+      ),
+    )
 
-open-fits : (T n : ℕ) (lim : ℕ → Limits) (met : ℕ → Meters) (o : Open) → n ≤ 64 → T ≤ latestTime → OpenOk T n lim met o → OpenFits o
-open-fits T n lim met o k h w =
+open-fits : (T n : ℕ) (lim : ℕ → Limits) (met : ℕ → Meters) (o : Open) → n ≤ 64 → T ≤ latestTime → OpenOk T n lim met o
+    → (isOn o ≡ true → o .content < 4294967296) → OpenFits o
+open-fits T n lim met o k h w c =
     on-test (isOn o)
     (λ q.
     let u = w .runs q in
@@ -191,8 +229,10 @@ open-fits T n lim met o k h w =
       entry = omega (arith, u .entry);
       begin = omega (arith, u .begun);
       until = omega (arith, u .near, grant-most (lim (o .entry) .kind));
+      content = c q;
     })
-    (λ q. subst OpenFits (sym (w .shut q)) (record { on = omega arith; entry = omega arith; begin = omega arith; until = omega arith }))
+    (λ q. subst OpenFits (sym (w .shut q))
+    (record { on = omega arith; entry = omega arith; begin = omega arith; until = omega arith; content = omega arith }))
 
 module _ (b : Book) (e : Event) (h : Legal b) (t : Passed b e) where
   abbrev T : ℕ
@@ -205,7 +245,7 @@ module _ (b : Book) (e : Event) (h : Legal b) (t : Passed b e) where
   es = settled T (b .players) (b .entries)
 
   abbrev did : Done
-  did = done (e .request) (catalogOf b) es (openAt ps (e .player)) (asks e)
+  did = done (e .request) (catalogOf b) es (openAt ps (e .player)) (asks b e)
 
   abbrev asker : Player
   asker = record { last = noted e (did .answer); current = did .current }
@@ -233,13 +273,26 @@ module _ (b : Book) (e : Event) (h : Legal b) (t : Passed b e) where
   pub settled-sound : Sound T (entriesIn b) (limitsAt es) (metersAt es) (openAt ps)
   settled-sound = rw (fun-ext (before .limits)) (before .sound)
 
-  did-ok : DoneOk T (entriesIn b) (e .player) (limitsAt es) (openAt ps) did
-  unfolding catalogOf entriesLegal
+  -- the contents of the open uses, before and after settling
+  old-named : (p : ℕ) → Named (inBook b) (limitsAt (b .entries)) (openAt (b .players) p)
+  old-named p = below-or-not p 16
+      (λ k. player-named b (playerAt (b .players) p) (stages-from b (h .rules) .players p k))
+      (λ k on. clash on (ap (λ (x : Player). isOn (x .current)) (no-player b h p k)))
+
+  settled-named : (p : ℕ) → Named (inBook b) (limitsAt es) (openAt ps p)
+  settled-named p = rw (shut-open T (b .players) p)
+      (on-test (expired T (openAt (b .players) p))
+      (λ x. rw x (λ on. clash on refl))
+      (λ x. rw x (λ on. rw (before .limits (openAt (b .players) p .entry)) (old-named p on))))
+
+  did-ok : DoneOk (inBook b) T (entriesIn b) (e .player) (limitsAt es) (openAt ps) did
+  unfolding catalogOf entriesLegal usable holds inBook
   did-ok =
-      done-ok (asks e) room es (before .slots)
+      done-ok (asks b e) room es (before .slots)
       settled-sound
       (settled-live T (b .players)) (t .player)
-      (catalogOf b) refl (e .request)
+      (inBook b) settled-named
+      (catalogOf b) refl (λ asset u. and-left (holds (catalogOf b) asset) _ u) (e .request)
 
   limits-kept : (i : ℕ) → limitsAt (new .entries) i ≡ limitsAt (b .entries) i
   limits-kept i = did-ok .part .limits i ∙ before .limits i
@@ -268,9 +321,15 @@ module _ (b : Book) (e : Event) (h : Legal b) (t : Passed b e) where
       (λ x. subst (λ (o : Open). isOn o ≡ true → T < o .until) (sym (ap (openAt (new .players)) x ∙ own-open)) (did-ok .live))
       (λ x. subst (λ (o : Open). isOn o ≡ true → T < o .until) (sym (other-open p x)) (settled-live T (b .players) p))
 
+  new-named : (p : ℕ) → Named (inBook b) (limitsAt (new .entries)) (openAt (new .players) p)
+  new-named p = rw (fun-ext (did-ok .part .limits))
+      (on-same p (e .player)
+      (λ x. subst (Named (inBook b) (limitsAt es)) (sym (ap (openAt (new .players)) x ∙ own-open)) (did-ok .named))
+      (λ x. subst (Named (inBook b) (limitsAt es)) (sym (other-open p x)) (settled-named p)))
+
   new-open : (p : ℕ) → openPasses new (openAt (new .players) p) ≡ true
-  unfolding entriesIn
-  new-open p = open-to new (openAt (new .players) p) (new-sound .opens p) (new-live p)
+  unfolding entriesIn inBook assetsIn
+  new-open p = open-to new (openAt (new .players) p) (new-sound .opens p) (new-live p) (new-named p)
 
   -- ## The players' records
 
@@ -319,11 +378,12 @@ module _ (b : Book) (e : Event) (h : Legal b) (t : Passed b e) where
   -- ## The stages
 
   new-stages : Stages new
-  unfolding assetsLegal assetLegal assetsIn entriesLegal limitsLegal inBook entriesIn openUses openSeconds
+  unfolding assetsLegal assetLegal assetsIn entriesLegal limitsLegal inBook entriesIn openUses openSeconds switchLegal
   new-stages =
       let s = stages-from b (h .rules) in
       record {
         assets = s .assets;
+        switch = s .switch;
         entries = all-of (λ i. lawfulIn new (limitsAt (new .entries) i)) (entriesIn new)
             (λ i k. subst (λ (l : Limits). lawfulIn b l ≡ true) (sym (limits-kept i))
             (all-below (λ j. lawfulIn b (limitsAt (b .entries) j)) (entriesIn b) (s .entries) i k));
@@ -359,11 +419,21 @@ module _ (b : Book) (e : Event) (h : Legal b) (t : Passed b e) where
         (λ k. subst (λ (x : Entry). Fit (entryWidths newest) (entryValues x))
         (sym (new-legal .entriesBlank i (omega (arith, entries-counted b h)))) (omega arith))
 
+    -- a content is an asset's number, or 0
+    content-fits : (p : ℕ) → isOn (openAt (new .players) p) ≡ true → openAt (new .players) p .content < 4294967296
+    unfolding contentLegal
+    content-fits p on =
+        let o = openAt (new .players) p in
+        on-test (inBook b (o .content))
+        (λ q. let z = in-book b (o .content) q in
+        omega (arith, z .1, y .assets (assetPosition (b .assets) (assetsIn b) (o .content)) .0))
+        (λ q. omega (arith, eqb-true (o .content) 0 (and-left (eqb (o .content) 0) _ (rw q at (new-named p on)))))
+
     players-typed : (p : ℕ) → Fit (playerWidths newest) (playerValues (playerAt (new .players) p))
     unfolding shut
     players-typed p =
         let o = open-fits T (entriesIn b) (limitsAt (new .entries)) (metersAt (new .entries)) (openAt (new .players) p) room (t .early)
-        (new-sound .opens p) in
+        (new-sound .opens p) (content-fits p) in
         on-same p (e .player)
         (λ x. player-fits (playerAt (new .players) p) (sym (ap (λ (z : Player). z .last) (own-record p x))) o own-fits)
         (λ x. player-fits (playerAt (new .players) p) (sym (ap (λ (z : Player). z .last) (other-record p x))) o
@@ -413,10 +483,19 @@ unfolding arrive
 arrive-typed b (Invalid code) h y f = y
 arrive-typed b (Valid e) h y f = step-typed b e h y f
 
-final-legal : (b : Book) (ds : List Decoded) → Legal b → Legal (final b ds)
+pub receive-legal : (b : Book) (x : Arrival) → Legal b → Legal (receive b x .book)
+unfolding receive
+receive-legal b x h = arrive-legal b (admitted b x) h
+
+pub receive-typed : (b : Book) (x : Arrival) → Legal b → Typed b → FitsRead (x .event) → Typed (receive b x .book)
+unfolding receive admitted
+receive-typed b x h y f =
+    arrive-typed b (admitted b x) h y (on-test (good b (x .lines)) (λ q. rw q f) (λ q. rw q tt))
+
+final-legal : (b : Book) (xs : List Arrival) → Legal b → Legal (final b xs)
 unfolding final
 final-legal b [] h = h
-final-legal b (d ∷ ds) h = final-legal (arrive b d .book) ds (arrive-legal b d h)
+final-legal b (x ∷ xs) h = final-legal (receive b x .book) xs (receive-legal b x h)
 
 -- what is read from bytes fits
 decoded-fits : (s : List ℕ) → Bytes s → FitsRead (decoded s)
@@ -449,32 +528,32 @@ same-answers : (b : Book) (ts : List Turn) → Legal b → Typed b → AllFit ts
 unfolding savedAnswers answers
 same-answers b [] h y f = refl
 same-answers b (t ∷ ts) h y (f, fs) =
-    let next : Book = arrive b (t .event) .book in
-    let l : Legal next = arrive-legal b (t .event) h in
-    let w : Typed next = arrive-typed b (t .event) h y f in
-    ap (λ (rs : List Answer). arrive b (t .event) .answer ∷ rs)
+    let next : Book = receive b (t .event) .book in
+    let l : Legal next = receive-legal b (t .event) h in
+    let w : Typed next = receive-typed b (t .event) h y f in
+    ap (λ (rs : List Answer). receive b (t .event) .answer ∷ rs)
     (ap (λ (x : Book). savedAnswers x ts) (handed-same (t .rereader) next l w) ∙ same-answers next ts l w fs)
 
 same-final : (b : Book) (ts : List Turn) → Legal b → Typed b → AllFit ts → savedFinal b ts ≡ final b (map eventOf ts)
 unfolding savedFinal final
 same-final b [] h y f = refl
 same-final b (t ∷ ts) h y (f, fs) =
-    let next : Book = arrive b (t .event) .book in
-    let l : Legal next = arrive-legal b (t .event) h in
-    let w : Typed next = arrive-typed b (t .event) h y f in
+    let next : Book = receive b (t .event) .book in
+    let l : Legal next = receive-legal b (t .event) h in
+    let w : Typed next = receive-typed b (t .event) h y f in
     ap (λ (x : Book). savedFinal x ts) (handed-same (t .rereader) next l w) ∙ same-final next ts l w fs
 
 pub saved : Saved
-unfolding stepRecord
 saved = record {
   stepLegal = step-legal;
   arriveLegal = arrive-legal;
+  receiveLegal = receive-legal;
   finalLegal = final-legal;
   stepTyped = step-typed;
   decodedFits = decoded-fits;
   stepSurvives = λ b e h y f. survives (step b e .book) (step-legal b e h) (step-typed b e h y f);
-  recordSurvives = λ b s h y k. survives (arrive b (decoded s) .book) (arrive-legal b (decoded s) h)
-      (arrive-typed b (decoded s) h y (decoded-fits s k));
+  recordSurvives = λ b ls s h y k. survives (receive b (lent ls s) .book) (receive-legal b (lent ls s) h)
+      (receive-typed b (lent ls s) h y (decoded-fits s k));
   sameAnswers = same-answers;
   sameFinal = same-final;
 }

@@ -31,13 +31,21 @@ returns-4 c = rw (
 
 returns-5 : tie.Need-returns-5
 returns-5 c = rw (
-  c .before .before .before .if1 .left,
-  not-false (c .before .before .before .before .args .usable)
-      (c .before .before .if2 .left),
-  not-false (c .before .before .before .before .args .suits) (c .before .if3 .left),
-  le-ltb _ _
-      (c .if4 .left),
+  c .before .before .before .before .if1 .left,
+  not-false (c .before .before .before .before .before .args .usable) (c .before .before .before .if2 .left),
+  not-false (c .before .before .before .before .before .args .suits) (c .before .before .if3 .left),
+  le-ltb _ _ (c .before .if4 .left),
+  c .if5 .taken,
+) refl
+
+returns-6 : tie.Need-returns-6
+returns-6 c = rw (
+  c .before .before .before .before .if1 .left,
+  not-false (c .before .before .before .before .before .args .usable) (c .before .before .before .if2 .left),
+  not-false (c .before .before .before .before .before .args .suits) (c .before .before .if3 .left),
+  le-ltb _ _ (c .before .if4 .left),
+  c .if5 .left,
 ) refl
 
 pub begin-code-spec : {M : Type 1} → statement M
-begin-code-spec = tie.close (tie.spec returns returns-2 returns-3 returns-4 returns-5)
+begin-code-spec = tie.close (tie.spec returns returns-2 returns-3 returns-4 returns-5 returns-6)

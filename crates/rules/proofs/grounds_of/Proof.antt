@@ -24,7 +24,7 @@ returns : tie.Need-returns
 unfolding flagsOf groundsOf
 returns c =
     let flagged = c .before .before .before .before .before .before .before .before .before .before .before .before .before .before
-    .before .before .before in
+    .before .before .before .before .before .before in
     rw (flagged .flags-of .ensures)
 
 pub grounds-of-spec : {M : Type 1} → statement M

@@ -1,12 +1,63 @@
--- `rules::ranks_before` meets its contract: its comparisons are the definition's.
+-- `rules::ranks_before` meets its contract: the first field in which the two ranks differ decides.
+use Prim.Native.Nat.{ℕ, _≤_}
+use mathlib.Core.Bool.{Bool, true, false, _||_, _&&_, not, or-false}
+use mathlib.Core.Path.{_≡_, refl, sym, _∙_}
+use native.Mathlib.Omega.{arith}
+use lib.Dec.{ltb, eqb}
+use borrow.Author.Tests.{not-true, not-false, eqb-true, le-ltb}
+use Rattle.book.specs.declared.Rank.{Rank}
 use Rattle.model.specs.Choice.{ranksBefore}
-use mathlib.Core.Path.{refl}
 use Rattle.rules.proofs.ranks_before.Statement.{statement}
 use Rattle.rules.proofs.ranks_before.Tie as tie
 
+differ : (x y : ℕ) (r : Bool) → not (eqb x y) ≡ true → ltb x y ≡ (ltb x y || eqb x y && r)
+differ x y r h = rw (not-true (eqb x y) h) (sym (or-false (ltb x y)))
+
+alike : (x y : ℕ) (r : Bool) → not (eqb x y) ≡ false → r ≡ (ltb x y || eqb x y && r)
+alike x y r h =
+    let e = not-false (eqb x y) h in
+    let q = eqb-true x y e in
+    let n : y ≤ x = omega (arith, q) in
+    rw (e, le-ltb x y n) refl
+
+-- the same of each field, with what the fields behind it decide
+module _ (a b : Rank) where
+  flags-differ : not (eqb (a .flags) (b .flags)) ≡ true → ltb (a .flags) (b .flags) ≡ ranksBefore a b
+  unfolding ranksBefore
+  flags-differ h = differ (a .flags) (b .flags) _ h
+
+  ends-differ : not (eqb (a .flags) (b .flags)) ≡ false → not (eqb (a .end) (b .end)) ≡ true → ltb (a .end) (b .end) ≡ ranksBefore a b
+  unfolding ranksBefore
+  ends-differ f h = differ (a .end) (b .end) _ h ∙ alike (a .flags) (b .flags) _ f
+
+  later-fields : not (eqb (a .flags) (b .flags)) ≡ false → not (eqb (a .end) (b .end)) ≡ false
+      → (ltb (a .fresh) (b .fresh) || eqb (a .fresh) (b .fresh) && ltb (a .inherited) (b .inherited)) ≡ ranksBefore a b
+  unfolding ranksBefore
+  later-fields f e = alike (a .end) (b .end) _ e ∙ alike (a .flags) (b .flags) _ f
+
 returns : tie.Need-returns
-unfolding ranksBefore
-returns c = refl
+returns c =
+    let x = c .before .before .before .before .before .args in
+    flags-differ (x .a) (x .b) (c .before .before .if1 .taken)
+
+returns-2 : tie.Need-returns-2
+returns-2 c =
+    let x = c .before .before .before .before .before .before .before .before .args in
+    ends-differ (x .a) (x .b) (c .before .before .before .before .before .if1 .left) (c .before .before .if2 .taken)
+
+returns-3 : tie.Need-returns-3
+returns-3 c =
+    let x = c .before .before .before .before .before .before .before .before .before .before .before .args in
+    let f = c .before .before .before .before .before .before .before .before .if1 .left in
+    let e = c .before .before .before .before .before .if2 .left in
+    differ (x .a .fresh) (x .b .fresh) _ (c .before .before .if3 .taken) ∙ later-fields (x .a) (x .b) f e
+
+returns-4 : tie.Need-returns-4
+returns-4 c =
+    let x = c .before .before .before .before .before .before .before .before .before .before .before .args in
+    let f = c .before .before .before .before .before .before .before .before .if1 .left in
+    let e = c .before .before .before .before .before .if2 .left in
+    alike (x .a .fresh) (x .b .fresh) _ (c .before .before .if3 .left) ∙ later-fields (x .a) (x .b) f e
 
 pub ranks-before-spec : {M : Type 1} → statement M
-ranks-before-spec = tie.close (tie.spec returns)
+ranks-before-spec = tie.close (tie.spec returns returns-2 returns-3 returns-4)

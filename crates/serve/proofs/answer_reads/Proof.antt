@@ -4,6 +4,7 @@ use mathlib.Core.Path.{_≡_}
 use mathlib.Core.Bool.{Bool}
 use mathlib.Core.List.{List}
 use lib.ListN.{length}
+use Rattle.book.specs.declared.Line.{Line}
 use Rattle.book.specs.declared.Book.{Book}
 use Rattle.turn.specs.Turn.{writtenAfter, outAfter, keptAfter}
 use native.Mathlib.Omega.{arith}
@@ -13,18 +14,18 @@ use Rattle.serve.proofs.answer_reads.Statement.{statement}
 use Rattle.serve.proofs.answer_reads.Tie as tie
 
 -- what the contract of `turn` says about the text and the kept bytes, in numbers
-text-there : (b : Book) (input : List ℕ) (n : ℕ) (ended : Bool) (out outs : List ℕ) (written : ℕ)
-    → written ≡ writtenAfter b input n ended → outs ≡ outAfter b input n ended out → written ≤ length outs
-text-there b input n ended out outs written e f = rw (e, f) (written-inside b input n ended out)
+text-there : (b : Book) (ls : List Line) (lent : ℕ) (input : List ℕ) (n : ℕ) (ended : Bool) (out outs : List ℕ) (written : ℕ)
+    → written ≡ writtenAfter b ls lent input n ended → outs ≡ outAfter b ls lent input n ended out → written ≤ length outs
+text-there b ls lent input n ended out outs written e f = rw (e, f) (written-inside b ls lent input n ended out)
 
 kept-few : (input : List ℕ) (n : ℕ) (ended : Bool) (kept : ℕ) → kept ≡ keptAfter input n ended → kept ≤ 12
 kept-few input n ended kept e = rw e (kept-small input n ended)
 
 abbrev Inv-loop : tie.InvT-loop
-Inv-loop input₀ out₀ book₀ kept₀ left₀ t12 input out book kept left = kept ≤ 12
+Inv-loop lent input₀ out₀ book₀ lines₀ kept₀ left₀ t14 input out book lines kept left = kept ≤ 12
 
 abbrev μ-loop : tie.MeasureT-loop
-μ-loop input₀ out₀ book₀ kept₀ left₀ t12 input out book kept left = left
+μ-loop lent input₀ out₀ book₀ lines₀ kept₀ left₀ t14 input out book lines kept left = left
 
 loop-holds : tie.Need-loop-holds Inv-loop μ-loop
 loop-holds c = search needs
@@ -48,7 +49,9 @@ turn-requires : tie.Need-turn-requires Inv-loop μ-loop
 turn-requires c κs = search needs
 
 print-first-requires : tie.Need-print-first-requires Inv-loop μ-loop
-print-first-requires c κs = let t = c .before .before .turn in text-there _ _ _ _ _ _ _ (t .ensures .1 .1 .0) (t .ensures .1 .1 .1 .1 .1)
+print-first-requires c κs =
+    let t = c .before .before .turn in
+    text-there _ _ _ _ _ _ _ _ _ (t .ensures .1 .1 .1 .0) (t .ensures .1 .1 .1 .1 .1 .1)
 
 returns-2 : tie.Need-returns-2 Inv-loop μ-loop
 returns-2 c = search needs
@@ -63,7 +66,7 @@ loop-less : tie.Need-loop-less Inv-loop μ-loop
 loop-less c = search needs
 
 loop-again : tie.Need-loop-again Inv-loop μ-loop
-loop-again c = kept-few _ _ _ _ (c .before .before .before .before .before .before .turn .ensures .1 .1 .1 .0)
+loop-again c = kept-few _ _ _ _ (c .before .before .before .before .before .before .before .turn .ensures .1 .1 .1 .1 .0)
 
 returns-4 : tie.Need-returns-4 Inv-loop μ-loop
 returns-4 c = search needs

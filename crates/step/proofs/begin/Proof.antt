@@ -7,13 +7,13 @@ use Rattle.book.specs.declared.Ask.{Ask}
 use Rattle.book.specs.declared.Book.{Book}
 use Rattle.book.specs.declared.Entry.{Entry}
 use Rattle.model.specs.Book.{entriesIn}
-use Rattle.model.specs.Choice.{catalogOf, usable, parentOf, suits, anyOf}
+use Rattle.model.specs.Choice.{catalogOf, usable, parentOf, suits, anyOf, failsForSwitch}
 use Rattle.uses.specs.Uses.{placed, beginOn}
 use Rattle.choice.specs.declared.Reach.{Reach}
 use Rattle.choice.specs.Reach.{reachIn, tableOf, reach-in-book}
 use Rattle.choice.specs.declared.Best.{Best}
 use Rattle.choice.specs.Best.{bestAfter}
-use Rattle.choice.specs.Choice.{best-suits}
+use Rattle.choice.specs.Choice.{best-suits, best-switched}
 use Rattle.step.specs.declared.Act.{Act}
 use Rattle.numbers.proofs.Loops.{length-mapped}
 use Rattle.step.specs.Step.{refused-placed, begin-refused, begin-placed-at}
@@ -65,6 +65,15 @@ at-is c =
     ap (λ (x : Best). x .at) (best-is (a .b) (a .asset) (a .kind) (a .ask) _ (c .before .before .before .before .reach-of .ensures) _
     (c .before .before .chosen .ensures))
 
+switched-is : (c : Coded) → c .before .before .chosen .result .switched ≡ anyOf
+    (failsForSwitch (catalogOf (start c .args .b)) (start c .args .b .entries) (start c .args .ask) (start c .args .asset)
+    (start c .args .kind)) (catalogOf (start c .args .b) .entryCount)
+switched-is c =
+    let a = start c .args in
+    ap (λ (x : Best). x .switched) (best-is (a .b) (a .asset) (a .kind) (a .ask) _ (c .before .before .before .before .reach-of .ensures) _
+    (c .before .before .chosen .ensures))
+    ∙ best-switched (catalogOf (a .b)) (a .b .entries) (a .ask) (a .asset) (a .kind)
+
 reach-of-requires : tie.Need-reach-of-requires
 reach-of-requires c κs = search needs
 
@@ -84,9 +93,9 @@ returns c =
     let es = a .b .entries in
     ap (λ (x : Act). placed (x .at) (x .part) es) (c .refused-act .ensures)
     ∙ refused-placed (d .begin-code .result) (a .o) es (omega (arith, entries-64 (start d)))
-    ∙ begin-refused (catalogOf (a .b)) es (a .o) (a .ask) (a .asset) (a .kind) _ _ _ _
+    ∙ begin-refused (catalogOf (a .b)) es (a .o) (a .ask) (a .asset) (a .kind) _ _ _ _ _
     (usable-is (a .b) (a .asset) _ (d .before .before .before .before .reach-of .ensures))
-    (λ off u. suits-is d) (λ off u. at-is d) (count-64 (a .b)) (d .begin-code .ensures) (c .before .if1 .taken)
+    (λ off u. suits-is d) (λ off u. at-is d) (λ off u. switched-is d) (count-64 (a .b)) (d .begin-code .ensures) (c .before .if1 .taken)
 
 entry-at-requires : tie.Need-entry-at-requires
 entry-at-requires c κs = search needs
@@ -102,11 +111,12 @@ returns-2 c =
     let d = c .before .before .before .before .before in
     let a = start d .args in
     let es = a .b .entries in
-    begin-placed-at (catalogOf (a .b)) es (a .o) (a .ask) (a .asset) (a .kind) _ _ _ _
+    begin-placed-at (catalogOf (a .b)) es (a .o) (a .ask) (a .asset) (a .kind) _ _ _ _ _
     (usable-is (a .b) (a .asset) _ (d .before .before .before .before .reach-of .ensures))
-    (λ off u. suits-is d) (λ off u. at-is d) (count-64 (a .b)) (d .begin-code .ensures) (start d .pre)
+    (λ off u. suits-is d) (λ off u. at-is d) (λ off u. switched-is d) (count-64 (a .b)) (d .begin-code .ensures) (start d .pre)
     (c .before .before .before .before .if1 .left) (c .begin-on .result)
-    (c .begin-on .ensures ∙ ap (λ (x : Entry). beginOn (d .before .before .chosen .result .at % 256) (a .ask) (x .limits) (x .meters)
+    (c .begin-on .ensures ∙ ap (λ (x : Entry). beginOn (d .before .before .chosen .result .at % 256) (a .asset) (a .ask) (x .limits)
+    (x .meters)
     (a .o)) (c .before .before .before .entry-at .ensures))
 
 pub begin-spec : {M : Type 1} → statement M

@@ -36,7 +36,7 @@ returns c =
     let r = c .before .before .before .operate .result in
     ap (λ (x : Book). record { answer = r .part .answer; book = x }) (c .stored-book .ensures)
     ∙ ap (takenFrom n e) (c .before .before .before .operate .ensures)
-    ∙ ap (λ (x : Book). takenFrom x e (done (e .request) (catalogOf x) (x .entries) (openAt (x .players) (e .player)) (asks e)))
+    ∙ ap (λ (x : Book). takenFrom x e (done (e .request) (catalogOf x) (x .entries) (openAt (x .players) (e .player)) (asks x e)))
     (c .before .before .before .before .before .before .before .settle .ensures)
     ∙ taken-is (a .b) e
 

@@ -8,10 +8,10 @@ use Rattle.test_days.proofs.answer_singly.Statement.{statement}
 use Rattle.test_days.proofs.answer_singly.Tie as tie
 
 abbrev Inv-loop : tie.InvT-loop
-Inv-loop events out₀ book₀ at₀ from₀ out book at from = (from ≤ length events) × (length out ≡ length out₀)
+Inv-loop events out₀ book₀ lines₀ at₀ from₀ out book lines at from = (from ≤ length events) × (length out ≡ length out₀)
 
 abbrev μ-loop : tie.MeasureT-loop
-μ-loop events out₀ book₀ at₀ from₀ out book at from = length events - from
+μ-loop events out₀ book₀ lines₀ at₀ from₀ out book lines at from = length events - from
 
 loop-holds : tie.Need-loop-holds Inv-loop μ-loop
 loop-holds c = (omega arith, refl)
@@ -19,17 +19,17 @@ loop-holds c = (omega arith, refl)
 record-end-requires : tie.Need-record-end-requires Inv-loop μ-loop
 record-end-requires c κs = omega arith
 
-sub-step-record : tie.Need-sub-step-record Inv-loop μ-loop
-sub-step-record c = omega arith
+sub-step-owned : tie.Need-sub-step-owned Inv-loop μ-loop
+sub-step-owned c = omega arith
 
-part-step-record-start : tie.Need-part-step-record-start Inv-loop μ-loop
-part-step-record-start c = omega arith
+part-step-owned-start : tie.Need-part-step-owned-start Inv-loop μ-loop
+part-step-owned-start c = omega arith
 
-part-step-record-end : tie.Need-part-step-record-end Inv-loop μ-loop
-part-step-record-end c = omega arith
+part-step-owned-end : tie.Need-part-step-owned-end Inv-loop μ-loop
+part-step-owned-end c = omega arith
 
-step-record-requires : tie.Need-step-record-requires Inv-loop μ-loop
-step-record-requires c κs = tt
+step-owned-requires : tie.Need-step-owned-requires Inv-loop μ-loop
+step-owned-requires c κs = tt
 
 put-line-requires : tie.Need-put-line-requires Inv-loop μ-loop
 put-line-requires c κs = tt
@@ -40,8 +40,8 @@ loop-less c = omega arith
 loop-again : tie.Need-loop-again Inv-loop μ-loop
 loop-again c =
     let p = c .before .before .put-line in
-    let l = c .before .before .before .before .before .before .before .before .before .before .loop in
-    let a = c .before .before .before .before .before .before .step-record .result .answer in
+    let l = c .before .before .before .before .before .before .before .before .before .before .before .loop in
+    let a = c .before .before .before .before .before .before .before .step-owned .result .answer in
     (omega arith, ap length (p .ensures .1) ∙ buffer-length a (l .at) (p .result) (l .out) (p .ensures .0) (p .ensures .2) ∙ l .inv .1)
 
 same-length : tie.Need-same-length Inv-loop μ-loop
@@ -58,10 +58,10 @@ answer-singly-spec =
     μ-loop
     loop-holds
     record-end-requires
-    sub-step-record
-    part-step-record-start
-    part-step-record-end
-    step-record-requires
+    sub-step-owned
+    part-step-owned-start
+    part-step-owned-end
+    step-owned-requires
     put-line-requires
     loop-less
     loop-again

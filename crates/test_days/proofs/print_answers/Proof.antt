@@ -5,6 +5,12 @@ use lib.Seq.{length-take-le}
 use Rattle.test_days.proofs.print_answers.Statement.{statement}
 use Rattle.test_days.proofs.print_answers.Tie as tie
 
+zero-lines-requires : tie.Need-zero-lines-requires
+zero-lines-requires c κs = search needs
+
+at-most-64-requires : tie.Need-at-most-64-requires
+at-most-64-requires c κs = search needs
+
 slice-aggregate-answer-block : tie.Need-slice-aggregate-answer-block
 slice-aggregate-answer-block c = sym (length-take-le _ _ (c .before .if1 .taken))
 
@@ -44,14 +50,11 @@ slice-aggregate-write-all c = search needs
 write-all-requires : tie.Need-write-all-requires
 write-all-requires c κs = search needs
 
-same-book-requires : tie.Need-same-book-requires
-same-book-requires c κs = search needs
+print-changes-requires : tie.Need-print-changes-requires
+print-changes-requires c κs = search needs
 
-slice-aggregate-write-all-2 : tie.Need-slice-aggregate-write-all-2
-slice-aggregate-write-all-2 c = search needs
-
-write-all-requires-2 : tie.Need-write-all-requires-2
-write-all-requires-2 c κs = search needs
+compare-requires : tie.Need-compare-requires
+compare-requires c κs = search needs
 
 returns : tie.Need-returns
 returns c = search needs
@@ -59,13 +62,12 @@ returns c = search needs
 returns-2 : tie.Need-returns-2
 returns-2 c = search needs
 
-returns-3 : tie.Need-returns-3
-returns-3 c = search needs
-
 pub print-answers-spec : {M : Type 1} → statement M
 print-answers-spec =
     tie.close
     (tie.spec
+    zero-lines-requires
+    at-most-64-requires
     slice-aggregate-answer-block
     slice-aggregate-answer-block-2
     answer-block-requires
@@ -79,9 +81,7 @@ print-answers-spec =
     same-requires
     slice-aggregate-write-all
     write-all-requires
-    same-book-requires
-    slice-aggregate-write-all-2
-    write-all-requires-2
+    print-changes-requires
+    compare-requires
     returns
-    returns-2
-    returns-3)
+    returns-2)

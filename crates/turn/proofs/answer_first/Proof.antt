@@ -15,7 +15,7 @@ same-length : tie.Need-same-length
 same-length c = search needs
 
 returns : tie.Need-returns
-returns c = search needs
+returns c = let e = c .before .before .answer-block .ensures in (e .0, (e .1, (e .2, (e .3, e .4))))
 
 pub answer-first-spec : {M : Type 1} → statement M
 answer-first-spec =

@@ -10,34 +10,36 @@ use mathlib.Core.List.{List, _++_}
 use lib.ListN.{length, take, drop}
 use lib.Seq.{length-take-le, take-take, take-add, drop-at}
 use Rattle.numbers.proofs.Tests.{on-test}
+use Rattle.book.specs.declared.Line.{Line}
 use Rattle.book.specs.declared.Book.{Book}
-use Rattle.model.specs.Run.{recordCount, runText, runBook}
-use Rattle.batch.specs.Block.{fits, blockBook, blockWritten, blockBuffer}
-use Rattle.turn.specs.Turn.{keptCount, answeredOf, keptOf, inside, bookAfter, textAfter, writtenAfter, outAfter, keptAfter}
-use Rattle.turn.specs.Turn.{inputAfter}
+use Rattle.model.specs.Run.{recordCount}
+use Rattle.batch.specs.Block.{fits, blockText, blockBook, blockLines, blockWritten, blockBuffer}
+use Rattle.turn.specs.Turn.{keptCount, answeredOf, keptOf, inside, bookAfter, linesAfter, textAfter, writtenAfter, outAfter}
+use Rattle.turn.specs.Turn.{keptAfter, inputAfter}
 use Rattle.turn.specs.Kept.{kept-less}
 use Rattle.turn.proofs.turn.Statement.{statement}
 use Rattle.turn.proofs.turn.Tie as tie
 
-abbrev Left : Book → List ℕ → ℕ → Bool → List ℕ → Bool → Book → ℕ → ℕ → List ℕ → List ℕ → Type 0
-Left b input n ended out done book written kept inputs outs =
-    (done ≡ inside input n)
-    × ((book ≡ bookAfter b input n ended)
-    × ((written ≡ writtenAfter b input n ended)
-    × ((kept ≡ keptAfter input n ended)
-    × ((inputs ≡ inputAfter input n ended)
-    × (outs ≡ outAfter b input n ended out)))))
+module _ (b : Book) (ls : List Line) (lent : ℕ) (input : List ℕ) (n : ℕ) (ended : Bool) (out : List ℕ) where
+  abbrev Left : Bool → Book → List Line → ℕ → ℕ → List ℕ → List ℕ → Type 0
+  Left done book lines written kept inputs outs =
+      (done ≡ inside input n)
+      × ((book ≡ bookAfter b ls lent input n ended)
+      × ((lines ≡ linesAfter b ls lent input n ended)
+      × ((written ≡ writtenAfter b ls lent input n ended)
+      × ((kept ≡ keptAfter input n ended)
+      × ((inputs ≡ inputAfter input n ended)
+      × (outs ≡ outAfter b ls lent input n ended out))))))
 
-left-refused : (b : Book) (input : List ℕ) (n : ℕ) (ended : Bool) (out : List ℕ) → inside input n ≡ false → Left b input n ended out
-    false b 0 0 input out
-unfolding bookAfter writtenAfter outAfter keptAfter inputAfter
-left-refused b input n ended out e = (sym e, (rw e, (rw e, (rw e, (rw e, rw e)))))
+  left-refused : inside input n ≡ false → Left false b ls 0 0 input out
+  unfolding bookAfter linesAfter writtenAfter outAfter keptAfter inputAfter
+  left-refused e = (sym e, (rw e, (rw e, (rw e, (rw e, (rw e, rw e))))))
 
 -- a slice of a prefix
 part : (a k : ℕ) (l : List ℕ) → a + k ≤ length l → drop a (take (a + k) l) ≡ take k (drop a l)
 part a k l h = ap (drop a) (take-add a k l) ∙ drop-at (take a l) (take k (drop a l)) a (length-take-le a l (omega arith))
 
-module _ (b : Book) (input : List ℕ) (n : ℕ) (ended : Bool) (out : List ℕ) (kept : ℕ)
+module _ (b : Book) (ls : List Line) (lent : ℕ) (input : List ℕ) (n : ℕ) (ended : Bool) (out : List ℕ) (kept : ℕ)
     (inside-is : inside input n ≡ true) (count : kept ≡ cond ended 0 (n % 13)) (room : 19 * ((length input + 12) / 13) ≤ length out) where
   there : n ≤ length input
   there = leb-true n (length input) inside-is
@@ -70,22 +72,24 @@ module _ (b : Book) (input : List ℕ) (n : ℕ) (ended : Bool) (out : List ℕ)
   fits-is = let t = there in let e = length-take-le (n - kept) input (omega arith) in le-leb (19 * recordCount records) (length out)
       (omega arith)
 
-  text-is : textAfter b input n ended ≡ runText b records
+  text-is : textAfter b ls lent input n ended ≡ blockText b ls lent records
   unfolding textAfter
-  text-is = ap (runText b) answered-is
+  text-is = ap (blockText b ls lent) answered-is
 
-  left-answered : (book : Book) (written : ℕ) (inputs outs : List ℕ)
-      → book ≡ blockBook b records (length out) → written ≡ blockWritten b records (length out) → outs ≡ blockBuffer b records out
+  left-answered : (book : Book) (lines : List Line) (written : ℕ) (inputs outs : List ℕ)
+      → book ≡ blockBook b ls lent records (length out) → lines ≡ blockLines b ls lent records (length out)
+      → written ≡ blockWritten b ls lent records (length out) → outs ≡ blockBuffer b ls lent records out
       → inputs ≡ take kept (drop (n - kept) input) ++ drop kept input
-      → Left b input n ended out true book written kept inputs outs
-  unfolding blockBook blockWritten blockBuffer bookAfter writtenAfter outAfter keptAfter inputAfter keptCount
-  left-answered book written inputs outs eb ew eo ei =
-      let book-is : book ≡ bookAfter b input n ended = eb ∙ rw (fits-is, inside-is, answered-is) in
-      let written-is : written ≡ writtenAfter b input n ended = ew ∙ rw (fits-is, inside-is, text-is) in
+      → Left b ls lent input n ended out true book lines written kept inputs outs
+  unfolding blockBook blockLines blockWritten blockBuffer bookAfter linesAfter writtenAfter outAfter keptAfter inputAfter keptCount
+  left-answered book lines written inputs outs eb el ew eo ei =
+      let book-is : book ≡ bookAfter b ls lent input n ended = eb ∙ rw (fits-is, inside-is, answered-is) in
+      let lines-are : lines ≡ linesAfter b ls lent input n ended = el ∙ rw (fits-is, inside-is, answered-is) in
+      let written-is : written ≡ writtenAfter b ls lent input n ended = ew ∙ rw (fits-is, inside-is, text-is) in
       let count-is : kept ≡ keptAfter input n ended = rw inside-is count in
       let input-is : inputs ≡ inputAfter input n ended = ei ∙ rw (inside-is, kept-is, count) in
-      let out-is : outs ≡ outAfter b input n ended out = eo ∙ rw (fits-is, inside-is, text-is) in
-      (sym inside-is, (book-is, (written-is, (count-is, (input-is, out-is)))))
+      let out-is : outs ≡ outAfter b ls lent input n ended out = eo ∙ rw (fits-is, inside-is, text-is) in
+      (sym inside-is, (book-is, (lines-are, (written-is, (count-is, (input-is, out-is))))))
 
 within-requires : tie.Need-within-requires
 within-requires c κs = search needs
@@ -93,7 +97,7 @@ within-requires c κs = search needs
 returns : tie.Need-returns
 returns c =
     let a = c .before .before .before .before .args in
-    left-refused (a .b) (a .input .now) (a .n) (a .ended) (a .out .now)
+    left-refused (a .b) (a .lines) (a .lent) (a .input .now) (a .n) (a .ended) (a .out .now)
     (sym (c .before .within .ensures) ∙ not-true (c .before .within .result) (c .if1 .taken))
 
 pick-requires : tie.Need-pick-requires
@@ -115,7 +119,7 @@ answer-first-requires c κs =
 
 move-front-requires : tie.Need-move-front-requires
 move-front-requires c κs =
-    let at-pick = c .before .before .before .before .before .before in
+    let at-pick = c .before .before .before .before .before .before .before in
     let at-test = at-pick .before in
     let a = at-test .before .before .before .before .args in
     let there : a .n ≤ length (a .input .now) = leb-true (a .n) (length (a .input .now))
@@ -125,16 +129,17 @@ move-front-requires c κs =
 
 returns-2 : tie.Need-returns-2
 returns-2 c =
-    let at-block = c .before .before .before in
+    let at-block = c .before .before .before .before in
     let at-pick = at-block .before .before .before .before in
     let at-test = at-pick .before in
     let a = at-test .before .before .before .before .args in
     let block = at-block .answer-first in
     left-answered
-    (a .b) (a .input .now) (a .n) (a .ended) (a .out .now) (at-pick .pick .result)
+    (a .b) (a .lines) (a .lent) (a .input .now) (a .n) (a .ended) (a .out .now) (at-pick .pick .result)
     (sym (at-test .before .within .ensures) ∙ not-false (at-test .before .within .result) (at-test .if1 .left)) (at-pick .pick .ensures)
     (omega arith)
-    (block .result .book) (block .result .written) _ _ (block .ensures .0) (block .ensures .1 .0) (block .ensures .1 .1)
+    (block .result .book) (block .result .lines) (block .result .written) _ _ (block .ensures .0) (block .ensures .1 .0)
+    (block .ensures .1 .1 .1 .0) (block .ensures .1 .1 .1 .1)
     (c .move-front .ensures)
 
 pub turn-spec : {M : Type 1} → statement M

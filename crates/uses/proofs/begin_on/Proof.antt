@@ -1,5 +1,6 @@
 -- `uses::begin_on` meets its contract: a grant's sums fit, since a grantable entry has room left.
-use Rattle.uses.specs.Room.{grant-room}
+use native.Mathlib.Omega.{arith}
+use Rattle.uses.specs.Room.{Narrow, grant-room}
 use Rattle.uses.specs.Uses.{kept, beginOn}
 use Prim.Native.Nat.{ℕ}
 use mathlib.Core.Path.{sym, ap, _∙_}
@@ -7,6 +8,17 @@ use borrow.Author.Tests.{le-leb, lt-leb, not-true, not-false}
 use borrow.Author.Needs.{needs}
 use Rattle.uses.proofs.begin_on.Statement.{statement}
 use Rattle.uses.proofs.begin_on.Tie as tie
+
+-- the numbers of limits and meters fit 32 bits
+narrow : (c : tie.Start) → Narrow (c .args .l) (c .args .m)
+narrow c = record {
+  countLimit = omega arith;
+  timedLimit = omega arith;
+  secondsLimit = omega arith;
+  count = omega arith;
+  timed = omega arith;
+  seconds = omega arith;
+}
 
 begin-code-requires : tie.Need-begin-code-requires
 begin-code-requires c κs = search needs
@@ -45,7 +57,7 @@ begun-meters-requires c κs =
     let a = c .before .before .before .before .before .args in
     rw (c .grant-until .ensures)
     (grant-room (a .ask) (a .l) (a .m) (sym (c .before .before .before .grantable .ensures) ∙ not-false _
-    (c .before .before .if1 .left)) (search needs))
+    (c .before .before .if1 .left)) (narrow (c .before .before .before .before .before)))
 
 momentary-requires : tie.Need-momentary-requires
 momentary-requires c κs = search needs

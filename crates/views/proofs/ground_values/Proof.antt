@@ -28,18 +28,22 @@ number-requires-6 c κs = search needs
 number-requires-7 : tie.Need-number-requires-7
 number-requires-7 c κs = search needs
 
+number-requires-8 : tie.Need-number-requires-8
+number-requires-8 c κs = search needs
+
 returns : tie.Need-returns
 unfolding groundValues
 returns c =
     rw (
-      c .number7 .ensures,
-      c .before .number6 .ensures,
-      c .before .before .number5 .ensures,
-      c .before .before .before .number4 .ensures,
-      c .before .before .before .before .number3 .ensures,
-      c .before .before .before .before .before .number2 .ensures,
-      c .before .before .before .before .before .before .number .ensures,
-      c .before .before .before .before .before .before .before .grounds-of .ensures,
+      c .number8 .ensures,
+      c .before .number7 .ensures,
+      c .before .before .number6 .ensures,
+      c .before .before .before .number5 .ensures,
+      c .before .before .before .before .number4 .ensures,
+      c .before .before .before .before .before .number3 .ensures,
+      c .before .before .before .before .before .before .number2 .ensures,
+      c .before .before .before .before .before .before .before .number .ensures,
+      c .before .before .before .before .before .before .before .before .grounds-of .ensures,
     )
 
 pub ground-values-spec : {M : Type 1} → statement M
@@ -54,4 +58,5 @@ ground-values-spec =
     number-requires-5
     number-requires-6
     number-requires-7
+    number-requires-8
     returns)

@@ -10,6 +10,9 @@ at-most-64-requires c κs = search needs
 asset-for-requires : tie.Need-asset-for-requires
 asset-for-requires c κs = search needs
 
+cast-asset-position : tie.Need-cast-asset-position
+cast-asset-position c = search needs
+
 asset-position-requires : tie.Need-asset-position-requires
 asset-position-requires c κs = search needs
 
@@ -35,6 +38,7 @@ entry-legal-spec =
     (tie.spec
     at-most-64-requires
     asset-for-requires
+    cast-asset-position
     asset-position-requires
     limits-for-requires
     limits-legal-requires

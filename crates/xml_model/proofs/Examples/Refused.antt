@@ -204,6 +204,7 @@ most = refl
 unfoldable pub book : ℕ → ℕ → Book
 book n m = record {
   time = 0;
+  switch = 0;
   assetcount = n;
   entrycount = m;
   assets = listed (λ i. record { number = suc i; inherit = 0; key = 0 }) 64;

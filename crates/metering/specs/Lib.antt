@@ -1,0 +1,3 @@
+-- Good lists, and what is recorded.
+pub mod Good
+pub mod Recording

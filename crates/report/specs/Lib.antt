@@ -1,0 +1,2 @@
+-- The lines of the usage report.
+pub mod Report
