@@ -2,7 +2,9 @@
 //!
 //!     days KIND EVENTS SEED FOLDER [ENTRIES [METERING]]
 //!
-//! writes FOLDER/rights.rbk and FOLDER/events.bin. The same arguments give the same bytes. The kinds of days:
+//! writes FOLDER/rights.rbk and FOLDER/events.bin, and as FOLDER/short.bin the same events in records of 13 bytes, for programs that
+//! know no others (before order 4 of document 02). The same arguments give the same bytes. No player has a boot number. The kinds of
+//! days:
 //!
 //!   small    five assets and six entries, random operations
 //!   full     64 assets and 64 entries over four parents, all kinds and flags, most begins granted
@@ -140,7 +142,7 @@ fn worst_book(entries: u32) -> Book {
 fn image_of(book: &Book, metering: Metering) -> Vec<u8> {
     let metered = metering != Metering::None;
     let mut data = b"RBK\0".to_vec();
-    data.extend([1 + metered as u8, book.assets.len() as u8, book.entries.len() as u8, 0, 0, 0, 0]);
+    data.extend([if metered { 3 } else { 1 }, book.assets.len() as u8, book.entries.len() as u8, 0, 0, 0, 0]);
     if metered {
         data.extend(((metering == Metering::On) as u32).to_be_bytes());
     }
@@ -161,7 +163,7 @@ fn image_of(book: &Book, metering: Metering) -> Vec<u8> {
             data.extend([1, 30, mark as u32].iter().flat_map(|field: &u32| field.to_be_bytes()));
         }
     }
-    data.extend(vec![0; 16 * if metered { 28 } else { 24 }]);
+    data.extend(vec![0; 16 * if metered { 32 } else { 24 }]);
     data
 }
 
@@ -188,12 +190,22 @@ fn begin(asset: u16, kind: u8) -> [u8; 4] {
 const CONTINUE: [u8; 4] = [2, 0, 0, 0];
 const STOP: [u8; 4] = [3, 0, 0, 0];
 
-fn record(player: usize, number: u32, request: [u8; 4], t: u32) -> [u8; 13] {
-    let mut data = [0; 13];
+const RECORD: usize = 17;
+
+fn record(player: usize, number: u32, request: [u8; 4], t: u32) -> [u8; RECORD] {
+    let mut data = [0; RECORD];
     data[0] = player as u8;
-    data[1..5].copy_from_slice(&number.to_be_bytes());
-    data[5..9].copy_from_slice(&request);
-    data[9..13].copy_from_slice(&t.to_be_bytes());
+    data[5..9].copy_from_slice(&number.to_be_bytes()); // the counter
+    data[9..13].copy_from_slice(&request);
+    data[13..17].copy_from_slice(&t.to_be_bytes());
+    data
+}
+
+/// The record without its boot number, which is 0.
+fn short(record: &[u8; RECORD]) -> [u8; 13] {
+    let mut data = [0; 13];
+    data[0] = record[0];
+    data[1..].copy_from_slice(&record[5..]);
     data
 }
 
@@ -203,28 +215,28 @@ impl Day {
     }
 
     /// The player's next request, in line and in time.
-    fn taken(&mut self, p: usize, request: [u8; 4]) -> [u8; 13] {
+    fn taken(&mut self, p: usize, request: [u8; 4]) -> [u8; RECORD] {
         let player = &mut self.players[p];
         player.number += 1;
         player.request = request;
         record(p, player.number, request, self.t)
     }
 
-    fn resend(&self, p: usize) -> [u8; 13] {
+    fn resend(&self, p: usize) -> [u8; RECORD] {
         record(p, self.players[p].number, self.players[p].request, self.t)
     }
 
-    fn small(&mut self) -> [u8; 13] {
+    fn small(&mut self) -> [u8; RECORD] {
         self.t += self.rng.below(4);
         self.by_chance()
     }
 
-    fn expire(&mut self) -> [u8; 13] {
+    fn expire(&mut self) -> [u8; RECORD] {
         self.t += 5 + self.rng.below(100);
         self.by_chance()
     }
 
-    fn by_chance(&mut self) -> [u8; 13] {
+    fn by_chance(&mut self) -> [u8; RECORD] {
         let p = self.rng.below(16) as usize;
         let asset = [1, 2, 3, 1, 2, 3, 7, 8][self.rng.below(8) as usize];
         let kind = [1, 1, 1, 2, 2, 4][self.rng.below(6) as usize];
@@ -241,7 +253,7 @@ impl Day {
         }
     }
 
-    fn full(&mut self, book: &Book) -> [u8; 13] {
+    fn full(&mut self, book: &Book) -> [u8; RECORD] {
         self.t += self.rng.below(3);
         let p = self.rng.below(16) as usize;
         let chance = self.rng.below(100);
@@ -264,7 +276,7 @@ impl Day {
         self.taken(p, begin(asset, kind))
     }
 
-    fn worst(&mut self) -> [u8; 13] {
+    fn worst(&mut self) -> [u8; RECORD] {
         self.t += self.rng.below(2);
         let p = self.rng.below(16) as usize;
         self.taken(p, begin(1, 4))
@@ -295,13 +307,17 @@ fn main() -> Result<()> {
     std::fs::create_dir_all(folder)?;
     std::fs::write(folder.join("rights.rbk"), image_of(&book, metering))?;
     let mut out = BufWriter::new(File::create(folder.join("events.bin"))?);
+    let mut older = BufWriter::new(File::create(folder.join("short.bin"))?);
     for _ in 0..events {
-        out.write_all(&match kind {
+        let record = match kind {
             "small" => day.small(),
             "expire" => day.expire(),
             "full" => day.full(&book),
             _ => day.worst(),
-        })?;
+        };
+        out.write_all(&record)?;
+        older.write_all(&short(&record))?;
     }
-    out.flush()
+    out.flush()?;
+    older.flush()
 }

@@ -1,9 +1,10 @@
 """Makes the days, compares the answers of the programs byte for byte, then times them: see bench/run.sh.
 
-    python3 bench/measure.py FOLDER [--more] [--metered] NAME=PROGRAM ...
+    python3 bench/measure.py FOLDER [--more] [--metered] [--short] NAME=PROGRAM ...
 
-FOLDER holds the program `days`. Ratios are of the first program's median to each other's. Two times are given, of the clock and of
-the processor (user and system); on a busy machine the second is more stable.
+FOLDER holds the program `days`. With --short the program named `before` gets the events in records of 13 bytes. Ratios are of the first
+program's median to each other's. Two times are given, of the clock and of the processor (user and system); on a busy machine the second
+is more stable.
 """
 
 import filecmp
@@ -19,9 +20,14 @@ RUNS = int(os.environ.get("RUNS", 7))
 SEED = os.environ.get("SEED", "1")
 
 
-def run_once(program, folder, output=os.devnull):
+def events_of(name):
+    """The file of events that a program reads."""
+    return "short.bin" if name == "before" and "--short" in sys.argv else "events.bin"
+
+
+def run_once(name, program, folder, output=os.devnull):
     """Seconds of the clock and of the processor of one run on the folder's day."""
-    with open(folder / "events.bin", "rb") as events, open(output, "wb") as out:
+    with open(folder / events_of(name), "rb") as events, open(output, "wb") as out:
         began = time.perf_counter()
         child = subprocess.Popen([program], cwd=folder, stdin=events, stdout=out)
         _, status, usage = os.wait4(child.pid, 0)
@@ -34,8 +40,8 @@ def run_once(program, folder, output=os.devnull):
 
 def compare(programs, folder):
     outputs = [folder / f"{name}.txt" for name, _ in programs]
-    for (_, program), output in zip(programs, outputs):
-        run_once(program, folder, output)
+    for (name, program), output in zip(programs, outputs):
+        run_once(name, program, folder, output)
     for other in outputs[1:]:
         if not filecmp.cmp(outputs[0], other, shallow=False):
             with open(outputs[0], "rb") as a, open(other, "rb") as b:
@@ -51,14 +57,15 @@ def measure(programs, bench, label, kind, events, entries=64, metering="none"):
     compare(programs, folder)
     times = [[] for _ in programs]
     for _ in range(RUNS):
-        for (_, program), found in zip(programs, times):
-            found.append(run_once(program, folder))
+        for (name, program), found in zip(programs, times):
+            found.append(run_once(name, program, folder))
     for which, unit in enumerate(("clock", "cpu")):
         columns = [[each[which] * 1e9 / events for each in found] for found in times]
         cells = [f"{median(c):>8.1f} {min(c):>7.1f}" + (f" {median(columns[0]) / median(c):>6.2f}" if k else "")
                  for k, c in enumerate(columns)]
         print(f"{label if which == 0 else '':>11} {events if which == 0 else '':>9} {unit:>5} " + " ".join(cells), flush=True)
-    (folder / "events.bin").unlink()
+    for name in ("events.bin", "short.bin"):
+        (folder / name).unlink()
 
 
 def heading(programs, text):

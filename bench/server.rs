@@ -34,24 +34,28 @@ const ACCUMULATED: u8 = 32;
 
 // ---- Formats: event records, images, lines of answers
 
-const RECORD: usize = 13;
+const RECORD: usize = 17;
 const HEADER: usize = 11; // mark, version, numbers and time, in every version
 const ASSET: usize = 5;
 
-/// The bytes of a header, an entry and a player in an image.
+/// The bytes of a header, an entry, a player and its number in an image.
 struct Widths {
     header: usize,
     entry: usize,
     player: usize,
+    number: usize,
 }
 
-const VERSIONS: [Widths; 2] =
-    [Widths { header: HEADER, entry: 51, player: 24 }, Widths { header: HEADER + 4, entry: 51 + 12, player: 24 + 4 }];
+const VERSIONS: [Widths; 3] = [
+    Widths { header: HEADER, entry: 51, player: 24, number: 4 },
+    Widths { header: HEADER + 4, entry: 51 + 12, player: 24 + 4, number: 4 },
+    Widths { header: HEADER + 4, entry: 51 + 12, player: 24 + 4 + 4, number: 8 },
+];
 
 /// An event record's numbers. Operation, asset and kind stay together as they are: the *request*.
 struct Event {
     player: usize,
-    number: u32,
+    number: u64, // the boot number in its upper half, the counter in its lower
     request: u32,
     t: u32,
 }
@@ -59,7 +63,8 @@ struct Event {
 #[inline(always)]
 fn event_of(record: &[u8; RECORD]) -> Event {
     let word = |at: usize| u32::from_be_bytes([record[at], record[at + 1], record[at + 2], record[at + 3]]);
-    Event { player: record[0] as usize, number: word(1), request: word(5), t: word(9) }
+    let number = (word(1) as u64) << 32 | word(5) as u64;
+    Event { player: record[0] as usize, number, request: word(9), t: word(13) }
 }
 
 #[inline(always)]
@@ -76,10 +81,10 @@ fn asset_and_kind(request: u32) -> (u16, u8) {
 struct Fields<'a>(&'a [u8]);
 
 impl Fields<'_> {
-    fn number(&mut self, size: usize) -> u32 {
+    fn number(&mut self, size: usize) -> u64 {
         let (field, rest) = self.0.split_at(size);
         self.0 = rest;
-        field.iter().fold(0, |value, &byte| value << 8 | byte as u32)
+        field.iter().fold(0, |value, &byte| value << 8 | byte as u64)
     }
     fn u8(&mut self) -> u8 {
         self.number(1) as u8
@@ -88,7 +93,7 @@ impl Fields<'_> {
         self.number(2) as u16
     }
     fn u32(&mut self) -> u32 {
-        self.number(4)
+        self.number(4) as u32
     }
     /// A field that a later version added: 0 in an image that lacks it.
     fn added(&mut self) -> u32 {
@@ -127,7 +132,7 @@ struct Stored {
 
 struct StoredPlayer {
     blank: bool,
-    number: u32,
+    number: u64,
     request: u32,
     answer: Answer,
     open: u8,
@@ -176,11 +181,11 @@ fn entry_of(data: &[u8]) -> Stored {
     }
 }
 
-fn player_of(data: &[u8]) -> StoredPlayer {
+fn player_of(data: &[u8], number: usize) -> StoredPlayer {
     let mut f = Fields(data);
     StoredPlayer {
         blank: data.iter().all(|&byte| byte == 0),
-        number: f.u32(),
+        number: f.number(number),
         request: f.u32(),
         answer: Answer { code: f.u8(), entry: f.u8(), until: f.u32() },
         open: f.u8(),
@@ -217,7 +222,7 @@ fn read_image(data: &[u8]) -> Result<Image, u8> {
         switch: Fields(&data[HEADER..widths.header]).added(),
         assets: data[widths.header..entries_at].chunks(ASSET).map(asset_of).collect(),
         entries: data[entries_at..players_at].chunks(widths.entry).map(entry_of).collect(),
-        players: data[players_at..].chunks(widths.player).map(player_of).collect(),
+        players: data[players_at..].chunks(widths.player).map(|data| player_of(data, widths.number)).collect(),
     };
     match image.refusal() {
         Some(number) => Err(number),
@@ -442,9 +447,10 @@ fn request_is_good(request: u32) -> bool {
     }
 }
 
+/// The next number, or counter 1 under a greater boot number.
 #[inline(always)]
-fn is_in_line(last: u32, number: u32) -> bool {
-    last != u32::MAX && number == last + 1
+fn is_in_line(last: u64, number: u64) -> bool {
+    last != u64::MAX && number == last + 1 || number as u32 == 1 && number >> 32 > last >> 32
 }
 
 #[inline(always)]
@@ -588,7 +594,7 @@ impl Entry {
 
 #[derive(Clone, Copy)]
 struct Player {
-    number: u32,
+    number: u64,
     request: u32,
     answer: Answer,
     open_entry: u8,

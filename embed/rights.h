@@ -32,7 +32,7 @@ enum {
     RIGHTS_OK = 0,
     RIGHTS_IMAGE_LENGTH = 20,  /* the image is too short, its length is not what its header says, or it is more than the room */
     RIGHTS_IMAGE_MARK = 21,    /* it does not begin with RBK */
-    RIGHTS_IMAGE_VERSION = 22, /* its version is not 1 or 2 */
+    RIGHTS_IMAGE_VERSION = 22, /* its version is not 1, 2 or 3 */
     RIGHTS_IMAGE_HEADER = 23,  /* more than 64 assets or entries, or a time that is too late */
     RIGHTS_IMAGE_ASSETS = 24,  /* a rule on assets is broken */
     RIGHTS_IMAGE_ENTRIES = 25, /* a rule on entries is broken */
@@ -51,10 +51,10 @@ enum {
     /* turned away: the book is as it was, and the number is still free */
     RIGHTS_BAD_REQUEST = 1,    /* no such operation or kind, or a continue or stop that names an asset or a kind */
     RIGHTS_BAD_PLAYER = 2,     /* the player is above 15 */
-    RIGHTS_OUT_OF_LINE = 3,    /* the number is not the player's next */
+    RIGHTS_OUT_OF_LINE = 3,    /* the number is neither the player's next nor counter 1 under a greater boot number */
     RIGHTS_NUMBER_USED = 4,    /* the player's last number, with another request */
     RIGHTS_BAD_TIME = 5,       /* before the book's time, or after 4,000,000,000 */
-    RIGHTS_CUT_SHORT = 6,      /* fewer than 13 bytes */
+    RIGHTS_CUT_SHORT = 6,      /* fewer than 17 bytes */
     RIGHTS_BAD_LIST = 30,      /* the list of lines that is lent is not good: judged before all else */
     /* taken and refused: the book has changed, and the number is used up */
     RIGHTS_NO_ASSET = 10,      /* the asset is not in the book, or has key 0 */
@@ -81,10 +81,10 @@ enum {
 };
 
 enum {
-    RIGHTS_RECORD = 13,          /* bytes of an event record */
+    RIGHTS_RECORD = 17,          /* bytes of an event record */
     RIGHTS_LINE = 19,            /* the longest line of an answer, including its line feed */
     RIGHTS_NO_ENTRY = 255,       /* the entry in an answer that is no grant */
-    RIGHTS_LONGEST_IMAGE = 4815, /* bytes of an image with 64 assets and 64 entries: room for any next image */
+    RIGHTS_LONGEST_IMAGE = 4879, /* bytes of an image with 64 assets and 64 entries: room for any next image */
     RIGHTS_LINES = 64,           /* the most lines of a list */
     RIGHTS_PLAYERS = 16,
     RIGHTS_STACK = 524288,       /* bytes of stack that are enough for any call but rights_from_xml (docs/EMBEDDING.md) */
@@ -94,12 +94,15 @@ enum {
 /* An event record, big-endian, at these offsets. */
 enum {
     RIGHTS_RECORD_PLAYER = 0,    /* 1 byte */
-    RIGHTS_RECORD_NUMBER = 1,    /* 4 bytes */
-    RIGHTS_RECORD_OPERATION = 5, /* 1 byte */
-    RIGHTS_RECORD_ASSET = 6,     /* 2 bytes */
-    RIGHTS_RECORD_KIND = 8,      /* 1 byte */
-    RIGHTS_RECORD_TIME = 9       /* 4 bytes */
+    RIGHTS_RECORD_NUMBER = 1,    /* 8 bytes */
+    RIGHTS_RECORD_OPERATION = 9, /* 1 byte */
+    RIGHTS_RECORD_ASSET = 10,    /* 2 bytes */
+    RIGHTS_RECORD_KIND = 12,     /* 1 byte */
+    RIGHTS_RECORD_TIME = 13      /* 4 bytes */
 };
+
+/* The number of an event: the boot number in its upper 32 bits, 0 for a player that has none, and the counter in its lower ones. */
+#define RIGHTS_NUMBER(boot, counter) ((uint64_t)(boot) << 32 | (uint32_t)(counter))
 
 /* The bytes that out needs for that many bytes of records. A last record that is cut short counts as one. */
 #define RIGHTS_ROOM(records_length) (((size_t)(records_length) + RIGHTS_RECORD - 1) / RIGHTS_RECORD * RIGHTS_LINE)
@@ -125,7 +128,7 @@ uint8_t rights_check(const uint8_t *image, size_t image_length);
  * image         a buffer of image_room bytes. In: it starts with the image of the book. Out: with that of the book after the
  *               last record. Bytes after the next image are unchanged.
  * image_length  how many bytes of the buffer are the image. In: its length, at most image_room. Out: the next image's length.
- * records       the event records, 13 bytes each, one after another; a last one cut short is answered too. Only read.
+ * records       the event records, 17 bytes each, one after another; a last one cut short is answered too. Only read.
  * out           out: a line "code entry until" for each record, with a line feed and no 0 at the end. Bytes after the
  *               text are unchanged.
  * written       out: the length of the text.
@@ -144,22 +147,22 @@ uint8_t rights_answer(uint8_t *image, size_t image_room, uint64_t *image_length,
  * numbers: the same next image and list, and the numbers that its line would have.
  *
  * image, image_length  the buffer and the image's length, as for rights_answer.
- * player .. time       the event: operation RIGHTS_BEGIN, asset and kind as asked; or RIGHTS_CONTINUE or RIGHTS_STOP
- *                      with asset 0 and kind 0. Time is in seconds since 1970-01-01 UTC.
+ * player .. time       the event: its number, RIGHTS_NUMBER(boot, counter); operation RIGHTS_BEGIN, asset and kind as asked; or
+ *                      RIGHTS_CONTINUE or RIGHTS_STOP with asset 0 and kind 0. Time is in seconds since 1970-01-01 UTC.
  * code, entry, until   out: the answer. A code other than 0 comes with entry 255 and until 0.
  * report               the list of lines, as for rights_answer.
  *
  * Returns 0 if the event was answered, whatever the answer, or 20 to 27 if the image is refused (20 too if *image_length is
  * above image_room), or 30 if image_room is less than the next image needs. */
 uint8_t rights_answer_one(uint8_t *image, size_t image_room, uint64_t *image_length,
-                          uint8_t player, uint32_t number, uint8_t operation,
+                          uint8_t player, uint64_t number, uint8_t operation,
                           uint16_t asset, uint8_t kind, uint32_t time,
                           uint8_t *code, uint8_t *entry, uint32_t *until,
                           struct rights_line *report, size_t report_length);
 
-/* Puts the 13 bytes of the record that holds these numbers at the start of out, whether or not they make a legal event.
+/* Puts the 17 bytes of the record that holds these numbers at the start of out, whether or not they make a legal event.
  * Returns 0, or 30 if out is shorter than RIGHTS_RECORD. */
-uint8_t rights_record(uint8_t player, uint32_t number, uint8_t operation,
+uint8_t rights_record(uint8_t player, uint64_t number, uint8_t operation,
                       uint16_t asset, uint8_t kind, uint32_t time,
                       uint8_t *out, size_t out_length);
 
@@ -258,9 +261,9 @@ enum {
 uint8_t rights_grounds(const uint8_t *image, size_t image_length, uint32_t position, uint8_t player, uint32_t time,
                        uint32_t *out, size_t out_length);
 
-/* A player, 0 to 15: the last event taken from it with its answer (number 0: none yet), and the open use. */
+/* A player, 0 to 15: the last event taken from it with its answer (boot number and counter 0: none yet), and the open use. */
 enum {
-    RIGHTS_PLAYER_NUMBER,
+    RIGHTS_PLAYER_COUNTER,    /* of its number */
     RIGHTS_PLAYER_OPERATION,
     RIGHTS_PLAYER_ASSET,
     RIGHTS_PLAYER_KIND,
@@ -272,6 +275,7 @@ enum {
     RIGHTS_PLAYER_OPEN_BEGIN,
     RIGHTS_PLAYER_OPEN_UNTIL,
     RIGHTS_PLAYER_CONTENT,    /* the asset that the open use shows */
+    RIGHTS_PLAYER_BOOT,       /* of its number: RIGHTS_NUMBER(boot, counter) */
     RIGHTS_PLAYER_NUMBERS
 };
 

@@ -22,6 +22,7 @@ from rights import (ACCUMULATED, BEGIN, CONTINUE, COUNT, END, INTERVAL, LAST_NUM
 
 STORED = Path(__file__).resolve().parent.parent / "crates" / "test_days"
 TOP = 4_294_967_295         # the greatest 32-bit number
+BOOT = 2 ** 32              # what one boot number makes of a player's number
 ZERO = 0.1                  # how many of the flagged counts, timed counts, intervals and accumulated are 0
 OLD = 0.2                   # how many of the images are of an older version
 
@@ -167,10 +168,11 @@ def nothing_more(rng, book):
 
 
 def make_old(rng, book):
-    """Gives some players numbers close to the last one, as after very many events."""
+    """Gives some players numbers close to the last one, or to the last counter of a boot number, as after very many events."""
     for player in book.players:
         if player.number != 0 and rng.random() < 0.6:
-            player.number = rng.choice((TOP, TOP - 1, TOP - 2, TOP - 9, 65_535, 16_777_215))
+            counter = rng.choice((TOP, TOP - 1, TOP - 2, TOP - 9, 65_535, 16_777_215))
+            player.number = BOOT * rng.choice((0, 0, 1, 255, 65_535, 2 ** 31, TOP - 1, TOP, TOP)) + counter
 
 
 # ---- Events
@@ -190,6 +192,25 @@ def edges(book, t):
     return [time for time in found if book.time <= time <= book.time + 300] or [t]
 
 
+def next_number(rng, last):
+    """A number in line after the last one: mostly the next, sometimes counter 1 of a greater boot number; the last number if there is
+    none."""
+    boot = last // BOOT
+    if boot < TOP and rng.random() < 0.06:
+        far = rng.randint(1, TOP - boot) // rng.choice((1, 4, 1000)) + 1
+        return BOOT * min(boot + rng.choice((1, 1, 2, 256, 70_000, far)), TOP) + 1
+    return min(last + 1, LAST_NUMBER)
+
+
+def other_number(rng, last):
+    """A number close to those in line: mostly not, or no longer, in line."""
+    boot, counter = divmod(last, BOOT)
+    number = rng.choice((
+        0, last, last + 2, last - 1, last + 1 - BOOT, last + 1 + BOOT, BOOT * (boot + 1), BOOT * (boot + 1) + 2, BOOT * boot + 1,
+        BOOT * (boot - 1) + 1, BOOT * boot, BOOT * (boot + 1) + counter, (last + 1) % BOOT, last + 1))
+    return min(max(number, 0), LAST_NUMBER)
+
+
 def next_event(rng, book, around):
     """An event for the current book: mostly in line, sometimes a resend or one to be turned away."""
     index = rng.choice((0, 0, 1, 1, 2, 3, rng.randrange(16)))
@@ -201,9 +222,9 @@ def next_event(rng, book, around):
     if chance < 0.15 and player.number != 0:
         asset = player.asset if rng.random() < 0.8 else 1
         return Event(index, player.number, player.operation, asset, player.kind, rng.choice((t, 0, LATEST + 1)))
-    number = min(player.number + 1, LAST_NUMBER)
+    number = next_number(rng, player.number)
     if chance < 0.20:
-        number = rng.choice((0, player.number, min(player.number + 2, LAST_NUMBER), max(player.number - 1, 0)))
+        number = other_number(rng, player.number)
     if chance > 0.97:
         t = rng.choice((max(book.time - 1, 0), LATEST + 1, TOP))
     elif chance > 0.95:
@@ -239,7 +260,7 @@ class Cabins:
         t = min(LATEST, max(book.time, around) + rng.choice((0, 1, 2, 5, 15)))
         request = self.unheard.pop(index, None)
         if request is None:
-            number = min(player.number + 1, LAST_NUMBER)
+            number = next_number(rng, player.number)
             if player.open:
                 request = (number, rng.choice((CONTINUE, STOP)), 0, 0)
             else:
@@ -291,14 +312,26 @@ def make_day(seed, length, kind=None, around=None):
     cabins = Cabins(rng, book) if kind == "cabins" else None
     records, lines = play(rng, book, around, cabins, length)
     if rng.random() < 0.3:
-        records.append(rng.randbytes(rng.randint(1, 12)))
+        records.append(rng.randbytes(rng.randint(1, rights.RECORD.size - 1)))
         lines.append("6 255 0\n")
     return image, b"".join(records), "".join(lines)
 
 
+def with_short_numbers(book):
+    """The book with its players' counters alone, as an image before version 3 can hold them; not 0 where the number was not."""
+    book = copy.deepcopy(book)
+    for player in book.players:
+        if player.number:
+            player.number = player.number % BOOT or TOP
+    return book
+
+
 def stored(rng, book):
     """An image of the book and the book that it is read as. An older version has lost what it has no field for."""
-    image = rights.write(book, 1 if rng.random() < OLD else rights.NEWEST)
+    if rng.random() < OLD:
+        image = rights.write(with_short_numbers(book), rng.choice((1, 2)))
+    else:
+        image = rights.write(book)
     code, book = rights.read(image)
     assert code == 0
     return image, book
@@ -323,9 +356,10 @@ def damaged_limit(rng, book):
 
 
 def damaged_track(rng, book):
-    """The image of the book with another switch, track or content, whether or not that meets the rules."""
+    """The image of the book with another switch, track, content or number, whether or not that meets the rules."""
     entry, player = rng.choice(book.entries), rng.choice([each for each in book.players if each.open] or book.players)
-    thing, field = rng.choice(((book, "switch"), (entry, "tracked"), (entry, "timed_value"), (entry, "mark"), (player, "content")))
+    thing, field = rng.choice(((book, "switch"), (entry, "tracked"), (entry, "timed_value"), (entry, "mark"), (player, "content"),
+                               (player, "number")))
     contents = [asset.number for asset in book.assets]
     setattr(thing, field, rng.choice((0, 1, 2, 256, 65_536, 16_777_216, TOP, rng.choice(contents), rng.choice(contents))))
     return rights.write(book)
@@ -335,7 +369,7 @@ def damaged_bytes(rng, book):
     """The image of the book with a few bytes changed, cut off or added; None for a missing file."""
     image = bytearray(stored(rng, book)[0])
     if rng.random() < 0.05:
-        image[4] = rng.choice((0, 1, 2, 3, 255))        # another version, the length as it was
+        image[4] = rng.choice((0, 1, 2, 3, 4, 255))        # another version, the length as it was
     for _ in range(rng.randint(1, 2)):
         image[rng.randrange(len(image))] = rng.choice((0, 1, 2, 255, rng.randrange(256)))
     chance = rng.random()
@@ -344,7 +378,7 @@ def damaged_bytes(rng, book):
     if chance < 0.15:
         image = image[:rng.randrange(len(image))]
     elif chance < 0.2:
-        image += rng.randbytes(rng.choice((1, 13, 4000)))
+        image += rng.randbytes(rng.choice((1, 64, 4000)))
     return bytes(image)
 
 

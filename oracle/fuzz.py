@@ -54,7 +54,7 @@ def ask(program, folder, image, events, pieces):
     rng, at = random.Random(len(events)), 0
     try:
         while at < len(events):
-            size = rng.choice((1, 5, 12, 13, 14, 26, 400))
+            size = rng.choice((1, 5, 13, 16, 17, 18, 34, 400))
             child.stdin.write(events[at:at + size])
             at += size
             time.sleep(0.0002)

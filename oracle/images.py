@@ -1,14 +1,13 @@
 """Makes the stored image cases: python3 oracle/images.py
 
 Each case is a base book or its image with a few small edits, and the answer that documents 01 and 02 give, which is
-written here by hand. The reader of rights.py must agree with every one of them, or nothing is written. A case that speaks of no field
-that version 2 adds is made of both versions; an older image that is accepted is written back as the newest, widened with zeros. The
-script writes
+written here by hand. The reader of rights.py must agree with every one of them, or nothing is written. A case is made of each version
+that can say it; an older image that is accepted is written back as the newest, widened with zeros. The script writes
 
   crates/test_images/data/cases.bin   for each case its length in 16 bits, big-endian, then its bytes, to the end of file
   crates/test_images/stdout           for each case one line: the number of a refusal, or 0, a space, and the bytes that
                                  the book read from it is written back as, in hexadecimal
-  crates/bench_image/data/full.rbk  one image of the greatest size
+  crates/bench_image/data/full.rbk  one image of the greatest size; crates/bench_image/stdout  its answer and its length
   oracle/images.txt              for each case its answer, its length, its version, its name, its base and its edits
 
 Edits are words: `time N`; `switch N`; `asset I FIELD N`, `entry I FIELD N` and `player I FIELD N` set a field of a record;
@@ -119,11 +118,19 @@ def watching():
 
 
 def full_and_tracked():
-    """The book `full` with every added field as great as may be."""
+    """The book `full` with every field that version 2 adds as great as may be."""
     book = full()
     book.switch = 1
     for entry in book.entries:
         entry.tracked, entry.timed_value, entry.mark = 1, 4_294_967_295, 1
+    return book
+
+
+def full_and_long():
+    """The same with the greatest numbers of 64 bits."""
+    book = full_and_tracked()
+    for i, player in enumerate(book.players):
+        player.number = 2 ** 64 - 1 - i
     return book
 
 
@@ -146,14 +153,19 @@ def image(version, base, edits):
     return rights.write(book, version) if data is None else data
 
 
+WIDTHS = {1: (0, 51, 24), 2: (4, 63, 28)}       # of an older version: the header behind its first 11 bytes, an entry, a player
+
+
 def widened(data):
-    """An image of version 1 as one of version 2, without a look at the book: the added fields are 0."""
-    assets, entries, at, parts = data[5], data[6], 11, []
-    for how_many, size, more in ((assets, 5, 0), (entries, 51, 12), (16, 24, 4)):
+    """An image of an older version as one of version 3, without a look at the book: the added fields are 0, and 32 zero bits stand in
+    front of each player's number."""
+    header, entry, player = WIDTHS[data[4]]
+    at, parts = 11 + header, [data[:4] + b"\3" + data[5:11] + data[11:11 + header].ljust(4, b"\0")]
+    for how_many, size, front, full_size in ((data[5], 5, 0, 5), (data[6], entry, 0, 63), (16, player, 4, 32)):
         for _ in range(how_many):
-            parts.append(data[at:at + size] + bytes(more))
+            parts.append((bytes(front) + data[at:at + size]).ljust(full_size, b"\0"))
             at += size
-    return data[:4] + b"\2" + data[5:11] + bytes(4) + b"".join(parts)
+    return b"".join(parts)
 
 
 def edited_bytes(data, word, numbers):
@@ -191,10 +203,10 @@ def edit_book(book, word, rest):
 # ---- The cases: answer, name, version, base, edits; GROUPS below has all of them
 
 CASES = []
-BOTH, NEWEST = (2, 1), (2,)
+ALL, TRACKS, LONG = (3, 2, 1), (3, 2), (3,)     # versions that have what a case speaks of: any, those with tracks, with long numbers
 
 
-def case(answer, name, base, edits="", versions=BOTH):
+def case(answer, name, base, edits="", versions=ALL):
     CASES.extend((answer, name, version, base, edits) for version in versions)
 
 
@@ -211,22 +223,24 @@ def good_books():
 
 
 # The length of an image of `empty`, of `busy` and of the greatest size; with 65 assets alone, with 65 entries alone.
-SIZES = {1: (395, 619, 3979, 720, 3710), 2: (463, 735, 4815, 788, 4558)}
+SIZES = {1: (395, 619, 3979, 720, 3710), 2: (463, 735, 4815, 788, 4558), 3: (527, 799, 4879, 852, 4622)}
 
 
 def header():
     for length in (0, 1):
-        case(20, f"{length} bytes", empty, f"length {length}", NEWEST)
+        case(20, f"{length} bytes", empty, f"length {length}", LONG)
     case(20, "10 bytes", empty, "length 10")
     case(20, "the header's first 11 bytes alone", empty, "length 11")
     case(20, "the header's first 11 bytes alone, with counts", busy, "length 11")
-    case(20, "the header alone", empty, "length 15", NEWEST)
+    case(20, "the header alone", empty, "length 15", TRACKS)
     for version, (least, middle, most, _, _) in SIZES.items():
         for base, size in ((empty, least), (busy, middle), (full, most)):
             case(20, f"{base.__name__}, one byte short", base, f"length {size - 1}", (version,))
             case(20, f"{base.__name__}, one byte long", base, f"length {size + 1}", (version,))
             case(20, f"{base.__name__}, 10,000 bytes", base, "length 10000", (version,))
-            case(20, f"{base.__name__}, the length of the other version", base, f"byte 4 {3 - version}", (version,))
+            for other in SIZES:
+                if other != version:
+                    case(20, f"{base.__name__}, the length of version {version}", base, f"byte 4 {other}", (version,))
     case(20, "an asset too few for its count", bare, "byte 5 2")
     case(20, "an asset too many for its count", bare, "byte 5 0")
     case(20, "an entry too few for its count", bare, "byte 6 2")
@@ -237,11 +251,12 @@ def header():
     case(21, "mark of an image of 11 bytes", empty, "byte 0 0; length 11")
     case(21, "mark of 10,000 bytes", empty, "byte 2 0; length 10000")
     case(22, "version 0", empty, "byte 4 0")
-    case(22, "version 3", empty, "byte 4 3")
+    case(22, "version 4", empty, "byte 4 4")
     case(22, "version 255", empty, "byte 4 255")
-    case(22, "version 257 or 258", empty, "byte 3 1")
+    case(22, "256 more than its version", empty, "byte 3 1")
     case(22, "version 256", empty, "byte 3 1; byte 4 0")
-    case(22, "version 512", empty, "byte 3 2; byte 4 0", NEWEST)
+    for high in (2, 3):
+        case(22, f"version {256 * high}", empty, f"byte 3 {high}; byte 4 0", LONG)
     case(23, "65 assets, header alone", empty, "byte 5 65; length 11")
     for version, (_, _, _, many_assets, many_entries) in SIZES.items():
         case(23, "65 assets, of the fitting length", empty, f"byte 5 65; length {many_assets}", (version,))
@@ -595,94 +610,120 @@ ABOVE = (2, 3, 255, 256, 257, 65_536, 65_537, 16_777_216, 16_777_217, 2_147_483_
 
 def switches():
     for base in (empty, bare, busy, full):
-        case(0, f"{base.__name__}, switch 1", base, "switch 1", NEWEST)
+        case(0, f"{base.__name__}, switch 1", base, "switch 1", TRACKS)
     for number in ABOVE:
-        case(26, f"switch {number}", bare, f"switch {number}", NEWEST)
-    case(26, "switch 2, no assets and no entries", empty, "switch 2", NEWEST)
-    case(26, "switch 2 where it was on", watching, "switch 2", NEWEST)
+        case(26, f"switch {number}", bare, f"switch {number}", TRACKS)
+    case(26, "switch 2, no assets and no entries", empty, "switch 2", TRACKS)
+    case(26, "switch 2 where it was on", watching, "switch 2", TRACKS)
 
 
 def tracks():
     on = "entry 0 tracked 1"
     for switch in ("", "switch 1; "):
         told = "switch on" if switch else "switch off"
-        case(0, f"tracked, {told}", bare, switch + on, NEWEST)
-        case(0, f"tracked with a mark, {told}", bare, switch + on + "; entry 0 mark 1", NEWEST)
+        case(0, f"tracked, {told}", bare, switch + on, TRACKS)
+        case(0, f"tracked with a mark, {told}", bare, switch + on + "; entry 0 mark 1", TRACKS)
         for value in (1, 60, 4_294_967_295):
-            case(0, f"tracked, timed value {value}, {told}", bare, switch + on + f"; entry 0 timed_value {value}", NEWEST)
-            case(25, f"untracked, timed value {value}, {told}", bare, switch + f"entry 0 timed_value {value}", NEWEST)
-        case(0, f"tracked, timed value and mark, {told}", bare, switch + on + "; entry 0 timed_value 30; entry 0 mark 1", NEWEST)
-        case(25, f"untracked with a mark, {told}", bare, switch + "entry 0 mark 1", NEWEST)
-        case(25, f"untracked, timed value and mark, {told}", bare, switch + "entry 0 timed_value 30; entry 0 mark 1", NEWEST)
+            case(0, f"tracked, timed value {value}, {told}", bare, switch + on + f"; entry 0 timed_value {value}", TRACKS)
+            case(25, f"untracked, timed value {value}, {told}", bare, switch + f"entry 0 timed_value {value}", TRACKS)
+        case(0, f"tracked, timed value and mark, {told}", bare, switch + on + "; entry 0 timed_value 30; entry 0 mark 1", TRACKS)
+        case(25, f"untracked with a mark, {told}", bare, switch + "entry 0 mark 1", TRACKS)
+        case(25, f"untracked, timed value and mark, {told}", bare, switch + "entry 0 timed_value 30; entry 0 mark 1", TRACKS)
         for number in ABOVE:
-            case(25, f"tracked {number}, {told}", bare, switch + f"entry 0 tracked {number}", NEWEST)
-            case(25, f"tracked {number} with a mark, {told}", bare, switch + f"entry 0 tracked {number}; entry 0 mark 1", NEWEST)
-            case(25, f"mark {number}, {told}", bare, switch + on + f"; entry 0 mark {number}", NEWEST)
+            case(25, f"tracked {number}, {told}", bare, switch + f"entry 0 tracked {number}", TRACKS)
+            case(25, f"tracked {number} with a mark, {told}", bare, switch + f"entry 0 tracked {number}; entry 0 mark 1", TRACKS)
+            case(25, f"mark {number}, {told}", bare, switch + on + f"; entry 0 mark {number}", TRACKS)
     for kind in (2, 3, 4, 5):
-        case(0, f"tracked, kind {kind}", bare, f"entry 0 kind {kind}; " + on + "; entry 0 timed_value 7", NEWEST)
-        case(25, f"untracked, timed value 7, kind {kind}", bare, f"entry 0 kind {kind}; entry 0 timed_value 7", NEWEST)
-    case(0, "tracked, every flag", limited, on + "; entry 0 timed_value 200", NEWEST)
-    case(25, "tracked, and a limit without its flag", bare, on + "; entry 0 count 1", NEWEST)
-    case(0, "tracked, every limit 0", bare, on + "; entry 0 flags 63", NEWEST)
-    case(0, "the second entry tracked", crowded, "entry 1 tracked 1; entry 1 mark 1", NEWEST)
-    case(25, "the second entry untracked with a mark, the first tracked", crowded, on + "; entry 1 mark 1", NEWEST)
-    case(25, "the second entry untracked with a timed value, the first tracked", crowded, on + "; entry 1 timed_value 1", NEWEST)
-    case(0, "64 tracked entries, 16 open uses", full_and_tracked, "", NEWEST)
-    case(25, "mark 2 in the last of 64 entries", full_and_tracked, "entry 63 mark 2", NEWEST)
-    case(25, "the last of 64 entries untracked, the rest of its track left", full_and_tracked, "entry 63 tracked 0", NEWEST)
+        case(0, f"tracked, kind {kind}", bare, f"entry 0 kind {kind}; " + on + "; entry 0 timed_value 7", TRACKS)
+        case(25, f"untracked, timed value 7, kind {kind}", bare, f"entry 0 kind {kind}; entry 0 timed_value 7", TRACKS)
+    case(0, "tracked, every flag", limited, on + "; entry 0 timed_value 200", TRACKS)
+    case(25, "tracked, and a limit without its flag", bare, on + "; entry 0 count 1", TRACKS)
+    case(0, "tracked, every limit 0", bare, on + "; entry 0 flags 63", TRACKS)
+    case(0, "the second entry tracked", crowded, "entry 1 tracked 1; entry 1 mark 1", TRACKS)
+    case(25, "the second entry untracked with a mark, the first tracked", crowded, on + "; entry 1 mark 1", TRACKS)
+    case(25, "the second entry untracked with a timed value, the first tracked", crowded, on + "; entry 1 timed_value 1", TRACKS)
+    case(0, "64 tracked entries, 16 open uses", full_and_tracked, "", TRACKS)
+    case(25, "mark 2 in the last of 64 entries", full_and_tracked, "entry 63 mark 2", TRACKS)
+    case(25, "the last of 64 entries untracked, the rest of its track left", full_and_tracked, "entry 63 tracked 0", TRACKS)
 
 
 def kept_contents():
-    case(0, "a tracked entry open", watching, "", NEWEST)
-    case(0, "a tracked entry open, switch off", watching, "switch 0", NEWEST)
-    case(26, "tracked, content 0", watching, "player 0 content 0", NEWEST)
-    case(26, "tracked, content 0, switch off", watching, "player 0 content 0; switch 0", NEWEST)
-    case(26, "tracked, content 0, mark 1", watching, "player 0 content 0; entry 0 mark 1", NEWEST)
+    case(0, "a tracked entry open", watching, "", TRACKS)
+    case(0, "a tracked entry open, switch off", watching, "switch 0", TRACKS)
+    case(26, "tracked, content 0", watching, "player 0 content 0", TRACKS)
+    case(26, "tracked, content 0, switch off", watching, "player 0 content 0; switch 0", TRACKS)
+    case(26, "tracked, content 0, mark 1", watching, "player 0 content 0; entry 0 mark 1", TRACKS)
     untracked = "entry 0 tracked 0; entry 0 timed_value 0"
-    case(0, "untracked, content 0", watching, untracked + "; player 0 content 0", NEWEST)
-    case(0, "untracked, content 0, switch off", watching, untracked + "; player 0 content 0; switch 0", NEWEST)
-    case(0, "untracked, with its content", watching, untracked, NEWEST)
+    case(0, "untracked, content 0", watching, untracked + "; player 0 content 0", TRACKS)
+    case(0, "untracked, content 0, switch off", watching, untracked + "; player 0 content 0; switch 0", TRACKS)
+    case(0, "untracked, with its content", watching, untracked, TRACKS)
     for name, edits in (("tracked", ""), ("untracked", untracked + "; ")):
-        case(0, f"{name}, the content a parent", watching, edits + "player 0 content 9", NEWEST)
-        case(0, f"{name}, the content illegal", watching, edits + "player 0 content 300", NEWEST)
+        case(0, f"{name}, the content a parent", watching, edits + "player 0 content 9", TRACKS)
+        case(0, f"{name}, the content illegal", watching, edits + "player 0 content 300", TRACKS)
         for content in (2, 8, 10, 256, 257, 44, 556, 65_535, 65_537, 65_836, 16_777_217, 4_294_967_295):
-            case(26, f"{name}, content {content}, not in the book", watching, edits + f"player 0 content {content}", NEWEST)
-    case(0, "content other than in the stored request", busy, "player 1 content 2", NEWEST)
-    case(0, "content that the entry does not suit", busy, "player 4 content 7", NEWEST)
+            case(26, f"{name}, content {content}, not in the book", watching, edits + f"player 0 content {content}", TRACKS)
+    case(0, "content other than in the stored request", busy, "player 1 content 2", TRACKS)
+    case(0, "content that the entry does not suit", busy, "player 4 content 7", TRACKS)
     for player in (0, 3):
         for content in (1, 8, 4_294_967_295):
-            case(26, f"player {player} has nothing open, content {content}", busy, f"player {player} content {content}", NEWEST)
+            case(26, f"player {player} has nothing open, content {content}", busy, f"player {player} content {content}", TRACKS)
     for content in (1, 16_777_216):
-        case(26, f"number 0 and content {content}", busy, f"player 5 content {content}", NEWEST)
-    case(26, "the last player's content not in the book", full_and_tracked, "player 15 content 999", NEWEST)
-    case(26, "the last player's content 0", full_and_tracked, "player 15 content 0", NEWEST)
-    case(0, "the last player's content the last asset", full_and_tracked, "player 15 content 1063", NEWEST)
-    case(0, "two contents under one entry", watching, "use 9 0 95 140; player 9 content 9", NEWEST)
-    case(26, "one of two open uses without content", watching, "use 9 0 95 140", NEWEST)
+        case(26, f"number 0 and content {content}", busy, f"player 5 content {content}", TRACKS)
+    case(26, "the last player's content not in the book", full_and_tracked, "player 15 content 999", TRACKS)
+    case(26, "the last player's content 0", full_and_tracked, "player 15 content 0", TRACKS)
+    case(0, "the last player's content the last asset", full_and_tracked, "player 15 content 1063", TRACKS)
+    case(0, "two contents under one entry", watching, "use 9 0 95 140; player 9 content 9", TRACKS)
+    case(26, "one of two open uses without content", watching, "use 9 0 95 140", TRACKS)
     case(26, "a tracked entry open beside an untracked one, that one's content there, the other's 0", busy,
-         "entry 1 tracked 1; player 4 content 0", NEWEST)
+         "entry 1 tracked 1; player 4 content 0", TRACKS)
     case(0, "a tracked entry open beside an untracked one without content", busy,
-         "entry 1 tracked 1; player 1 content 0; player 2 content 0", NEWEST)
+         "entry 1 tracked 1; player 1 content 0; player 2 content 0", TRACKS)
 
 
 def added_fields_in_stages():
     """The number of an added field against others."""
-    case(20, "switch and length", bare, "switch 2; length 530", NEWEST)
-    case(23, "switch and time", bare, "switch 2; time 4000000001", NEWEST)
-    case(24, "asset and track", bare, "asset 0 key 2; entry 0 mark 1", NEWEST)
-    case(24, "asset and switch", bare, "asset 0 key 2; switch 2", NEWEST)
-    case(25, "track and switch", bare, "entry 0 mark 1; switch 2", NEWEST)
-    case(25, "track and content", showing, "entry 0 mark 1; player 0 content 2", NEWEST)
-    case(25, "track and meter", limited, "entry 0 mark 1; entry 0 used_count 11", NEWEST)
-    case(25, "object and switch", bare, "entry 0 object 0; switch 2", NEWEST)
-    case(26, "switch and meter", limited, "switch 2; entry 0 used_count 11", NEWEST)
-    case(26, "content and meter", showing, "player 0 content 2; entry 0 used_count 1", NEWEST)
-    case(26, "content 0 of a tracked entry and meter", showing, "entry 0 tracked 1; player 0 content 0; entry 0 used_count 1", NEWEST)
-    case(26, "switch and player", busy, "switch 2; player 0 operation 0", NEWEST)
+    case(20, "switch and length", bare, "switch 2; length 530", TRACKS)
+    case(23, "switch and time", bare, "switch 2; time 4000000001", TRACKS)
+    case(24, "asset and track", bare, "asset 0 key 2; entry 0 mark 1", TRACKS)
+    case(24, "asset and switch", bare, "asset 0 key 2; switch 2", TRACKS)
+    case(25, "track and switch", bare, "entry 0 mark 1; switch 2", TRACKS)
+    case(25, "track and content", showing, "entry 0 mark 1; player 0 content 2", TRACKS)
+    case(25, "track and meter", limited, "entry 0 mark 1; entry 0 used_count 11", TRACKS)
+    case(25, "object and switch", bare, "entry 0 object 0; switch 2", TRACKS)
+    case(26, "switch and meter", limited, "switch 2; entry 0 used_count 11", TRACKS)
+    case(26, "content and meter", showing, "player 0 content 2; entry 0 used_count 1", TRACKS)
+    case(26, "content 0 of a tracked entry and meter", showing, "entry 0 tracked 1; player 0 content 0; entry 0 used_count 1", TRACKS)
+    case(26, "switch and player", busy, "switch 2; player 0 operation 0", TRACKS)
+
+
+# Order 4 of document 02: numbers of 64 bits, the boot number in their upper half; some with a lower half of 0.
+LONG_NUMBERS = (
+    2 ** 32, 2 ** 32 + 1, 2 ** 33 + 7, 2 ** 40, 2 ** 48 + 2 ** 31, 2 ** 56, 2 ** 63, 2 ** 64 - 2 ** 32, 2 ** 64 - 2, 2 ** 64 - 1)
+
+
+def numbers():
+    for number in (256, 65_536, 16_777_216, 2_147_483_648, 4_294_967_294):
+        case(0, f"number {number}", busy, f"player 0 number {number}")
+    for number in LONG_NUMBERS:
+        case(0, f"number {number}, a stop", busy, f"player 0 number {number}", LONG)
+        case(0, f"number {number}, with a use open", busy, f"player 2 number {number}", LONG)
+        case(0, f"number {number}, a refusal", busy, f"player 3 number {number}", LONG)
+        case(26, f"number {number} and nothing behind it", busy, f"player 5 number {number}", LONG)
+    case(0, "64 tracked entries, 16 open uses, the greatest numbers", full_and_long, "", LONG)
+    case(26, "the last player's operation, behind a number of 64 bits", full_and_long, "player 15 operation 0", LONG)
+    case(26, "the last player's number 0", full_and_long, "player 15 number 0", LONG)
+    for version, (at, size, width) in {1: (11, 24, 4), 2: (15, 28, 4), 3: (15, 32, 8)}.items():
+        for player in (0, 15):
+            for byte in range(width):
+                case(26, f"byte {byte} of player {player}'s number 1 and nothing behind it", empty, f"byte {at + size * player + byte} 1",
+                     (version,))
+    case(25, "entry and a number of 64 bits", busy, f"entry 0 object 0; player 5 number {2 ** 32}", LONG)
+    case(26, "a number of 64 bits with nothing behind it, and a meter", busy, f"entry 0 used_count 6; player 5 number {2 ** 32}", LONG)
+    case(27, "a meter behind a number of 64 bits", busy, f"entry 0 used_count 6; player 0 number {2 ** 32}", LONG)
 
 
 GROUPS = [good_books, header, assets, entries, limits_of_zero, players, meters, two_stages, switches, tracks, kept_contents,
-          added_fields_in_stages]
+          added_fields_in_stages, numbers]
 
 
 def cases():
@@ -716,10 +757,12 @@ def main():
         listing.append(f"{number:4} {answer:2} {len(bytes_in):5} {version} {name} [{base.__name__}{': ' + told if told else ''}]\n")
     write_file(CRATES / "test_images" / "data" / "cases.bin", data)
     write_file(CRATES / "test_images" / "stdout", "".join(lines).encode())
-    write_file(CRATES / "bench_image" / "data" / "full.rbk", rights.write(full_and_tracked()))
+    greatest = rights.write(full_and_long())
+    write_file(CRATES / "bench_image" / "data" / "full.rbk", greatest)
+    write_file(CRATES / "bench_image" / "stdout", f"0 {len(greatest)}\n".encode())
     write_file(HERE / "images.txt", ("case, answer, length, version, name [base: edits]\n" + "".join(listing)).encode())
-    print(f"{len(CASES)} cases, {sum(1 for c in CASES if c[0] == 0)} accepted, {sum(1 for c in CASES if c[2] == 1)} of version 1, "
-          f"{len(data)} bytes")
+    print(f"{len(CASES)} cases, {sum(1 for c in CASES if c[0] == 0)} accepted, "
+          + ", ".join(f"{sum(1 for c in CASES if c[2] == version)} of version {version}" for version in SIZES) + f", {len(data)} bytes")
 
 
 def write_file(path, data):

@@ -45,6 +45,21 @@ class Ledger:
     def is_taken(self, event, code):
         return not self.is_resend(event, code) and (code == 0 or 10 <= code <= 15 or code == 43)
 
+    def last_number(self, event):
+        """Of the player's latest taken event; 0 before the first."""
+        return self.latest[event.player][0] if event.player in self.latest else 0
+
+    def is_in_line(self, event):
+        """Order 4, by boot number and counter: under the same boot number the next counter, under a greater one counter 1; and as the
+        number is one of 64 bits, counter 4,294,967,295 is followed by counter 0 of the next boot number. Before its first event a
+        player stands at 0 of boot number 0."""
+        (boot, counter), (last_boot, last_counter) = (divmod(each, 4_294_967_296) for each in (event.number, self.last_number(event)))
+        if boot == last_boot:
+            return counter == last_counter + 1
+        if boot < last_boot:
+            return False
+        return counter == 1 or (counter == 0 and last_counter == 4_294_967_295 and boot == last_boot + 1)
+
     def of_entry(self, entry):
         return [u for u in self.uses if u.entry == entry]
 
@@ -174,13 +189,25 @@ class Ledger:
         if self.is_resend(event, code):
             demand(answer == self.answers[event.player], "a resend gets the answer of the event that it repeats")
             return
+        self.judge_number(event, code)
         if not self.is_taken(event, code):
             return
-        demand(event.time >= self.T, "a taken event never goes back in time")
+        demand(self.is_in_line(event), "the number of a taken event is in line")
+        demand(self.T <= event.time <= 4_000_000_000, "a taken event never goes back in time")
         if event.operation == 1:
             self.judge_begin(event, answer)
         else:
             self.judge_other(event, answer)
+
+    def judge_number(self, event, code):
+        """3, 4 and 5 say different things of the number and the time, so each is answered exactly when it is so."""
+        used = event.number == self.last_number(event) != 0
+        if code == 3:
+            demand(not used and not self.is_in_line(event), "3 says that the number is out of line")
+        if code == 4:
+            demand(used, "4 says that the number was used, last")
+        if code == 5:
+            demand(self.is_in_line(event) and not self.T <= event.time <= 4_000_000_000, "5 says that the time is back or too late")
 
     def judge_begin(self, event, answer):
         code, entry, until = answer

@@ -73,10 +73,13 @@ EVENTS = [
     ("a number out of line", "0.3 stop 2000: 3", {}),
     ("a time that goes back", "0.2 stop 999: 5", {}),
     ("no such player", "16.1 stop 2000: 2", {}),
-    ("a bad request", "00 00000002 03 0001 00 000007d0: 1", {}),
+    ("a bad request", "00 0000000000000002 03 0001 00 000007d0: 1", {}),
+    ("counter 1 of a greater boot number", "0.3.1 stop 1020: 0 0 1020", {2: (1, 30)}),
+    ("counter 2 of a greater boot number", "0.1.2 stop 1020: 3", {}),
     ("no record", ": 6", {}),
-    ("a record cut short", "00 00000002 03 0000 00 0007d0: 6", {}),
-    ("a record that is too long", "00 00000002 03 0000 00 000007d0 00: 6", {})]
+    ("a record of 13 bytes", "00 00000002 03 0000 00 000007d0: 6", {}),
+    ("a record of 16 bytes", "00 0000000000000002 03 0000 00 0007d0: 6", {}),
+    ("a record of 18 bytes", "00 0000000000000002 03 0000 00 000007d0 00: 6", {})]
 
 GOOD = [
     ("the assets alone", "1 0 0, 2 0 0, 9 0 0"),

@@ -9,7 +9,7 @@ import struct
 from dataclasses import dataclass, field
 
 LATEST = 4_000_000_000      # the last time that a book or an event may have
-LAST_NUMBER = 4_294_967_295  # nothing follows this event number
+LAST_NUMBER = 2 ** 64 - 1   # nothing follows this event number
 GRANT = 60                  # seconds that a begin or a continue gives at most
 PLAYERS = 16
 MOST = 64                   # assets, and entries
@@ -168,7 +168,7 @@ def answered(book, event, lines):
         if (event.operation, event.asset, event.kind) == (player.operation, player.asset, player.kind):
             return (player.code, player.entry, player.answer_until)
         return refused(4)
-    if player.number == LAST_NUMBER or event.number != player.number + 1:
+    if not is_in_line(player.number, event.number):
         return refused(3)
     if event.time < book.time or event.time > LATEST:
         return refused(5)
@@ -190,6 +190,22 @@ def request_is_good(operation, asset, kind):
     if operation == BEGIN:
         return PLAY <= kind <= EXPORT
     return operation in (CONTINUE, STOP) and asset == 0 and kind == 0
+
+
+def boot_of(number):
+    """The number that a player puts before its counter (order 4); 0 if it has none."""
+    return number >> 32
+
+
+def counter_of(number):
+    return number % 2 ** 32
+
+
+def is_in_line(last, number):
+    """Whether this event number may come after the player's last one: the next one, or (order 4) "counter 1 under a greater boot
+    number"."""
+    follows = last != LAST_NUMBER and number == last + 1
+    return follows or boot_of(number) > boot_of(last) and counter_of(number) == 1
 
 
 def settle(book, t, lines):
@@ -329,21 +345,21 @@ def stop(book, player, t, lines):
 
 # ---- Bytes: big-endian fields, one behind the other
 
-RECORD_FIELDS = [("player", 1), ("number", 4), ("operation", 1), ("asset", 2), ("kind", 1), ("time", 4)]
+RECORD_FIELDS = [("player", 1), ("number", 8), ("operation", 1), ("asset", 2), ("kind", 1), ("time", 4)]
 ASSET_FIELDS = [("number", 2), ("inherit", 2), ("key", 1)]
 ENTRY_FIELDS = [
     ("object", 2), ("asset", 2), ("kind", 1), ("flags", 1), ("count", 4), ("timed", 4), ("timer", 4), ("start", 4),
     ("end", 4), ("interval", 4), ("accumulated", 4), ("used_count", 4), ("used_timed", 4), ("first", 4),
     ("used_seconds", 4), ("started", 1), ("tracked", 4), ("timed_value", 4), ("mark", 4)]
 PLAYER_FIELDS = [
-    ("number", 4), ("operation", 1), ("asset", 2), ("kind", 1), ("code", 1), ("entry", 1), ("answer_until", 4),
+    ("number", 8), ("operation", 1), ("asset", 2), ("kind", 1), ("code", 1), ("entry", 1), ("answer_until", 4),
     ("open", 1), ("open_entry", 1), ("begin", 4), ("until", 4), ("content", 4)]
 
 
 class Layout:
     def __init__(self, make, fields):
         self.make, self.names = make, [name for name, _ in fields]
-        self.packed = struct.Struct(">" + "".join({1: "B", 2: "H", 4: "I"}[width] for _, width in fields))
+        self.packed = struct.Struct(">" + "".join({1: "B", 2: "H", 4: "I", 8: "Q"}[width] for _, width in fields))
         self.size = self.packed.size
 
     def read(self, data, at=0):
@@ -372,10 +388,14 @@ def before(fields, name):
     return fields[:[each for each, _ in fields].index(name)]
 
 
+SHORT_NUMBER = [("number", 4)] + PLAYER_FIELDS[1:]      # a player before order 4
+
+
 HEADER = 11                 # bytes that every version begins with: mark, version, numbers, time
-VERSIONS = {                # each adds fields behind those that were there
-    1: Version([], before(ENTRY_FIELDS, "tracked"), before(PLAYER_FIELDS, "content")),
-    2: Version([("switch", 4)], ENTRY_FIELDS, PLAYER_FIELDS)}
+VERSIONS = {                # 2 adds fields behind those that were there, 3 widens a player's number in its place
+    1: Version([], before(ENTRY_FIELDS, "tracked"), before(SHORT_NUMBER, "content")),
+    2: Version([("switch", 4)], ENTRY_FIELDS, SHORT_NUMBER),
+    3: Version([("switch", 4)], ENTRY_FIELDS, PLAYER_FIELDS)}
 NEWEST = max(VERSIONS)
 
 
@@ -439,7 +459,7 @@ def number_of(data):
 
 
 def write(book, version=NEWEST):
-    """The image. An older version, for trying out old images, loses what it has no field for."""
+    """The image. An older version, for trying out old images, loses what it has no field for; a number must fit it."""
     layouts = VERSIONS[version]
     data = b"RBK" + version.to_bytes(2, "big") + bytes([len(book.assets), len(book.entries)])
     data += book.time.to_bytes(4, "big") + layouts.header.written(book)

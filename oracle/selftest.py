@@ -92,16 +92,34 @@ def check_run(book, steps):
 
 def check_records():
     book = Book()
-    for record, code in ((b"", 6), (bytes(12), 6), (bytes(14), 6), (b"\x10" + bytes(12), 2), (bytes(13), 1)):
+    for record, code in ((b"", 6), (bytes(13), 6), (bytes(16), 6), (bytes(18), 6), (b"\x10" + bytes(16), 2), (bytes(17), 1)):
         demand(rights.answer_record(book, record, []) == (code, 255, 0), f"record {record!r}")
-    event = begin(15, 4_294_967_295, 65535, 5, 4_294_967_295)
+    event = begin(15, 18_446_744_073_709_551_615, 65535, 5, 4_294_967_295)
     demand(rights.decode(rights.encode(event)) == event, "a record decodes to its event")
+    record = bytes.fromhex("0f 0123456789abcdef 01 0102 05 03040506")
+    demand(rights.decode(record) == begin(15, 0x0123456789ABCDEF, 0x0102, 5, 0x03040506), "the fields of a record")
+
+
+def check_in_line():
+    """The rules and the ledger agree on which number follows which, around the ends of boot numbers and counters, which no day from a
+    fresh book comes to."""
+    ends = (0, 1, 2, 3, 255, 256, 65_535, 65_536, 2 ** 31 - 1, 2 ** 31, 2 ** 32 - 3, 2 ** 32 - 2, 2 ** 32 - 1)
+    numbers = [boot * 2 ** 32 + counter for boot in ends for counter in ends]
+    ledger, following = Ledger([], [], 0), {}
+    for last in numbers:
+        ledger.latest = {0: (last, rights.STOP, 0, 0)} if last else {}
+        for number in numbers:
+            holds = rights.is_in_line(last, number)
+            demand(holds == ledger.is_in_line(stop(0, number, 0)), f"{number} after {last}")
+            following.setdefault(last, []).extend([number] * holds)
+    demand([last for last in numbers if not following[last] and last + 1 in (*numbers, 2 ** 64)] == [2 ** 64 - 1],
+           "only the largest number has none after it")
 
 
 def check_written_days():
     """Those that start from a fresh book by the ledger, and the reports of all. Returns how many are fresh."""
     fresh = 0
-    for name, version, book, steps in written_days.written():
+    for name, version, book, steps, _ in written_days.written():
         if is_fresh(book):
             check_run(book, steps)
             fresh += 1
@@ -160,16 +178,18 @@ def check_without_resends(fresh, kept, book):
 
 
 def check_older(book):
-    """What version 1 can say of the book is read back as that, and written as the newest version."""
-    plain_book = copy.deepcopy(book)
+    """What an older version can say of the book is read back as that, and written as the newest version."""
+    counted = days.with_short_numbers(book)
+    plain_book = copy.deepcopy(counted)
     plain_book.switch = 0
     for thing in plain_book.entries + plain_book.players:
         for name in ("tracked", "timed_value", "mark", "content"):
             if hasattr(thing, name):
                 setattr(thing, name, 0)
-    image = rights.write(book, 1)
-    demand(rights.read(image) == (0, plain_book), "an image of version 1 has no switch, no tracks and no contents")
-    demand(rights.write(rights.read(image)[1]) == images.widened(image), "an image of version 1 is written back as version 2")
+    for version, told in ((1, plain_book), (2, counted)):
+        image = rights.write(counted, version)
+        demand(rights.read(image) == (0, told), f"an image of version {version} is the book, without what it has no field for")
+        demand(rights.write(rights.read(image)[1]) == images.widened(image), f"an image of version {version} is written back as version 3")
 
 
 # ---- Planted faults: each must be caught, or the tests above are too weak
@@ -590,6 +610,136 @@ def a_bad_list_takes_the_event(real):
     return step
 
 
+# Order 4: boot number and counter. A fault of what is in line is told by last boot number, last counter, boot number and counter.
+
+def in_line_if(rule):
+    def fault(real):
+        return lambda last, number: bool(rule(*divmod(last, 2 ** 32), *divmod(number, 2 ** 32), real(last, number)))
+    fault.__name__ = rule.__name__
+    return fault
+
+
+def only_the_next_number(b, c, boot, counter, real):
+    return boot * 2 ** 32 + counter == b * 2 ** 32 + c + 1
+
+
+def nothing_follows_the_last_counter(b, c, boot, counter, real):
+    return real and c != 2 ** 32 - 1
+
+
+def nothing_follows_the_last_counter_of_boot_0(b, c, boot, counter, real):
+    return real and (b, c) != (0, 2 ** 32 - 1)
+
+
+def no_counter_0(b, c, boot, counter, real):
+    return real and counter != 0
+
+
+def counter_0_of_any_greater_boot_number(b, c, boot, counter, real):
+    return real or boot > b and counter == 0
+
+
+def counter_0_of_any_greater_boot_number_after_the_last(b, c, boot, counter, real):
+    return real or c == 2 ** 32 - 1 and boot > b and counter == 0
+
+
+def counter_2_of_a_greater_boot_number(b, c, boot, counter, real):
+    return real or boot > b and counter == 2
+
+
+def any_counter_of_a_greater_boot_number(b, c, boot, counter, real):
+    return real or boot > b
+
+
+def the_next_counter_of_a_greater_boot_number(b, c, boot, counter, real):
+    return real or boot > b and counter == c + 1
+
+
+def counter_1_of_the_next_boot_number_only(b, c, boot, counter, real):
+    return real and boot <= b + 1
+
+
+def counter_1_of_any_boot_number(b, c, boot, counter, real):
+    return real or counter == 1 and boot != b
+
+
+def counter_1_of_the_same_boot_number(b, c, boot, counter, real):
+    return real or counter == 1 and boot >= b
+
+
+def boot_numbers_are_not_compared(b, c, boot, counter, real):
+    return real or counter == c + 1
+
+
+def boot_numbers_are_compared_in_31_bits(b, c, boot, counter, real):
+    return real if boot < 2 ** 31 or boot == b else False
+
+
+def a_first_event_has_boot_number_0(b, c, boot, counter, real):
+    return real and (b, c, boot) != (0, 0, boot or 1)
+
+
+def zero_follows_the_last_number(b, c, boot, counter, real):
+    return real or (b, c) == (2 ** 32 - 1, 2 ** 32 - 1) and (boot, counter) == (0, 0)
+
+
+def one_follows_the_last_number(b, c, boot, counter, real):
+    return real or (b, c) == (2 ** 32 - 1, 2 ** 32 - 1) and (boot, counter) == (0, 1)
+
+
+def a_resend_is_known_by(part):
+    """The number of a resend is compared in part."""
+    def fault(real):
+        def answered(book, event, lines):
+            if event.player < 16:
+                player = book.players[event.player]
+                request = (player.operation, player.asset, player.kind)
+                if player.number and part(event.number) == part(player.number) and (event.operation, event.asset, event.kind) == request:
+                    return (player.code, player.entry, player.answer_until)
+            return real(book, event, lines)
+        return answered
+    fault.__name__ = f"a_resend_is_known_by_{part.__name__}"
+    return fault
+
+
+def the_counter_alone_is_stored(real):
+    def answered(book, event, lines):
+        answer = real(book, event, lines)
+        if event.player < 16:
+            book.players[event.player].number %= 2 ** 32
+        return answer
+    return answered
+
+
+def records_of_13_bytes_are_read_too(real):
+    def decode(record):
+        return real(record[:1] + bytes(4) + record[1:]) if len(record) == 13 else real(record)
+    return decode
+
+
+def a_number_of_counter_0_is_none(book, player):
+    return rights.Player() if player.number % 2 ** 32 == 0 else player
+
+
+def numbers_end_at_32_bits(real):
+    return lambda book, player: real(book, player) and player.number < 2 ** 32
+
+
+def old_numbers_become_boot_numbers(real):
+    """The number of an older image is taken for the upper half."""
+    def read(data):
+        code, book = real(data)
+        if code == 0 and data[4] < 3:
+            for player in book.players:
+                player.number *= 2 ** 32
+        return code, book
+    return read
+
+
+def version_2_is_refused(real):
+    return lambda data: (22, None) if data[3:5] == b"\0\2" and len(data) >= 11 and data[:3] == b"RBK" else real(data)
+
+
 # Order 3: images
 
 def the_content_is_kept_of_tracked_entries_only(real):
@@ -705,7 +855,19 @@ FAULTS = [                  # caught by the ledger on random days, and by a stor
     *(("none_grantable", fault) for fault in (
         switched_off_gets_13, switched_off_gets_43_whatever_else_stands, switched_off_gets_43_only_if_all_are,
         switched_off_gets_43_only_for_the_first)),
-    ("answered", not_taken), ("player_is_good", a_stored_43_is_refused)]
+    ("answered", not_taken), ("player_is_good", a_stored_43_is_refused),
+    *(("is_in_line", in_line_if(rule)) for rule in (
+        only_the_next_number, counter_0_of_any_greater_boot_number, counter_2_of_a_greater_boot_number,
+        any_counter_of_a_greater_boot_number, the_next_counter_of_a_greater_boot_number, counter_1_of_the_next_boot_number_only,
+        counter_1_of_any_boot_number, counter_1_of_the_same_boot_number, boot_numbers_are_not_compared,
+        boot_numbers_are_compared_in_31_bits, a_first_event_has_boot_number_0)),
+    *(("answered", a_resend_is_known_by(part)) for part in (rights.boot_of, rights.counter_of)),
+    ("answered", the_counter_alone_is_stored)]
+LAST_NUMBER_FAULTS = [      # of numbers that no day from a fresh book comes to: caught by a stored day
+    *(("is_in_line", in_line_if(rule)) for rule in (
+        nothing_follows_the_last_counter, nothing_follows_the_last_counter_of_boot_0, no_counter_0,
+        counter_0_of_any_greater_boot_number_after_the_last, zero_follows_the_last_number, one_follows_the_last_number)),
+    ("decode", records_of_13_bytes_are_read_too), ("read", old_numbers_become_boot_numbers)]
 REPORT_FAULTS = [           # caught by the ledger on random days, and by the report of a written day or by a list by hand
     *(("record_use", recording(change)) for change in (
         recorded_with_the_switch_off, recorded_untracked, recorded_with_a_mark_only, recorded_for_the_entrys_asset,
@@ -731,7 +893,9 @@ READER_FAULTS = [           # of images that no day from a fresh book leads to, 
         a_content_is_left_when_closed, any_content_is_accepted, a_tracked_use_may_have_no_content)),
     ("content_is_good", an_untracked_use_needs_its_content), ("content_is_good", the_content_needs_a_key),
     ("content_is_good", the_content_is_compared_in_16_bits), ("player_is_good", a_stored_43_is_refused),
-    ("read", version_1_is_refused), ("write", version_1_is_written_back_as_it_was)]
+    ("read", version_1_is_refused), ("read", version_2_is_refused), ("write", version_1_is_written_back_as_it_was),
+    ("player_is_good", judged("player", a_number_of_counter_0_is_none)), ("player_is_good", numbers_end_at_32_bits),
+    ("read", old_numbers_become_boot_numbers)]
 
 
 @contextmanager
@@ -786,13 +950,15 @@ def check_faults():
     for name, fault in FAULTS:
         demand(is_caught(name, fault), f"the fault {fault.__name__} is caught")
         demand(is_caught_by_stored_days(name, fault, stored_days), f"the fault {fault.__name__} is caught by the stored days")
+    for name, fault in LAST_NUMBER_FAULTS:
+        demand(is_caught_by_stored_days(name, fault, stored_days), f"the fault {fault.__name__} is caught by the stored days")
     for name, fault in REPORT_FAULTS:
         demand(is_caught(name, fault), f"the fault {fault.__name__} is caught")
         demand(is_caught_by_reports(name, fault), f"the fault {fault.__name__} is caught by the reports and lists by hand")
     for name, fault in READER_FAULTS + [each for each in FAULTS if each[0] == "entry_is_good"]:
         demand(is_caught_by_stored_images(name, fault, stored_images), f"the fault {fault.__name__} is caught by the stored images")
     check_other_faults(stored_days)
-    return len(FAULTS + REPORT_FAULTS + READER_FAULTS) + 4
+    return len({fault.__name__ for _, fault in FAULTS + LAST_NUMBER_FAULTS + REPORT_FAULTS + READER_FAULTS}) + 4
 
 
 def check_other_faults(stored_days):
@@ -815,7 +981,7 @@ def is_caught_by_kept_contents(name, fault):
 
 def check_contents():
     """After each event of the written days from a fresh book, a player's content is the ledger's of its open use, or 0."""
-    for name, version, book, steps in written_days.written():
+    for name, version, book, steps, _ in written_days.written():
         if is_fresh(book):
             ledger, book = Ledger(book.assets, book.entries, book.switch), copy.deepcopy(book)
             lines = rights.zeros(book)
@@ -831,6 +997,7 @@ def main():
     events = int(sys.argv[1]) if len(sys.argv) > 1 else 6_000
     check_afternoon()
     check_records()
+    check_in_line()
     seen, done, seed = {}, 0, 1
     while done < events:
         for name, times in run_day(random.Random(seed), 60).items():

@@ -2,7 +2,8 @@
 
 The book is told in words, as in texts.py: its assets, a bar, its entries, as `9; 1 inherits 9 key | 1 play count 5`; `used_count 2`
 and the like set meters, `started 1` and `first 900` an interval that runs, `tracked 1`, `timed_value 30` and `mark 1` a track. A
-line is an event and its answer as document 01 writes them: `0.1 begin 1 play 1000: 0 0 1060`, where a code alone has 255 0 behind it.
+line is an event and its answer as document 01 writes them: `0.1 begin 1 play 1000: 0 0 1060`, where a code alone has 255 0 behind it;
+`0.3.1` is player 0 with counter 1 under boot number 3.
 `-> 1 2 90` behind it says that content 1 has 2 times and 90 seconds in the report from there on; a report begins with zeros, and what
 is not told stays. `days.py` stores the days behind its random ones, without the report, which the run program does not print.
 """
@@ -13,13 +14,15 @@ import rights
 from rights import Event, Player
 from texts import KINDS, book_of
 
-DAYS = []                   # (name, version of the image, book, steps: event, answer, report after it)
-LINE = re.compile(r"(\d+)\.(\d+) (begin (\d+) (\w+)|continue|stop) (\d+): (\d+)(?: (\d+) (\d+))?(?: -> (.*))?")
+DAYS = []                   # (name, version of the image, book, steps: event, answer, report after it, bytes behind the last record)
+LINE = re.compile(r"(\d+)\.(?:(\d+)\.)?(\d+) (begin (\d+) (\w+)|continue|stop) (\d+): (\d+)(?: (\d+) (\d+))?(?: -> (.*))?")
+TOP = 4_294_967_295         # the last counter, and the greatest boot number
 OPERATIONS = {"begin": rights.BEGIN, "continue": rights.CONTINUE, "stop": rights.STOP}
 
 
-def day(name, words, *lines, time=0, switch=0, players=(), version=rights.NEWEST):
-    """A day from this book. Players that have asked before are pairs of their index and their record."""
+def day(name, words, *lines, time=0, switch=0, players=(), version=rights.NEWEST, tail=""):
+    """A day from this book. Players that have asked before are pairs of their index and their record. A tail is the bytes of a record cut
+    short."""
     book = book_of(words)
     book.time, book.switch = time, switch
     for index, player in players:
@@ -30,14 +33,15 @@ def day(name, words, *lines, time=0, switch=0, players=(), version=rights.NEWEST
         assert gained.keys() <= report.keys(), f"{name}: {line}"
         report = report | gained
         steps.append((event, answer, [(content, *sums) for content, sums in report.items()]))
-    DAYS.append((name, version, book, steps))
+    DAYS.append((name, version, book, steps, bytes.fromhex(tail)))
 
 
 def parts_of(line):
     """The event of a line, its answer, and what it says of the report: times and seconds by content."""
-    player, number, request, asset, kind, t, code, entry, until, told = LINE.fullmatch(line).groups()
+    player, boot, counter, request, asset, kind, t, code, entry, until, told = LINE.fullmatch(line).groups()
     operation = OPERATIONS[request.split()[0]]
-    event = Event(int(player), int(number), operation, int(asset or 0), KINDS.index(kind) + 1 if kind else 0, int(t))
+    number = int(boot or 0) * 2 ** 32 + int(counter)
+    event = Event(int(player), number, operation, int(asset or 0), KINDS.index(kind) + 1 if kind else 0, int(t))
     sums = [tuple(map(int, part.split())) for part in (told or "").split(",") if part]
     return event, (int(code), int(entry or 255), int(until or 0)), {content: (times, seconds) for content, times, seconds in sums}
 
@@ -297,7 +301,7 @@ def continued():
 
 
 def older_images():
-    """Images of version 1: the switch is off, nothing is tracked, no open use has a content."""
+    """Images of older versions. Of version 1 the switch is off, nothing is tracked, no open use has a content."""
     opened = (0, Player(1, rights.BEGIN, 1, rights.PLAY, 0, 0, 1050, 1, 0, 990, 1050))
     for version in rights.VERSIONS:
         day(f"the middle of a day, version {version}", "1 key | 1 play count 2 used_count 1; 1 print",
@@ -305,17 +309,119 @@ def older_images():
             "0.5 begin 1 play 1020: 13", time=1000, players=[opened], version=version)
         day(f"a stored 43, version {version}", "1 key | 1 play", "3.7 begin 1 play 5: 43", "3.8 begin 1 play 1001: 0 0 1061",
             time=1000, players=[(3, Player(7, rights.BEGIN, 1, rights.PLAY, 43, 255, 0))], version=version)
+        day(f"a new boot number, version {version}", "1 key | 1 play", "3.7 begin 1 play 5: 13", "3.1.8 begin 1 play 1000: 3",
+            "3.1.7 begin 1 play 1000: 3", "3.1.0 begin 1 play 1000: 3", "3.1.1 begin 1 play 1000: 0 0 1060", "3.7 begin 1 play 1000: 3",
+            time=1000, players=[(3, Player(7, rights.BEGIN, 1, rights.PLAY, 13, 255, 0))], version=version)
+        for then in ("1.0", "1.1", "65535.1"):
+            day(f"the greatest number of 32 bits, then {then}, version {version}", "1 key | 1 play", "3.4294967295 begin 1 play 5: 13",
+                "3.0.1 stop 1000: 3", "3.0.0 stop 1000: 3", f"3.{then} begin 1 play 1000: 0 0 1060", "3.4294967295 begin 1 play 1000: 3",
+                time=1000, players=[(3, Player(TOP, rights.BEGIN, 1, rights.PLAY, 13, 255, 0))], version=version)
     day("the afternoon of document 01, version 1",
         "1 inherits 9 key; 2 inherits 9 key; 9; 7 inherits 9 | 9 play count 2; 9 play accumulated 100; 1 display timed 1 timer 30",
         "0.1 begin 1 play 1000: 0 0 1060", "0.1 begin 1 play 1005: 0 0 1060", version=1)
     day("no assets and no entries, version 1", "|", "0.1 begin 1 play 1000: 10", "0.2 stop 1000: 14", version=1)
 
 
-GROUPS = [base, alone, beside, with_dates, from_the_middle, switched_off, none_left, recorded, contents, continued, older_images]
+# ---- Order 4: boot number and counter
+
+def asked(number, index=0):
+    """A player whose last event, of this number, was a begin for asset 1 and got 13."""
+    return (index, Player(number, rights.BEGIN, 1, rights.PLAY, 13, 255, 0))
+
+
+def boot_numbers():
+    """Counter 1 under a greater boot number is in line beside the next number."""
+    day("boot numbers that rise, stay and fall", "1 key | 1 play count 9",
+        "0.0.1 begin 1 play 1000: 0 0 1060", "0.0.2 stop 1010: 0 0 1010", "0.1.1 begin 1 play 1010: 0 0 1070",
+        "0.0.3 stop 1011: 3", "0.1.2 continue 1011: 0 0 1071", "0.1.3 stop 1012: 0 0 1012", "0.7.1 begin 1 play 1012: 0 0 1072",
+        "0.6.1 stop 1012: 3", "0.6.2 stop 1012: 3", "0.2.1 stop 1012: 3", "0.1.4 stop 1012: 3", "0.0.1 begin 1 play 1000: 3",
+        "0.7.3 stop 1012: 3", "0.7.2 stop 1012: 0 0 1012", "0.7.1 begin 1 play 1012: 3", "0.8.1 continue 1013: 14")
+    for last in ("3.1", "3.2", "3.9", "0.9"):
+        boot, counter = map(int, last.split("."))
+        day(f"counters under greater boot numbers than that of {last}", "1 key | 1 play",
+            *(f"0.{more}.{other} stop 1000: 3" for more in (boot + 1, boot + 2, boot + 256, TOP)
+              for other in dict.fromkeys((0, 2, counter + 1, TOP)) if other != 1),
+            f"0.{boot}.{counter + 1} stop 1000: 14", f"0.{boot + 1}.1 stop 1000: 14", f"0.{boot + 256}.1 stop 1000: 14",
+            f"0.{TOP}.1 stop 1000: 14", f"0.{TOP}.1 stop 1000: 14", f"0.{boot + 257}.1 stop 1000: 3", time=1000,
+            players=[asked(boot * 2 ** 32 + counter)])
+    day("a player's first event", "1 key | 1 print",
+        "0.0.0 begin 1 print 1000: 3", "0.0.2 begin 1 print 1000: 3", "0.0.1 begin 1 print 1000: 0 0 1000",
+        "1.1.0 begin 1 print 1000: 3", "1.1.2 begin 1 print 1000: 3", "1.1.1 begin 1 print 1000: 0 0 1000",
+        f"2.{TOP}.0 begin 1 print 1000: 3", f"2.{TOP}.{TOP} begin 1 print 1000: 3", f"2.{TOP}.1 begin 1 print 1000: 0 0 1000",
+        f"3.0.{TOP} begin 1 print 1000: 3", "3.256.1 begin 1 print 1000: 0 0 1000", "3.256.2 begin 1 print 1000: 0 0 1000",
+        "15.65536.1 begin 1 print 1000: 0 0 1000", "14.16777216.1 stop 1000: 14", "13.2147483648.1 stop 1000: 14")
+    day("each player has its own boot number", "1 key | 1 play",
+        "0.5.1 begin 1 play 1000: 0 0 1060", "1.1 begin 1 play 1000: 0 0 1060", "1.5.2 stop 1000: 3", "0.2 stop 1000: 3",
+        "1.2 stop 1000: 0 0 1000", "0.5.2 stop 1000: 0 0 1000", "1.4.1 stop 1001: 14", "0.4.1 stop 1001: 3")
+    day("the checks before and behind the number", "1 key | 1 play",
+        "0.1.1 begin 1 play 1000: 0 0 1060", "16.2.1 stop 1000: 2", "0.2.1 begin 1 play 999: 5", "0.2.2 begin 1 play 999: 3",
+        "0.2.1 stop 4000000001: 5", "0.2.1 stop 1000: 0 0 1000", "0.2.1 stop 0: 0 0 1000")
+
+
+def last_counters():
+    """Counter 4,294,967,295 is followed by counter 0 of the next boot number, or by counter 1 of a greater one."""
+    for boot in (0, 1, 255, 65_535, 16_777_215, 2_147_483_647, TOP - 1):
+        last = boot * 2 ** 32 + TOP
+        day(f"counter 0 after the last one of boot {boot}", "1 key | 1 play",
+            f"0.{boot}.0 stop 1000: 3", f"0.{boot}.1 stop 1000: 3", f"0.{boot + 1}.2 stop 1000: 3", f"0.{boot + 1}.{TOP} stop 1000: 3",
+            f"0.{boot + 1}.0 begin 1 play 1000: 0 0 1060", f"0.{boot + 1}.0 begin 1 play 1000: 0 0 1060", f"0.{boot + 1}.0 stop 1000: 4",
+            f"0.{boot}.{TOP} begin 1 play 1000: 3", f"0.{boot + 1}.1 stop 1001: 0 0 1001", f"0.{boot + 1}.2 stop 1001: 14", time=1000,
+            players=[asked(last)])
+        day(f"counter 1 after the last one of boot {boot}", "1 key | 1 play",
+            f"0.{boot}.{TOP} begin 1 play 1000: 13", f"0.{boot + 1}.1 begin 1 play 1000: 0 0 1060", f"0.{boot + 1}.0 stop 1000: 3",
+            f"0.{boot + 1}.2 stop 1001: 0 0 1001", time=1000, players=[asked(last)])
+        day(f"the last counter of boot {boot}", "1 key | 1 play", f"0.{boot + 1}.0 stop 1000: 3", f"0.{boot}.{TOP} stop 1000: 14",
+            f"0.{boot + 1}.0 stop 1000: 14", time=1000, players=[asked(last - 1)])
+    day("counter 0 of a boot number that is not the next", "1 key | 1 play", "0.5.0 stop 1000: 3", "0.3.0 stop 1000: 3",
+        "0.5.1 stop 1000: 14", time=1000, players=[asked(3 * 2 ** 32 + TOP)])
+    day("2 to the 64 less 1 has none after it", "1 key | 1 play",
+        f"0.{TOP}.{TOP} stop 1000: 14", f"0.{TOP}.{TOP} stop 1000: 14", f"0.{TOP}.{TOP} continue 1000: 4", "0.0.0 stop 1000: 3",
+        "0.0.1 stop 1000: 3", "0.1.1 stop 1000: 3", f"0.{TOP}.0 stop 1000: 3", f"0.{TOP}.1 stop 1000: 3", f"0.{TOP}.{TOP - 1} stop 1000: 3",
+        "1.1 begin 1 play 1000: 0 0 1060", time=1000, players=[asked(2 ** 64 - 2)])
+    day("the last number in the image", "1 key | 1 play", "0.18446744073709551615 begin 1 play 0: 13", "0.0 begin 1 play 1000: 3",
+        "0.1 begin 1 play 1000: 3", "0.18446744073709551614 begin 1 play 1000: 3", "0.18446744073709551615 begin 1 display 1000: 4",
+        time=1000, players=[asked(2 ** 64 - 1)])
+    day("no boot number is greater", "1 key | 1 play", f"0.{TOP}.1 stop 1000: 3", f"0.{TOP}.0 stop 1000: 3", "0.0.1 stop 1000: 3",
+        f"0.{TOP}.6 stop 1000: 14", f"0.{TOP}.1 stop 1000: 3", time=1000, players=[asked(TOP * 2 ** 32 + 5)])
+
+
+def resent_numbers():
+    """A resend has the whole number of its player's latest taken event."""
+    day("the same request under another boot number is no resend", "1 key | 1 print count 3",
+        "0.5.1 begin 1 print 1000: 0 0 1000", "0.5.1 begin 1 print 1001: 0 0 1000", "0.6.1 begin 1 print 1002: 0 0 1002",
+        "0.5.1 begin 1 print 1003: 3", "0.6.1 begin 1 print 0: 0 0 1002", "0.1 begin 1 print 1003: 3",
+        "0.7.1 begin 1 print 1003: 0 0 1003", "0.8.1 begin 1 print 1004: 13", "0.8.1 begin 1 print 1005: 13")
+    day("a number used for something else, with boot numbers", "1 key; 2 key | 1 play; 2 play",
+        "0.5.1 begin 1 play 1000: 0 0 1060", "0.5.1 begin 2 play 1000: 4", "0.5.1 stop 1000: 4", "0.4.1 begin 1 play 1000: 3",
+        "0.6.1 begin 1 play 1000: 11", "0.6.1 begin 1 play 0: 11", "0.6.1 begin 2 play 0: 4", "0.6.2 stop 1001: 0 0 1001",
+        "0.6.2 stop 1030: 0 0 1001", "0.6.1 begin 1 play 1030: 3")
+    day("numbers alike in one half only", "1 key | 1 play", "0.7.3 begin 1 play 1000: 13", "0.3 begin 1 play 1000: 3",
+        "0.7.0 begin 1 play 1000: 3", "0.3.7 begin 1 play 1000: 3", "0.6.3 begin 1 play 1000: 3", "0.8.3 begin 1 play 1000: 3",
+        "0.7.4 begin 1 play 1000: 0 0 1060", time=1000, players=[asked(7 * 2 ** 32 + 3)])
+    day("an answer lost before a restart", "1 inherits 9 key; 9 | 9 play count 2 timed 2 timer 30",
+        "0.1.1 begin 1 play 1000: 0 0 1060", "1.1.1 begin 1 play 1001: 0 0 1061", "0.1.2 stop 1010: 0 0 1010",
+        "0.1.2 stop 1012: 0 0 1010", "1.2.1 stop 1020: 0 0 1020", "1.1.2 stop 1020: 3", "0.2.1 begin 1 play 1020: 13")
+
+
+def record_lengths():
+    """A record has 17 bytes; the last one is cut short where fewer are left."""
+    stop = "01 0000000000000001 03 0000 00 000003e8"
+    for size in (1, 4, 12, 13, 14, 16):
+        day(f"a last record of {size} bytes", "1 key | 1 play", "0.1 begin 1 play 1000: 0 0 1060",
+            tail=bytes.fromhex(stop)[:size].hex())
+        day(f"{size} bytes alone", "1 key | 1 play", tail=bytes.fromhex(stop)[:size].hex())
+    day("17 bytes", "1 key | 1 play", "1.1 stop 1000: 14")
+    day("18 bytes", "1 key | 1 play", "1.1 stop 1000: 14", tail="00")
+    day("no bytes", "1 key | 1 play")
+    day("one begin of the 13-byte form", "1 key | 1 play", tail="00 00000001 01 0001 01 000003e8")
+
+
+GROUPS = [base, alone, beside, with_dates, from_the_middle, switched_off, none_left, recorded, contents, continued, boot_numbers,
+          last_counters, resent_numbers, record_lengths, older_images]
 
 
 def written():
-    """(name, version, book, steps) of every day, in order."""
+    """(name, version, book, steps, tail) of every day, in order."""
     if not DAYS:
         for group in GROUPS:
             group()
@@ -325,11 +431,11 @@ def written():
 def days():
     """(image, event bytes, the text that the run program prints) of every day. The rules of rights.py must agree with the answers."""
     seen = {}
-    for name, version, book, steps in written():
-        image, records = rights.write(book, version), b"".join(rights.encode(event) for event, _, _ in steps)
+    for name, version, book, steps, tail in written():
+        image, records = rights.write(book, version), b"".join(rights.encode(event) for event, _, _ in steps) + tail
         assert (image, records) not in seen, f"{name} is there already, as {seen[image, records]}"
         seen[image, records] = name
-        text = "".join("%d %d %d\n" % answer for _, answer, _ in steps)
+        text = "".join("%d %d %d\n" % answer for _, answer, _ in steps) + "6 255 0\n" * bool(tail)
         got = rights.run(image, records)
         assert got == text, f"{name}: by hand\n{text}by the second program\n{got}"
         yield image, records, text

@@ -9,6 +9,7 @@ library for C if it is missing. The last line is `N passed, M failed`; the exit 
 """
 
 import copy
+import dataclasses
 import os
 import random
 import re
@@ -176,7 +177,16 @@ BOOK_LINES = [          # the text after BOOK, the number of the line that is na
     ("player 16: number 1, stop, refused 14", 3, "15 is the greatest"),
     ("player 0: stop, refused 14", 3, "`number` and the player's last number are expected"),
     ("player 0: number 0, stop, refused 14", 3, "leave out a player that has not asked yet"),
-    ("player 0: number 4294967296, stop, refused 14", 3, "4294967295 is the greatest"),
+    ("player 0: number 18446744073709551616, stop, refused 14", 3, "18446744073709551615 is the greatest"),
+    ("player 0: number 4294967296.1, stop, refused 14", 3, "the boot number is 4294967296, but 4294967295 is the greatest"),
+    ("player 0: number 1.4294967296, stop, refused 14", 3, "the counter is 4294967296, but 4294967295 is the greatest"),
+    *((f"player 0: number {bad}, stop, refused 14", 3, f"boot number and counter with a dot between them, like 3.1; not `{bad}`")
+      for bad in ("1.2.3", "1.", ".1", ".", "1..2", "+1", "-1", "3.+1", "3.-1", "1e3", "0x1", "x", "3.x", "\u0663.1")),
+    ("player 0: number 3 .1, stop, refused 14", 3, "`.1` is not a known operation"),
+    ("player 0: number 3. 1, stop, refused 14", 3, "like 3.1; not `3.`"),
+    ("player 0: number 18446744073709551615.1, stop, refused 14", 3, "the boot number is 18446744073709551615, but 4294967295 is the"),
+    ("player 0: number 0.0, stop, refused 14", 3, "leave out a player that has not asked yet"),
+    ("player 0: number", 3, "the line ends where the number is expected"),
     ("player 0: number 1, halt, refused 14", 3, "`halt` is not a known operation; known are: begin, continue, stop"),
     ("player 0: number 1, begin 1 watch, refused 13", 3, "`watch` is not a known kind; known are: play"),
     ("player 0: number 1, stop", 3, "the last answer is expected here"),
@@ -217,15 +227,24 @@ EVENT_LINES = [
     ("0.1 begin 1 play", 1, "the line ends where the time is expected"),
     ("0.1 begin 65536 play 5", 1, "65535 is the greatest"),
     ("256.1 stop 5", 1, "255 is the greatest"),
-    ("0.4294967296 stop 5", 1, "4294967295 is the greatest"),
-    (f"0.{NINES} stop 5", 1, "4294967295 is the greatest"),
+    ("0.18446744073709551616 stop 5", 1, "18446744073709551615 is the greatest"),
+    (f"0.{NINES} stop 5", 1, "18446744073709551615 is the greatest"),
+    ("0.4294967296.1 stop 5", 1, "the boot number is 4294967296, but 4294967295 is the greatest"),
+    ("0.1.4294967296 stop 5", 1, "the counter is 4294967296, but 4294967295 is the greatest"),
+    (f"0.{NINES}.1 stop 5", 1, "4294967295 is the greatest"),
+    *((f"{bad} stop 5", 1, "player and number, like 0.1, or with a boot number between them, like 0.3.1, or with raw; not `")
+      for bad in ("0.1.2.3", "0..1", "0.", "0.1.", ".1", ".", "0.+1", "0.-1", "+0.1", "-1.1", "0.3.+1", "0.3.-1", "0. 1", "0 .1", "0.3. 1",
+                  "0.1e3", "0.x", "0.\u0663")),
+    ("0.3 .1 stop 5", 1, "`.1` is not a known operation"),
+    ("0.18446744073709551616.0 stop 5", 1, "the boot number is 18446744073709551616, but 4294967295 is the greatest"),
     (f"0.1 stop {NINES}", 1, "4294967295 is the greatest"),
     ("0.1 stop 4294967296", 1, "4294967295 is the greatest"),
     ("0.1 stop 5 6", 1, "`6` is not understood here"),
     ("0.1 stop 1 play 5", 1, "`play 5` is not understood here"),
     ("raw 0", 1, "each as two of the digits"),
     ("raw", 1, "this one has 0"),
-    ("raw " + "00" * 14, 1, "this one has 14"),
+    ("raw " + "00" * 18, 1, "a record has 17 bytes, and the last one may have fewer; this one has 18"),
+    ("raw " + "00" * 13 + "\n" + "raw " + "00" * 13, 2, "only the last record"),
     ("raw 00\n0.1 stop 5", 2, "only the last record"),
 ]
 
@@ -247,8 +266,8 @@ def test_inputs(folder):
     shutil.copy(AFTERNOON / "book.txt", text)
     shutil.copy(AFTERNOON / "events.bin", events)
     out = folder / "out"
-    for command in ("show", "text", "left", "why", "diff", "explain", "make", "events", "after", "report", "import"):
-        rest = {"diff": [image], "explain": [AFTERNOON / "expected.txt"], "make": [out], "events": [out],
+    for command in ("show", "text", "left", "why", "diff", "explain", "make", "events", "widen", "after", "report", "import"):
+        rest = {"diff": [image], "explain": [AFTERNOON / "expected.txt"], "make": [out], "events": [out], "widen": [out],
                 "after": [events, out], "report": [events], "why": [0, 1, "play"], "import": [out]}.get(command, [])
         refused(f"{command}: missing file", "there is no such file", command, folder / "none", *rest)
         refused(f"{command}: folder", "this is a folder", command, folder, *rest)
@@ -305,8 +324,9 @@ def test_inputs(folder):
     refused("make: not UTF-8", "latin.txt, line 2: byte 0xfc is not UTF-8", "make", folder / "latin.txt", out)
     (folder / "wide.txt").write_text("asset 1 key\n", encoding="utf-16")
     refused("make: UTF-16", "UTF-16; save it as UTF-8", "make", folder / "wide.txt", out)
-    for cut, code in ((b"", 20), (b"RBK", 20), (b"RBX" + bytes(400), 21), (b"RBK\0\0" + bytes(400), 22), (b"RBK\0\3" + bytes(400), 22),
-                      (b"RBK\0\2" + bytes(457), 20), (b"RBK\0\2" + bytes(459), 20), (b"RBK\0\1" + bytes(458), 20)):
+    for cut, code in ((b"", 20), (b"RBK", 20), (b"RBX" + bytes(400), 21), (b"RBK\0\0" + bytes(400), 22), (b"RBK\0\4" + bytes(522), 22),
+                      (b"RBK\0\3" + bytes(521), 20), (b"RBK\0\3" + bytes(523), 20), (b"RBK\0\2" + bytes(522), 20),
+                      (b"RBK\0\1" + bytes(522), 20)):
         (folder / "bad.rbk").write_bytes(cut)
         refused(f"show: an image refused with {code}", f"with {code}", "show", folder / "bad.rbk")
         refused(f"after: an image refused with {code}", f"with {code}", "after", folder / "bad.rbk", events, out)
@@ -320,7 +340,7 @@ def test_forgiving(folder):
     """What a text may contain: Windows line ends, tabs, a byte order mark, an empty file, no line feed at the end."""
     plain = "time 5\nasset 1 key\nentry 0: object 1, asset 1, play, count 2\n"
     wanted = call("make", "-", "-", stdin=plain.encode())
-    check("make from and to standard streams", wanted.status == 0 and wanted.err == "" and len(wanted.out) == 531, wanted)
+    check("make from and to standard streams", wanted.status == 0 and wanted.err == "" and len(wanted.out) == 595, wanted)
     for name, text in (("Windows line ends", plain.replace("\n", "\r\n")), ("old line ends", plain.replace("\n", "\r")),
                        ("tabs", plain.replace(" ", "\t")), ("no colons or commas", re.sub("[:,]", "", plain)),
                        ("no line feed at the end", plain[:-1]), ("empty lines", plain.replace("\n", "\n\n  \n# x\n"))):
@@ -329,7 +349,7 @@ def test_forgiving(folder):
     done = call("make", "-", "-", stdin=plain.encode("utf-8-sig"))
     check("make: a byte order mark", done.status == 0 and done.out == wanted.out and "byte order mark" in done.err, done)
     done = call("make", "-", "-", stdin=b"")
-    check("make: an empty text is an empty book", done.status == 0 and len(done.out) == 463, done)
+    check("make: an empty text is an empty book", done.status == 0 and len(done.out) == 527, done)
     done = call("events", "-", "-", stdin=b"")
     check("events: an empty text", done.status == 0 and done.out == b"" and done.err == "", done)
     done = call("left", "-", stdin=call("make", "-", "-", stdin=b"").out)
@@ -423,7 +443,7 @@ def test_files(folder):
           and records_file.read_bytes() == before[records_file] and not new.exists())
     check("a failed write leaves nothing beside it", not [path for path in folder.iterdir() if path.name.startswith(".")])
     done = call("make", other, image)
-    check("make replaces a book", done.status == 0 and len(image.read_bytes()) == 468, done)
+    check("make replaces a book", done.status == 0 and len(image.read_bytes()) == 532, done)
     check("make keeps the file's mode", image.stat().st_mode & 0o777 == 0o640)
     (folder / "to").symlink_to(image)
     done = call("make", text, folder / "to")
@@ -518,7 +538,7 @@ def wild_entry(rng, asset, now):
 
 
 def wild_player(rng, book, player):
-    player.number = rng.choice((1, 7, rng.randint(1, 2**32 - 1), 2**32 - 1))
+    player.number = rng.choice((1, 7, rng.randint(1, 2**32 - 1), 2**32 - 1, 2**32, rng.randint(2**32, 2**64 - 1), 2**64 - 1))
     player.operation = rng.randint(1, 3)
     if player.operation == 1:
         player.asset, player.kind = rng.randrange(65_536), rng.randint(1, 5)
@@ -585,16 +605,107 @@ def test_round_trips(folder, how_many):
 
 
 def test_older(folder):
-    """Images of version 1: read like those of the newest, with nothing metered; `make` writes the newest."""
+    """Images of older versions: read like those of the newest, of version 1 with nothing metered; `make` writes the newest."""
     for seed, rng, book in random_books(20):
-        old, new = folder / "old.rbk", folder / "new.rbk"
-        old.write_bytes(rights.write(book, 1))
+        old, new, version = folder / "old.rbk", folder / "new.rbk", seed // 2 % 2 + 1
+        old.write_bytes(rights.write(days.with_short_numbers(book), version))
         shown = call("text", old).out
         new.write_bytes(call("make", "-", "-", stdin=shown).out)
-        check(f"book {seed} of version 1, as text and made again", rights.read(old.read_bytes()) == rights.read(new.read_bytes())
-              and new.read_bytes()[4] == rights.NEWEST and b"tracked" not in shown and b"metering" not in shown, shown.decode()[:300])
-        check(f"book {seed} of version 1 shows the same", call("show", old).out == call("show", new).out)
-        check(f"book {seed} of version 1 does not differ", call("diff", old, new).status == 0)
+        check(f"book {seed} of version {version}, as text and made again", rights.read(old.read_bytes()) == rights.read(new.read_bytes())
+              and new.read_bytes()[4] == rights.NEWEST and (version == 2 or b"tracked" not in shown and b"metering" not in shown),
+              shown.decode()[:300])
+        check(f"book {seed} of version {version} shows the same", call("show", old).out == call("show", new).out)
+        check(f"book {seed} of version {version} does not differ", call("diff", old, new).status == 0)
+
+
+def test_numbers(folder):
+    """Numbers of requests, as boot.counter or as one number, are the same bytes, and are shown as boot.counter."""
+    rng, parts = random.Random(4), []
+    for _ in range(300):
+        boot, counter = (rng.choice((0, 1, 7, 2**31, 2**32 - 1, rng.randrange(2**32))) for _ in range(2))
+        one, shown = boot * 2**32 + counter, f"{boot}.{counter}" if boot else str(counter)
+        parts.append((words.number_text(one) == shown, f"{one} is shown as {words.number_text(one)}"))
+        parts += [(words.request_number(text) == one, text) for text in (shown, str(one), f"{boot}.{counter}", f"00{boot}.0{counter}")]
+    check_all("numbers: boot number and counter", parts)
+    wanted = "00 0000000300000001 03 0000 00 00000005"
+    for line in ("0.3.1 stop 5", "0.12884901889 stop 5", "0.03.001 stop 5", f"raw {wanted}"):
+        done = call("events", "-", "-", stdin=line.encode())
+        check(f"numbers: {line}", done.status == 0 and done.out == bytes.fromhex(wanted), done)
+    for line, wanted in (("0.0 stop 5", 0), ("0.0.0 stop 5", 0), ("0.4294967296 stop 5", 2**32), ("0.1.0 stop 5", 2**32),
+                         ("0.4294967295.4294967295 stop 5", 2**64 - 1), ("0.18446744073709551615 stop 5", 2**64 - 1)):
+        done = call("events", "-", "-", stdin=line.encode())
+        check(f"numbers: {line}", done.status == 0 and done.out[1:9] == wanted.to_bytes(8, "big"), done)
+    events, image = folder / "e.bin", folder / "b.rbk"
+    events.write_bytes(call("events", "-", "-", stdin=b"0.1 stop 5\n0.3.1 stop 5\n0.4294967295.4294967295 stop 5\n0.4294967296 stop 5").out)
+    done = call("explain", events, "-", stdin=b"14 255 0\n14 255 0\n3 255 0\n3 255 0\n")
+    found = re.findall(r"request (\S+):", done.out.decode())
+    check("numbers: explained", found == ["1", "3.1", "4294967295.4294967295", "1.0"], done)
+    text = b"asset 1 key\nplayer 0: number 3.1, stop, refused 14\nplayer 1: number 12884901890, stop, refused 14\n"
+    image.write_bytes(call("make", "-", "-", stdin=text).out)
+    players = rights.read(image.read_bytes())[1].players
+    check("numbers: made", [player.number for player in players[:3]] == [3 * 2**32 + 1, 3 * 2**32 + 2, 0])
+    done = call("text", image)
+    check("numbers: as text", b"player 0: number 3.1, stop" in done.out and b"player 1: number 3.2, stop" in done.out, done)
+    done = call("show", image)
+    check("numbers: shown", b"    0  request 3.1: stop" in done.out and b"    1  request 3.2: stop" in done.out, done)
+    other = folder / "o.rbk"
+    other.write_bytes(call("make", "-", "-", stdin=text.replace(b"3.1", b"4.1")).out)
+    done = call("diff", image, other)
+    check("numbers: what differs", done.out == b"player 0: number 3.1 -> 4.1\n", done)
+    for name in ("e.txt", "e13.bin"):
+        (folder / name).write_bytes(b"0.3.1 stop 5\n" if name == "e.txt" else bytes(13))
+    refused("numbers: a text with boot numbers is no file of records", "this is a text", "explain", folder / "e.txt", "/dev/null")
+    done = call("explain", folder / "e13.bin", "-", stdin=b"6 255 0\n")
+    check("numbers: a record of 13 bytes", b"a record cut short, 13 bytes" in done.out and b"is not 17 bytes long" in done.out
+          and done.err.startswith("note: ") and "`book.py widen` makes the longer ones" in done.err, done)
+
+
+def test_next_number(folder):
+    """The requests in docs/ANSWERS.md, "Which number comes next", get the answers that stand behind them."""
+    page = (ROOT / "docs" / "ANSWERS.md").read_text().split("## Which number comes next\n")[1].split("\n## ")[0]
+    book = "\n".join(re.search("on a book with `(asset .*)` and `(entry .*)`;", page).groups())
+    lines = [line.strip() for line in page.splitlines() if line.startswith("    ")]
+    told = "".join(re.search("# ([0-9]+ [0-9]+ [0-9]+)(  |$)", line)[1] + "\n" for line in lines)
+    (folder / "rights.rbk").write_bytes(call("make", "-", "-", stdin=book.encode()).out)
+    made = call("events", "-", "-", stdin="\n".join(lines).encode())
+    done = subprocess.run([RUN], input=made.out, cwd=folder, capture_output=True, timeout=60)
+    check("the page's example of numbers", len(lines) == 11 and made.status == 0 and done.stdout.decode() == told, f"{made} {done}")
+
+
+def shortened(events):
+    """The whole records, of 13 bytes each: without boot numbers."""
+    return b"".join(record[:1] + record[5:] for record in rights.records_in(events) if len(record) == rights.RECORD.size)
+
+
+def test_widen(folder):
+    """Records of 13 bytes become those of the same events under boot number 0; other commands say that they look like such."""
+    old, new = folder / "old.bin", folder / "new.bin"
+    for seed in range(20):
+        events = days.make_day(seed, 60, "crowd")[1]
+        old.write_bytes(shortened(events))
+        done = call("widen", old, new)
+        wanted = [rights.RECORD.read(record) for record in rights.records_in(events) if len(record) == rights.RECORD.size]
+        wanted = [dataclasses.replace(event, number=event.number % 2**32) for event in wanted]
+        made = [rights.RECORD.read(record) for record in rights.records_in(new.read_bytes())]
+        check(f"widen: day {seed}", done.status == 0 and made == wanted and done.out == b"" and done.err == "", done)
+    afternoon = (AFTERNOON / "events.bin").read_bytes()
+    old.write_bytes(shortened(afternoon))
+    check("widen: the afternoon", call("widen", old, "-").out == afternoon == call("widen", "-", "-", stdin=shortened(afternoon)).out)
+    check("widen: nothing", (lambda done: (done.status, done.out))(call("widen", "/dev/null", "-")) == (0, b""))
+    for args in (["explain", old, "/dev/null"], ["report", AFTERNOON / "rights.rbk", old],
+                 ["after", AFTERNOON / "rights.rbk", old, folder / "next.rbk"]):
+        done = call(*args)
+        check(f"{args[0]}: a note on records of 13 bytes", done.status == 0 and done.err.count("\n") == 1
+              and f"{old} has 286 bytes, a whole number of records of 13 bytes" in done.err, done)
+        done = call(*(AFTERNOON / "events.bin" if word == old else word for word in args))
+        check(f"{args[0]}: no note on records of 17 bytes", done.status == 0 and done.err == "", done)
+    refused("widen: records of 17 bytes", "its 374 bytes are no whole number of records of 13 bytes, but of 17: nothing to do",
+            "widen", AFTERNOON / "events.bin", new)
+    old.write_bytes(bytes(30))
+    refused("widen: a record cut short", "4 are over; a last record that was cut short changes nothing", "widen", old, new)
+    refused("widen: over itself", "this is the file", "widen", old, old)
+    refused("widen: a text", "this is a text", "widen", AFTERNOON / "events.txt", new)
+    refused("widen: a book", "this is a book image", "widen", AFTERNOON / "rights.rbk", new)
 
 
 # ---- diff
@@ -873,7 +984,7 @@ def test_why(folder, how_many):
             first, *lines = why.why_lines(image, copy_of(book), player, asset, kind, t)
             after = copy_of(book)
             last = book.players[player].number
-            answer = rights.step(after, Event(player, (last + 1) % 2**32, rights.BEGIN, asset, kind, t), rights.zeros(book))
+            answer = rights.step(after, Event(player, (last + 1) % 2**64, rights.BEGIN, asset, kind, t), rights.zeros(book))
             seen[answer[0]] = seen.get(answer[0], 0) + 1
             parts.append((first.startswith(f"The answer would be {answer[0]}, "), f"{answer}: {first}"))
             parts += why_parts(state.settled(book, t), asset, kind, t, answer, lines)
@@ -933,7 +1044,7 @@ entry 11: object 3, asset 1, execute, interval 0, first 1000, count 5, used coun
 entry 12: object 4, asset 2, display, tracked, count 1, used count 1
 entry 13: object 4, asset 2, display, tracked, timed value 30
 player 0: number 1, begin 1 play, granted 6 1060, open 6 1000 1060
-player 1: number 4294967295, stop, refused 14
+player 1: number 18446744073709551615, stop, refused 14
 """)
     call("make", path, image)
     cases = (((3, 1, "play", "--at", "1970-01-01 00:16:40 (1000)"), """\
@@ -975,7 +1086,8 @@ Player 3 asks to print asset 1 at 1970-01-01 00:17:39 (1059), UTC, as asked.
 The answer would be 12, refused: the book has no entry of this kind for the asset: it has play, display, execute.
 """), ((1, 1, "play", "--at=9000"), """\
 Player 1 asks to play asset 1 at 1970-01-01 02:30:00 (9000), UTC, as asked.
-The answer would be 3, turned away: its number is not the player's next one: it has used all of them, up to 4294967295.
+The answer would be 3, turned away: its number is not the player's next one, nor counter 1 under a greater boot number: \
+it has used all of them, up to 4294967295.4294967295.
   entry 0 (inherited from 9, rights object 1): count: 2 of 2 used
   entry 1 (its own, rights object 1): nothing stands against it
   entry 2 (its own, rights object 2): nothing stands against it
@@ -1008,7 +1120,7 @@ def test_after(folder, how_many):
     compare_after(folder, "after: a day of four blocks", data, stream[:rights.RECORD.size * 17_000])
     compare_after(folder, "after: a day of four blocks, cut short", data, stream[:rights.RECORD.size * 16_999 + 5])
     compare_after(folder, "after: a day of just one block", data, stream[:rights.RECORD.size * 5000])
-    compare_after(folder, "after: a record of printable bytes", data, b"Event records")
+    compare_after(folder, "after: a record of printable bytes", data, b"These are records")
 
     named = folder / "named"
     for name, args, stdin in (("events from standard input", (image, "-", named), events.read_bytes()),
@@ -1458,10 +1570,10 @@ def test_help(folder):
     lines = [re.sub("  .*", "", line.strip()) for line in shown.splitlines() if line.startswith("    ")]
     book = [line for line in lines if line.split()[0] in ("time", "metering", "asset", "entry")]
     done = call("make", "-", "-", stdin="\n".join(book).encode())
-    check("help: its book is a book", done.status == 0 and len(book) == 11 and len(done.out) == 463 + 20 + 315, done)
+    check("help: its book is a book", done.status == 0 and len(book) == 11 and len(done.out) == 527 + 20 + 315, done)
     events = [line for line in lines if re.match("[0-9]|raw", line)]
     done = call("events", "-", "-", stdin="\n".join(events).encode())
-    check("help: its events are events", done.status == 0 and len(events) == 4 and len(done.out) == 52, done)
+    check("help: its events are events", done.status == 0 and len(events) == 5 and len(done.out) == 85, done)
     players = [line for line in lines if line.startswith("player")]
     text = "\n".join(["time 1070", "asset 1 key", "entry 0: object 1 asset 1 play count 2 used count 1", *players])
     done = call("make", "-", "-", stdin=text.encode())
@@ -1482,7 +1594,7 @@ def test_damage(folder, how_many):
             at = rng.randrange(len(data) + 1)
             piece = rng.choice((b"", bytes([rng.randrange(256)]), b" ", b"\n", b"9" * 30, b"#", b",", b":", b"-1", b"\xff",
                                 b"count 2", b"tracked", b"timed value", b"mark", b"metering on\n", b"content 1", b"2026-12-24",
-                                b"18:30", b"(5)", "\u0663".encode(),
+                                b"18:30", b"(5)", b"3.1", b".", "\u0663".encode(),
                                 bytes(data[:rng.randrange(40)])))
             data[at:at + rng.choice((0, 0, 1, 5))] = piece
         path.write_bytes(data)
@@ -1504,7 +1616,9 @@ def main():
     if not RUN.exists():
         sys.exit(f"there is no {RUN}: `rt check run` makes it")
     parts = [(test_lines,), (test_inputs,), (test_forgiving,), (test_times,), (test_files,), (test_streams,),
-             (test_round_trips, how_many), (test_older,), (test_diff, how_many), (test_left, how_many), (test_left_words,),
+             (test_round_trips, how_many), (test_older,), (test_numbers,), (test_next_number,), (test_widen,),
+             (test_diff, how_many),
+             (test_left, how_many), (test_left_words,),
              (test_why, how_many // 3), (test_why_words,),
              (test_after, how_many // 5), (test_report, how_many // 2), (test_import,), (test_import_made,), (test_import_places,),
              (test_building,),

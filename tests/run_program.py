@@ -8,9 +8,12 @@ PROGRAM is target/bin/run if none is named. What it must print comes from the se
 
 import fcntl
 import os
+import signal
+import struct
 import subprocess
 import sys
 import tempfile
+import termios
 import threading
 import time
 from pathlib import Path
@@ -26,6 +29,7 @@ SHORT = (ROOT / "crates" / "run" / "data" / "rights.rbk").read_bytes()
 SHORT_EVENTS = (ROOT / "crates" / "run" / "stdin").read_bytes()
 LONG = (ROOT / "crates" / "run_long" / "data" / "rights.rbk").read_bytes()
 LONG_EVENTS = (ROOT / "crates" / "run_long" / "stdin").read_bytes()
+RECORD = 17                 # bytes of an event record
 NOBODY = 65534
 SET_PIPE_SIZE = 1031        # Linux's F_SETPIPE_SZ, which fcntl has only from Python 3.10
 
@@ -100,6 +104,45 @@ def through_pipes(image, events, pieces, blocking_in=True, blocking_out=True, si
         return got.decode(), complaint
 
 
+def taken(pipe):
+    """Waits until the program has read all that is in the pipe."""
+    until = time.time() + LIMIT
+    while struct.unpack("i", fcntl.ioctl(pipe, termios.FIONREAD, bytes(4)))[0]:
+        if time.time() > until:
+            raise AssertionError(f"the input is not read within {LIMIT} seconds")
+        time.sleep(0.0001)
+
+
+def read_by_read(image, pieces, together=b""):
+    """Standard output and error when the program reads each piece by itself, then `together`, which waits for it as a whole."""
+    with folder_with(image) as folder, tempfile.TemporaryFile() as answers:
+        in_read, in_write = os.pipe()
+        program = start(folder, stdin=in_read, stdout=answers)
+        os.close(in_read)
+        watch = threading.Timer(LIMIT, program.kill)
+        watch.start()
+        try:
+            for piece in pieces:
+                os.write(in_write, piece)
+                taken(in_write)
+            if together:
+                fcntl.fcntl(in_write, SET_PIPE_SIZE, 1 << 20)
+                program.send_signal(signal.SIGSTOP)
+                same(os.write(in_write, together), len(together), "bytes that wait for the program")
+                program.send_signal(signal.SIGCONT)
+        finally:
+            os.close(in_write)
+            complaint = program.stderr.read().decode()
+            program.wait()
+            watch.cancel()
+        answers.seek(0)
+        return answers.read().decode(), complaint
+
+
+def cut(events, size):
+    return [events[at:at + size] for at in range(0, len(events), size)]
+
+
 def pieces_of(length, sizes):
     """The sizes in turn, repeated as long as they fit the length."""
     found = []
@@ -134,7 +177,7 @@ def test_each_record_has_its_answer_before_the_next_is_sent():
 
 
 def test_a_record_in_two_parts_has_no_answer_before_the_second():
-    wanted = rights.run(SHORT, SHORT_EVENTS[:26]).splitlines(keepends=True)
+    wanted = rights.run(SHORT, SHORT_EVENTS[:2 * RECORD]).splitlines(keepends=True)
     with folder_with(SHORT) as folder:
         program = start(folder, stdin=subprocess.PIPE, stdout=subprocess.PIPE)
         program.stdin.write(SHORT_EVENTS[:20])
@@ -144,7 +187,7 @@ def test_a_record_in_two_parts_has_no_answer_before_the_second():
         time.sleep(0.1)
         same(program.stdout.read() or b"", b"", "before the rest of the second record")
         os.set_blocking(program.stdout.fileno(), True)
-        program.stdin.write(SHORT_EVENTS[20:26])
+        program.stdin.write(SHORT_EVENTS[20:2 * RECORD])
         program.stdin.close()
         same(program.stdout.read().decode(), wanted[1], "second answer")
         program.stderr.close()
@@ -152,10 +195,46 @@ def test_a_record_in_two_parts_has_no_answer_before_the_second():
 
 
 def test_pieces_split_anywhere():
-    for sizes in ((1, 5, 7), (12, 14), (13 * 50 + 6,), (4096,), (65_545,), (65_544, 2), (70_000, 1)):
-        events = LONG_EVENTS if min(sizes) > 100 else LONG_EVENTS[:13 * 900 + 4]
+    for sizes in ((1, 5, 7), (13,), (16, 18), (RECORD * 50 + 6,), (4096,), (65_551,), (65_550, 2), (70_000, 1)):
+        events = LONG_EVENTS if min(sizes) > 100 else LONG_EVENTS[:RECORD * 900 + 4]
         out, err = through_pipes(LONG, events, pieces_of(len(events), sizes))
         same(out, rights.run(LONG, events), f"pieces of {sizes}")
+        same(err, "", "standard error")
+
+
+def test_reads_of_1_to_40_bytes():
+    """Whatever is left of a record after a read is kept for the next one; the last record may be cut short."""
+    for events in (SHORT_EVENTS, SHORT_EVENTS[:-1], SHORT_EVENTS[:-16]):
+        wanted = rights.run(SHORT, events)
+        for size in range(1, 41):
+            out, err = read_by_read(SHORT, cut(events, size))
+            same(out, wanted, f"{len(events)} bytes in reads of {size}")
+            same(err, "", "standard error")
+
+
+def test_two_reads_cut_at_every_byte():
+    wanted = rights.run(SHORT, SHORT_EVENTS)
+    for at in range(1, len(SHORT_EVENTS)):
+        out, err = read_by_read(SHORT, [SHORT_EVENTS[:at], SHORT_EVENTS[at:]])
+        same(out, wanted, f"cut at byte {at}")
+        same(err, "", "standard error")
+
+
+def test_an_input_that_ends_at_every_byte():
+    for length in range(len(SHORT_EVENTS) + 1):
+        events = SHORT_EVENTS[:length]
+        out, err = run(SHORT, events)
+        same(out, rights.run(SHORT, events), f"{length} bytes")
+        same(err, "", "standard error")
+
+
+def test_full_reads_behind_part_of_a_record():
+    """After 1 to 17 bytes more waits than the program reads at once, so its reads end at another place of a record each time."""
+    events = LONG_EVENTS[:RECORD * 12_000 + 3]
+    wanted = rights.run(LONG, events)
+    for first in range(1, RECORD + 1):
+        out, err = read_by_read(LONG, [events[:first]], events[first:])
+        same(out, wanted, f"{first} bytes first")
         same(err, "", "standard error")
 
 
@@ -171,7 +250,7 @@ def test_a_long_input_from_a_file():
 # ---- Non-blocking descriptors
 
 def test_standard_input_that_does_not_block():
-    events = LONG_EVENTS[:13 * 3000 + 5]
+    events = LONG_EVENTS[:RECORD * 3000 + 5]
     out, err = through_pipes(LONG, events, pieces_of(len(events), (11, 200, 1)), blocking_in=False)
     same(out, rights.run(LONG, events), "answers")
     same(err, "", "standard error")
@@ -242,20 +321,29 @@ def test_a_file_that_may_not_be_read():
 
 
 def test_the_longest_image_and_one_byte_more():
-    same(len(LONG), 4815, "length of the image")
-    same(run(LONG, LONG_EVENTS[:26])[0], rights.run(LONG, LONG_EVENTS[:26]), "the longest image")
+    same(len(LONG), 4879, "length of the image")
+    same(run(LONG, LONG_EVENTS[:2 * RECORD])[0], rights.run(LONG, LONG_EVENTS[:2 * RECORD]), "the longest image")
     for more in (1, 2, 5000):
-        out, err = run(LONG + bytes(more), LONG_EVENTS[:26])
+        out, err = run(LONG + bytes(more), LONG_EVENTS[:2 * RECORD])
         same(out, "20\n", f"{more} bytes more")
         same(err, "", "standard error")
 
 
-def test_the_longest_image_of_version_1_and_one_byte_more():
-    old = rights.write(rights.read(LONG)[1], 1)
-    same(len(old), 3979, "length of the image")
-    same(run(old, LONG_EVENTS[:2600])[0], rights.run(old, LONG_EVENTS[:2600]), "the longest image of version 1")
-    for more in (1, len(LONG) - len(old), 5000):
-        same(run(old + bytes(more), LONG_EVENTS[:26])[0], "20\n", f"{more} bytes more")
+def test_the_longest_image_of_older_versions_and_one_byte_more():
+    for version, length in ((1, 3979), (2, 4815)):
+        old = rights.write(rights.read(LONG)[1], version)
+        same(len(old), length, "length of the image")
+        events = LONG_EVENTS[:200 * RECORD]
+        same(run(old, events)[0], rights.run(old, events), f"the longest image of version {version}")
+        for more in (1, len(LONG) - len(old), 5000):
+            same(run(old + bytes(more), LONG_EVENTS[:2 * RECORD])[0], "20\n", f"{more} bytes more")
+
+
+def test_the_last_record_cut_short():
+    for length in (1, 13, 16):
+        out, err = run(SHORT, SHORT_EVENTS[:RECORD + length])
+        same(out, rights.run(SHORT, SHORT_EVENTS[:RECORD]) + "6 255 0\n", f"{length} bytes")
+        same(err, "", "standard error")
 
 
 # ---- Wrong invocations

@@ -12,6 +12,7 @@
     tools/book.py make BOOK.TXT BOOK              a book from its text
     tools/book.py text BOOK                       a book as text, to change and to `make`
     tools/book.py events EVENTS.TXT EVENTS        event records from their text
+    tools/book.py widen OLD EVENTS                event records of 17 bytes from those of 13, as players sent them before order 4
 
 BOOK is a book image (rights.rbk), EVENTS a file of event records, ANSWERS what the server printed for them. A file
 named - is standard input or output. Nothing is written over an input or over a file of another kind, and a write that
@@ -57,13 +58,16 @@ and `first TIME` (when its interval started). A player that has asked before:
 
 that is its last number and request, the answer (granted ENTRY UNTIL, or refused CODE), and the open use, if there is
 one (open ENTRY BEGIN UNTIL, then content ASSET, the asset asked for, which only an open use of an untracked entry may lack).
+A number is the player's counter alone, or BOOT.COUNTER, as 3.1, if the player puts a boot number before it; one number, boot
+number times 2 to the 32 plus counter, is read too.
 
 The text of events, one a line, player and number with a dot between:
 
     0.1 begin 1 play 1000                player 0, number 1, asks to play asset 1, at 1000
     0.2 continue 1059
+    0.3.1 stop 1070                      player 0, counter 1 under boot number 3
     2.2 stop 2026-12-24T18:30:00
-    raw 10 00000001 03 0000 00 00000430  the bytes of a record, for trying out bad ones; only the last may be cut
+    raw 10 0000000000000001 03 0000 00 00000430     the bytes of a record, for trying out bad ones; only the last may be cut
 
 Times are seconds since 1970 or a date in UTC: 2026-12-24, 2026-12-24T18:30:00, or as `show` prints it,
 2026-12-24 18:30:00 (1798137000). A date alone is the first second of that day; after `end` it is the last, 23:59:59.
@@ -76,7 +80,7 @@ import sys
 
 from books.imported import import_xml
 from books.library import after
-from books.records import events, explain
+from books.records import events, explain, widen
 from books.report import report
 from books.state import diff, left, show
 from books.texts import make, text
@@ -87,7 +91,7 @@ COMMANDS = {
     "left": (left, "BOOK [--at TIME]"), "why": (why, "BOOK PLAYER ASSET KIND [--at TIME]"),
     "after": (after, "BOOK EVENTS NEXT"), "report": (report, "BOOK EVENTS [--csv]"), "diff": (diff, "BOOK BOOK"), "show": (show, "BOOK"),
     "explain": (explain, "EVENTS ANSWERS"), "import": (import_xml, "RIGHTS.XML BOOK"), "make": (make, "BOOK.TXT BOOK"),
-    "text": (text, "BOOK"), "events": (events, "EVENTS.TXT EVENTS")}
+    "text": (text, "BOOK"), "events": (events, "EVENTS.TXT EVENTS"), "widen": (widen, "OLD EVENTS")}
 
 
 def run(words):

@@ -88,8 +88,8 @@ static void answer_singly(size_t lines, size_t length)
     for (const uint8_t *r = records; r < records + length; r += RIGHTS_RECORD) {
         uint8_t code, entry;
         uint32_t until;
-        uint8_t result = rights_answer_one(ones.image, room, &ones.length, r[0], (uint32_t)number(r + 1, 4), r[5],
-                                           (uint16_t)number(r + 6, 2), r[8], (uint32_t)number(r + 9, 4),
+        uint8_t result = rights_answer_one(ones.image, room, &ones.length, r[0], number(r + 1, 8), r[9],
+                                           (uint16_t)number(r + 10, 2), r[12], (uint32_t)number(r + 13, 4),
                                            &code, &entry, &until, ones.lines, lines);
         if (result != RIGHTS_OK)
             fail("an event of an accepted image is refused");

@@ -9,11 +9,11 @@
 #![allow(dead_code)] // a server need not use all of this
 
 /// Bytes of an event record.
-pub const RECORD: usize = 13;
+pub const RECORD: usize = 17;
 /// The longest line of an answer, including its line feed.
 pub const LINE: usize = 19;
 /// Room for any next image.
-pub const LONGEST_IMAGE: usize = 4815;
+pub const LONGEST_IMAGE: usize = 4879;
 /// The most lines of a list.
 pub const LINES: usize = 64;
 /// Bytes of stack that are enough for any call that reads no XML (`docs/EMBEDDING.md`).
@@ -37,11 +37,11 @@ pub enum Refused {
 }
 
 /// An event in numbers, as they are in a record: operation 1 begin, 2 continue, 3 stop; kind 1 play, 2 display,
-/// 3 execute, 4 print, 5 export. Asset and kind are 0 for a continue and a stop.
+/// 3 execute, 4 print, 5 export. Asset and kind are 0 for a continue and a stop. `numbered` makes the number from boot number and counter.
 #[derive(Clone, Copy, Debug, PartialEq, Eq)]
 pub struct Event {
     pub player: u8,
-    pub number: u32,
+    pub number: u64,
     pub operation: u8,
     pub asset: u16,
     pub kind: u8,
@@ -142,7 +142,8 @@ pub struct Grounds {
 /// The last event taken from a player with its answer (number 0: none yet), and its open use.
 #[derive(Clone, Copy, Debug, PartialEq, Eq)]
 pub struct Player {
-    pub number: u32,
+    /// Boot number and counter: see `numbered`.
+    pub number: u64,
     pub operation: u32,
     pub asset: u32,
     pub kind: u32,
@@ -188,7 +189,7 @@ mod library {
             image_room: usize,
             image_length: *mut u64,
             player: u8,
-            number: u32,
+            number: u64,
             operation: u8,
             asset: u16,
             kind: u8,
@@ -201,7 +202,7 @@ mod library {
         ) -> u8;
         pub fn rights_record(
             player: u8,
-            number: u32,
+            number: u64,
             operation: u8,
             asset: u16,
             kind: u8,
@@ -249,6 +250,11 @@ fn judged(code: u8) -> Result<(), Refused> {
         40..=42 => Err(Refused::Text(code)),
         code => Err(Refused::Image(code)),
     }
+}
+
+/// The number of an event: the boot number in its upper 32 bits, 0 for a player that has none, and the counter in its lower ones.
+pub fn numbered(boot: u32, counter: u32) -> u64 {
+    (boot as u64) << 32 | counter as u64
 }
 
 /// The bytes that `out` needs for that many bytes of records. A last record that is cut short counts as one.
@@ -471,11 +477,11 @@ pub fn grounds(image: &[u8], position: u32, player: u8, time: u32) -> Result<Gro
 
 /// A player, 0 to 15.
 pub fn player(image: &[u8], player: u32) -> Result<Player, Refused> {
-    let mut out = [0; 12];
+    let mut out = [0; 13];
     let code = unsafe { library::rights_player(image.as_ptr(), image.len(), player, out.as_mut_ptr(), out.len()) };
-    let [number, operation, asset, kind, code_of_last, entry, until, open, open_entry, open_begin, open_until, content] = out;
+    let [counter, operation, asset, kind, code_of_last, entry, until, open, open_entry, open_begin, open_until, content, boot] = out;
     judged(code).map(|()| Player {
-        number,
+        number: numbered(boot, counter),
         operation,
         asset,
         kind,

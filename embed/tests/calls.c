@@ -68,7 +68,7 @@ static size_t next_length_of(size_t image_length)
     uint32_t book[RIGHTS_BOOK_NUMBERS];
     if (rights_book(image, image_length, book, RIGHTS_BOOK_NUMBERS) != RIGHTS_OK)
         return image_length;
-    return 463 + 5 * book[RIGHTS_BOOK_ASSETS] + 63 * book[RIGHTS_BOOK_ENTRIES];
+    return 527 + 5 * book[RIGHTS_BOOK_ASSETS] + 63 * book[RIGHTS_BOOK_ENTRIES];
 }
 
 /* One call; everything it must not touch is compared before and after. Returns the code, the next image's length and the
@@ -224,9 +224,9 @@ static void texts(FILE *f)
     }
 }
 
-static uint32_t number_at(const uint8_t *bytes, int width)
+static uint64_t number_at(const uint8_t *bytes, int width)
 {
-    uint32_t n = 0;
+    uint64_t n = 0;
     for (int i = 0; i < width; i++)
         n = n << 8 | bytes[i];
     return n;
@@ -238,10 +238,10 @@ static void encode(const uint8_t *from)
     uint8_t made[RIGHTS_RECORD + BEHIND];
     for (size_t room = 0; room <= RIGHTS_RECORD + 1; room++) {
         memset(made, FILL, sizeof made);
-        uint8_t code = rights_record(from[RIGHTS_RECORD_PLAYER], number_at(from + RIGHTS_RECORD_NUMBER, 4),
+        uint8_t code = rights_record(from[RIGHTS_RECORD_PLAYER], number_at(from + RIGHTS_RECORD_NUMBER, 8),
                                      from[RIGHTS_RECORD_OPERATION],
                                      (uint16_t)number_at(from + RIGHTS_RECORD_ASSET, 2), from[RIGHTS_RECORD_KIND],
-                                     number_at(from + RIGHTS_RECORD_TIME, 4), made, room);
+                                     (uint32_t)number_at(from + RIGHTS_RECORD_TIME, 4), made, room);
         size_t used = code == RIGHTS_OK ? RIGHTS_RECORD : 0;
         if (code != (room < RIGHTS_RECORD ? RIGHTS_SHORT_OUT : RIGHTS_OK))
             fail("a record's room is misjudged");
@@ -269,8 +269,9 @@ static uint8_t one(size_t image_room, size_t *image_length, const uint8_t *from)
     memcpy(by_text_lines, lines, sizeof lines);
     memcpy(lines_before, lines, sizeof lines);
     memcpy(image_before, image, all_image);
-    uint8_t refused = rights_answer_one(image, image_room, &next_length, from[0], number_at(from + 1, 4), from[5],
-                                        (uint16_t)number_at(from + 6, 2), from[8], number_at(from + 9, 4),
+    uint64_t number = RIGHTS_NUMBER(number_at(from + 1, 4), number_at(from + 5, 4));
+    uint8_t refused = rights_answer_one(image, image_room, &next_length, from[0], number, from[9],
+                                        (uint16_t)number_at(from + 10, 2), from[12], (uint32_t)number_at(from + 13, 4),
                                         &code, &entry, &until, lines, line_count);
     if (refused != rights_answer(by_text, image_room, &text_length, from, RIGHTS_RECORD, out, RIGHTS_LINE, &written, by_text_lines,
                                  line_count))

@@ -142,11 +142,14 @@ fn texts(file: &[u8], print: &mut impl Write) {
 fn event_in(record: &[u8]) -> Event {
     Event {
         player: record[0],
-        number: u32::from_be_bytes(record[1..5].try_into().unwrap()),
-        operation: record[5],
-        asset: u16::from_be_bytes(record[6..8].try_into().unwrap()),
-        kind: record[8],
-        time: u32::from_be_bytes(record[9..13].try_into().unwrap()),
+        number: rights::numbered(
+            u32::from_be_bytes(record[1..5].try_into().unwrap()),
+            u32::from_be_bytes(record[5..9].try_into().unwrap()),
+        ),
+        operation: record[9],
+        asset: u16::from_be_bytes(record[10..12].try_into().unwrap()),
+        kind: record[12],
+        time: u32::from_be_bytes(record[13..17].try_into().unwrap()),
     }
 }
 
@@ -292,7 +295,7 @@ fn ground_numbers(image: &[u8], position: u32, time: u32) -> Result<Vec<u32>, Re
 fn player_numbers(image: &[u8], player: u32) -> Result<Vec<u32>, Refused> {
     rights::player(image, player).map(|p| {
         vec![
-            p.number,
+            p.number as u32,
             p.operation,
             p.asset,
             p.kind,
@@ -304,6 +307,7 @@ fn player_numbers(image: &[u8], player: u32) -> Result<Vec<u32>, Refused> {
             p.open_begin,
             p.open_until,
             p.content,
+            (p.number >> 32) as u32,
         ]
     })
 }

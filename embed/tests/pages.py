@@ -11,7 +11,7 @@ sys.path.insert(0, str(ROOT / "oracle"))
 import rights  # noqa: E402
 import xml_rights  # noqa: E402
 
-RECORD_FIELDS = [("player", 1), ("number", 4), ("operation", 1), ("asset", 2), ("kind", 1), ("time", 4)]
+RECORD_FIELDS = [("player", 1), ("number", 8), ("operation", 1), ("asset", 2), ("kind", 1), ("time", 4)]
 HEADER_FIELDS = [("mark", 3), ("version", 2), ("assets", 1), ("entries", 1), ("time", 4), ("switch", 4)]
 TABLES = [
     ("An event record", RECORD_FIELDS), ("Header", HEADER_FIELDS), ("Asset", rights.ASSET_FIELDS),
@@ -116,7 +116,7 @@ def header_numbers(header):
 
 def header_positions(numbers):
     for prefix, fields in (("ASSET", rights.ASSET_FIELDS), ("ENTRY", rights.ENTRY_FIELDS),
-                           ("PLAYER", rights.PLAYER_FIELDS)):
+                           ("PLAYER", [("counter", 4)] + rights.PLAYER_FIELDS[1:] + [("boot", 4)])):
         for position, (name, _) in enumerate(fields):
             named = RENAMED.get(name, name) if prefix == "PLAYER" else name
             must(numbers.get(f"RIGHTS_{prefix}_{named.upper()}") == position, f"{prefix} {name} in the header")

@@ -57,6 +57,12 @@ def settled(book, time):
     return found.entries
 
 
+def player_numbers(player):
+    """A player's fields, its counter in place of its number, and its boot number."""
+    number, *others = astuple(player)
+    return [rights.counter_of(number), *others, rights.boot_of(number)]
+
+
 def absent(table, position, numbers):
     return numbers(table[position]) if position < len(table) else ["refused", 31]
 
@@ -90,9 +96,9 @@ def see(image):
         for time, when, entries in tables:
             print_line("grounds", position, absent(entries, position, lambda entry: grounds(book, entry, when)), time)
     for position in range(rights.PLAYERS + 1):
-        print_line("player", position, absent(book.players, position, astuple))
+        print_line("player", position, absent(book.players, position, player_numbers))
     print_line("entry", 256, absent(book.entries, 256, astuple))
-    print_line("player", NO_LIMIT, absent(book.players, NO_LIMIT, astuple))
+    print_line("player", NO_LIMIT, absent(book.players, NO_LIMIT, player_numbers))
 
 
 def seen_days(data):
@@ -105,9 +111,10 @@ def seen_days(data):
         if code != 0:
             continue
         lines = rights.zeros(book)
-        for at in range(0, len(records), 13):
-            rights.answer_record(book, records[at:at + 13], lines)
-            if (at // 13 + 1) % EVERY == 0 or at + 13 >= len(records):
+        each = rights.records_in(records)
+        for done, record in enumerate(each, 1):
+            rights.answer_record(book, record, lines)
+            if done % EVERY == 0 or done == len(each):
                 see(rights.write(book))
 
 
@@ -141,7 +148,7 @@ def list_cases(data):
 def seen_lists(data):
     """The answers, and the lines that are not as they were; bytes that are no record, or more than one, are left out."""
     for image, record, lines in list_cases(data):
-        if 0 < len(record) <= 13:
+        if 0 < len(record) <= rights.RECORD.size:
             answer, _, after = rights.lent(rights.read(image)[1], record, lines)
             print(*answer)
             for line in (line for was, line in zip(lines, after) if line != was):

@@ -4,7 +4,7 @@ words    parses a text line by line and word by word, with a plain message for w
 files    reading and writing files; nothing is lost if a write fails
 texts    a book from its text, and a book as text
 state    who can use an entry, what is left of it, what differs between two books
-records  event records from their text, and in words with their answers
+records  event records from their text or from shorter ones, and in words with their answers
 report   the usage of each content over a day, as a bill
 why      why a begin would be answered as it would
 imported a book from an XML rights object, or where its text is at fault

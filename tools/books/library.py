@@ -112,8 +112,9 @@ def open_records(path):
         stream = open(path, "rb", buffering=0)
     except (OSError, ValueError) as problem:
         raise Trouble(f"{path}: {reason(problem)}") from None
-    if stat.S_ISREG(os.fstat(stream.fileno()).st_mode):
-        check_records(path, os.pread(stream.fileno(), 4096, 0))
+    there = os.fstat(stream.fileno())
+    if stat.S_ISREG(there.st_mode):
+        check_records(path, os.pread(stream.fileno(), 4096, 0), there.st_size)
     return stream
 
 

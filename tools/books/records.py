@@ -1,6 +1,8 @@
-"""Event records from their text (`events`), and each event in words with what its answer means (`explain`)."""
+"""Event records from their text (`events`) or from shorter ones (`widen`), and each event in words with what its answer means
+(`explain`)."""
 
 import re
+import sys
 from itertools import zip_longest
 
 import rights
@@ -8,13 +10,14 @@ from rights import Event
 
 from .files import keep_inputs, read_bytes, read_text, write_bytes
 from .texts import REFUSED
-from .words import KINDS, OPERATIONS, TOP, Mistake, Trouble, kind_name, lines_of, number, short, when
+from .words import KINDS, OPERATIONS, TOP, Mistake, Trouble, kind_name, lines_of, number, number_text, request_number, short, when
 
 SIZE = rights.RECORD.size
+SHORT = 13                  # bytes of a record before order 4 of document 02: a number of 4 bytes, not of 8
 MEANINGS = {
     1: "turned away: not a valid begin, continue or stop",
     2: "turned away: there is no such player (0 to 15)",
-    3: "turned away: its number is not the player's next one",
+    3: "turned away: its number is not the player's next one, nor counter 1 under a greater boot number",
     4: "turned away: the player used this number for another request",
     5: "turned away: its time is before the book's time, or too late",
     6: f"turned away: the record is not {SIZE} bytes long",
@@ -29,7 +32,7 @@ MEANINGS = {
 }
 
 # A line of a text for `make` or `events`.
-TEXT = re.compile(rb"^\s*((time|asset|entry|player)\s+[0-9]|metering\s+o|[0-9]+\.[0-9]+\s+(begin|continue|stop)\s)", re.MULTILINE)
+TEXT = re.compile(rb"^\s*((time|asset|entry|player)\s+[0-9]|metering\s+o|[0-9]+(\.[0-9]+){1,2}\s+(begin|continue|stop)\s)", re.MULTILINE)
 
 
 class EventText:
@@ -44,11 +47,12 @@ class EventText:
         if first == "raw":
             self.raw(words)
             return
-        found = re.fullmatch(r"([0-9]+)\.([0-9]+)", first)
+        found = re.fullmatch(r"([0-9]+)\.([0-9]+(?:\.[0-9]+)?)", first)
         if not found:
-            raise Mistake(f"an event begins with player and number, like 0.1, or with raw; not `{short(first)}`")
+            raise Mistake("an event begins with player and number, like 0.1, or with a boot number between them, like 0.3.1, or with raw;"
+                          f" not `{short(first)}`")
         player = number(found[1], 255, "the player")
-        count = number(found[2], rights.LAST_NUMBER, "the number")
+        count = request_number(found[2])
         operation = words.of(OPERATIONS, "operation")
         asset = kind = 0
         if operation == rights.BEGIN:
@@ -76,8 +80,30 @@ def events(text, records):
     write_bytes(records, b"".join(maker.records), ["event records", "bytes"])
 
 
-def check_records(path, data):
-    """Refuses what is plainly not a file of event records. Any other bytes are records, and are answered."""
+def widen(short_records, records):
+    """The same events with boot number 0 before their counters."""
+    keep_inputs(records, short_records)
+    data = read_bytes(short_records)
+    refuse_others(short_records, data)
+    over = len(data) % SHORT
+    if over:
+        why = (f"but of {SIZE}: nothing to do" if len(data) % SIZE == 0 else
+               f"{over} are over; a last record that was cut short changes nothing and can be left out")
+        raise Trouble(f"{short_records}: its {len(data)} bytes are no whole number of records of {SHORT} bytes, {why}")
+    each = (data[at:at + SHORT] for at in range(0, len(data), SHORT))
+    write_bytes(records, b"".join(record[:1] + bytes(SIZE - SHORT) + record[1:] for record in each), ["event records", "bytes"])
+
+
+def check_records(path, data, length):
+    """Refuses what is plainly not a file of event records, by its first bytes. Any other bytes are records, and are answered; a
+    note says so if they look like the shorter ones."""
+    refuse_others(path, data)
+    if length % SHORT == 0 and length % SIZE:
+        print(f"note: {path} has {length} bytes, a whole number of records of {SHORT} bytes, as before order 4, and not of {SIZE};"
+              " `book.py widen` makes the longer ones", file=sys.stderr)
+
+
+def refuse_others(path, data):
     kind = "a book image" if data.startswith(b"RBK\0") else "a text" if TEXT.search(data[:4096]) else None
     if kind:
         raise Trouble(f"{path}: this is {kind}, not a file of event records (`book.py events` makes one from its text)")
@@ -89,7 +115,7 @@ def explain(records, answers):
     if records == answers == "-":
         raise Trouble("only one of the two files can be standard input")
     data = read_bytes(records)
-    check_records(records, data)
+    check_records(records, data, len(data))
     told = read_text(answers).splitlines()
     if len(told) == 1 and re.fullmatch("2[0-7]", told[0].strip()):
         code = int(told[0])
@@ -108,7 +134,7 @@ def record_words(record):
         return f"a record cut short, {len(record)} bytes: {record.hex(' ')}"
     event = event_of(record)
     request = request_words(event.operation, event.asset, event.kind)
-    return f"player {event.player}, request {event.number}: {request}, at {when(event.time)}"
+    return f"player {event.player}, request {number_text(event.number)}: {request}, at {when(event.time)}"
 
 
 def event_of(record):

@@ -17,7 +17,7 @@ def report(path, events, csv=False):
     if code != 0:
         raise Trouble(refusal(path, image, code))
     records = read_bytes(events)
-    check_records(events, records)
+    check_records(events, records, len(records))
     lines, after = reported(image, records)
     for line in csv_lines(book, lines) if csv else bill(book, after, lines):
         print(line)

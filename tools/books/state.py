@@ -7,7 +7,7 @@ import rights
 
 from .records import answer_words, request_words
 from .texts import FLAGS, asset_text, entry_text, load
-from .words import Mistake, Trouble, Words, date, kind_name, span, when
+from .words import Mistake, Trouble, Words, date, kind_name, number_text, span, when
 
 
 # ---- The rules on an entry at a time
@@ -181,7 +181,7 @@ def show(image):
 
 
 def player_lines(index, player):
-    yield f"  {index:>5}  request {player.number}: {request_words(player.operation, player.asset, player.kind)}"
+    yield f"  {index:>5}  request {number_text(player.number)}: {request_words(player.operation, player.asset, player.kind)}"
     words = answer_words(player.operation, player.kind, player.code, player.entry, player.answer_until)
     yield f"         answer {player.code}, {words}"
     if player.open:
@@ -292,5 +292,5 @@ def player_fields(player):
         return {"number": "none", "request": "none", "answer": "none", "open use": "none", "content": "none"}
     answer = f"refused {player.code}" if player.code else f"granted entry {player.entry} until {when(player.answer_until)}"
     use = f"entry {player.open_entry}, {when(player.begin)} until {when(player.until)}" if player.open else "none"
-    return {"number": player.number, "request": request_words(player.operation, player.asset, player.kind),
+    return {"number": number_text(player.number), "request": request_words(player.operation, player.asset, player.kind),
             "answer": answer, "open use": use, "content": player.content or "none"}

@@ -4,7 +4,8 @@ import rights
 from rights import Asset, Book, Entry, Player
 
 from .files import keep_inputs, kind_of, read_image, read_text, write_bytes
-from .words import KINDS, OPERATIONS, TOP, Mistake, Trouble, at_line, is_number, kind_name, lines_of, short, time_text
+from .words import (KINDS, OPERATIONS, TOP, Mistake, Trouble, at_line, is_number, kind_name, lines_of, number_text, request_number, short,
+                    time_text)
 
 FLAGS = {"count": 1, "timed": 2, "start": 4, "end": 8, "interval": 16, "accumulated": 32}
 METERS = {"count": "used_count", "timed": "used_timed", "accumulated": "used_seconds"}
@@ -141,7 +142,7 @@ class BookText:
             raise Mistake(f"player {index} is in the book already")
         if not words.accept("number"):
             raise Mistake("`number` and the player's last number are expected here")
-        player.number = words.number(rights.LAST_NUMBER, "the number")
+        player.number = request_number(words.take("the number"))
         if player.number == 0:
             raise Mistake("a player's last number is not 0; leave out a player that has not asked yet")
         player.operation = words.of(OPERATIONS, "operation")
@@ -328,5 +329,5 @@ def open_text(player):
 
 
 def player_text(player):
-    parts = [f"number {player.number}", request_text(player), answer_text(player)]
+    parts = [f"number {number_text(player.number)}", request_text(player), answer_text(player)]
     return ", ".join(parts + [open_text(player)] * player.open)

@@ -10,7 +10,7 @@ from .library import judged
 from .records import answer_words
 from .state import settled, stop_helps, told_time
 from .texts import refusal
-from .words import KINDS, Mistake, Trouble, Words, date, kind_name, number, when
+from .words import KINDS, Mistake, Trouble, Words, date, kind_name, number, number_text, when
 
 
 def why(path, player, asset, kind, at=None):
@@ -58,7 +58,7 @@ def because(book, player, asset, kind, code):
     """What the answer's words leave open, for those that no line below explains."""
     found, user = book.asset(asset), book.players[player]
     if code == 3:
-        return f": it has used all of them, up to {rights.LAST_NUMBER}"
+        return f": it has used all of them, up to {number_text(rights.LAST_NUMBER)}"
     if code == 10:
         return f": asset {asset} {'is not in the book' if found is None else 'is a parent' if found.is_parent() else 'has no key'}"
     if code == 11:

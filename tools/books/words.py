@@ -38,11 +38,22 @@ def number(word, greatest, what, least=0):
     if not is_number(word):
         raise Mistake(f"{what} should be a number, not `{short(word)}`")
     digits = word.lstrip("0") or "0"
-    if len(digits) > 12 or int(digits) > greatest:
+    if len(digits) > 20 or int(digits) > greatest:
         raise Mistake(f"{what} is {short(word, 30)}, but {greatest} is the greatest")
     if int(digits) < least:
         raise Mistake(f"{what} is {int(digits)}, but {least} is the least")
     return int(digits)
+
+
+def request_number(word):
+    """The number of a request: BOOT.COUNTER, or one number, which has the boot number in its upper 32 bits."""
+    found = re.fullmatch(r"(?:([0-9]+)\.)?([0-9]+)", word)
+    if not found:
+        raise Mistake(f"the number should be a counter, or boot number and counter with a dot between them, like 3.1; not `{short(word)}`")
+    boot, counter = found.groups()
+    if boot is None:
+        return number(counter, rights.LAST_NUMBER, "the number")
+    return number(boot, TOP, "the boot number") * (TOP + 1) + number(counter, TOP, "the counter")
 
 
 class Words:
@@ -153,6 +164,12 @@ def span(seconds):
             parts.append(f"{seconds // size} {name}")
         seconds %= size
     return " ".join(parts) or "0 s"
+
+
+def number_text(number):
+    """The number of a request as BOOT.COUNTER; the counter alone if there is no boot number."""
+    boot, counter = rights.boot_of(number), rights.counter_of(number)
+    return f"{boot}.{counter}" if boot else str(counter)
 
 
 def kind_name(kind):

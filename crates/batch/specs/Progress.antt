@@ -17,6 +17,7 @@ use Rattle.book.specs.declared.Answer.{Answer}
 use Rattle.book.specs.declared.Line.{Line}
 use Rattle.book.specs.declared.Book.{Book}
 use Rattle.book.specs.declared.Reported.{Reported}
+use Rattle.model.specs.Record.{recordSize}
 use Rattle.model.specs.Run.{line, lines, recordCount, recordAt, recordsIn}
 use Rattle.batch.specs.Block.{stepOn, answersOn, bookOn, linesOn, blockText}
 use Rattle.text.specs.Lines.{lineEnd, lineBuffer}
@@ -140,13 +141,14 @@ module _ (b : Book) (ls : List Line) (count : ℕ) (s old : List ℕ) where
               (length (lines (answersOn b ls count (listed (recordAt s) (recordCount s))))) refl,
         )
 
--- the bytes from 13 i, as far as the record goes
-pub record-part : (s : List ℕ) (i n : ℕ) → n ≡ min (13 * i + 13) (length s) - 13 * i → take n (drop (13 * i) s) ≡ recordAt s i
+-- the bytes of record i, as far as it goes
+pub record-part : (s : List ℕ) (i n : ℕ) → n ≡ min (recordSize * i + recordSize) (length s) - recordSize * i → take n (drop (recordSize *
+    i) s) ≡ recordAt s i
 unfolding recordAt
 record-part s i n e =
     ⊎-elim
     (λ short.
-    let l : length (drop (13 * i) s) ≡ length s - 13 * i = length-drop (13 * i) s in
-    take-all n (drop (13 * i) s) (omega arith) ∙ sym (take-all 13 (drop (13 * i) s) (omega arith)))
-    (λ whole. let k : n ≡ 13 = omega arith in ap (λ (m : ℕ). take m (drop (13 * i) s)) k)
-    (below (length s) (13 * i + 13))
+    let l : length (drop (recordSize * i) s) ≡ length s - recordSize * i = length-drop (recordSize * i) s in
+    take-all n (drop (recordSize * i) s) (omega arith) ∙ sym (take-all recordSize (drop (recordSize * i) s) (omega arith)))
+    (λ whole. let k : n ≡ recordSize = omega arith in ap (λ (m : ℕ). take m (drop (recordSize * i) s)) k)
+    (below (length s) (recordSize * i + recordSize))

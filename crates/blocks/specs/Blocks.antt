@@ -15,6 +15,7 @@ use Rattle.book.specs.declared.Line.{Line}
 use Rattle.book.specs.declared.Book.{Book}
 use Rattle.model.specs.Report.{receive, linesLeft, lent}
 use Rattle.model.specs.History.{recordAnswers, recordFinal, recordLines}
+use Rattle.model.specs.Record.{recordSize}
 use Rattle.model.specs.Run.{line, lines, recordCount, recordAt, recordsIn, runText, runBook, runLines}
 
 -- ## Lists of records
@@ -55,18 +56,19 @@ listed-joined f k (suc n) =
 
 -- ## Bytes of whole records, and any bytes after them
 
-module _ (s t : List ℕ) (k : ℕ) (whole : length s ≡ 13 * k) where
+module _ (s t : List ℕ) (k : ℕ) (whole : length s ≡ recordSize * k) where
   record-before : (i : ℕ) → i < k → recordAt (s ++ t) i ≡ recordAt s i
   unfolding recordAt
   record-before i h =
-      let l : length (drop (13 * i) s) ≡ length s - 13 * i = length-drop (13 * i) s in
-      ap (take 13) (drop-append-le (13 * i) s t (omega arith)) ∙ take-append-le 13 (drop (13 * i) s) t (omega arith)
+      let l : length (drop (recordSize * i) s) ≡ length s - recordSize * i = length-drop (recordSize * i) s in
+      ap (take recordSize) (drop-append-le (recordSize * i) s t (omega arith)) ∙ take-append-le recordSize (drop (recordSize * i) s) t
+      (omega arith)
 
   record-behind : (i : ℕ) → recordAt (s ++ t) (k + i) ≡ recordAt t i
   unfolding recordAt
   record-behind i =
-      let e : 13 * (k + i) ≡ length s + 13 * i = omega arith in
-      rw e (ap (take 13) (drop-append-add s t (13 * i)))
+      let e : recordSize * (k + i) ≡ length s + recordSize * i = omega arith in
+      rw e (ap (take recordSize) (drop-append-add s t (recordSize * i)))
 
   count-joined : recordCount (s ++ t) ≡ k + recordCount t
   unfolding recordCount

@@ -22,7 +22,7 @@ pub const NEVER: u32 = u32::MAX;
 pub const NO_END: u64 = 4294967296;
 
 // How many bytes an event record has, and where its last byte is.
-pub const RECORD_SIZE: usize = 13;
+pub const RECORD_SIZE: usize = 17;
 
 pub const RECORD_LAST: usize = RECORD_SIZE - 1;
 
@@ -72,9 +72,10 @@ pub struct Answer {
     pub until: u32,
 }
 
-// A player's latest taken event, with the answer that a resend gets. Number 0 means none yet.
+// A player's latest taken event, with the answer that a resend gets. Number 0 means none yet; a number's upper 32 bits are a player's
+// boot number, its lower ones the counter.
 pub struct Last {
-    pub number: u32,
+    pub number: u64,
     pub operation: u8,
     pub asset: u16,
     pub kind: u8,
@@ -130,7 +131,7 @@ pub enum Request {
 
 pub struct Event {
     pub player: u8,
-    pub number: u32,
+    pub number: u64,
     pub request: Request,
     pub time: u32,
 }

@@ -9,10 +9,10 @@ use Rattle.book.specs.declared.Ask.{Ask}
 use Rattle.book.specs.declared.Entry.{Entry}
 use Rattle.book.specs.Blank.{noEntry}
 use Rattle.model.specs.Book.{assetAt, playerAt, assetsIn, entriesIn}
-use Rattle.model.specs.Image.{assetValues, entryValues, playerValues, readCode}
+use Rattle.model.specs.Image.{assetValues, entryValues, readCode}
 use Rattle.model.specs.Meters.{settled}
 use Rattle.fill.specs.Fill.{fillCode, filled}
-use Rattle.views.specs.Views.{bookValues, viewTime, leftValues, groundValues}
+use Rattle.views.specs.Views.{bookValues, playerView, viewTime, leftValues, groundValues}
 use Rattle.embed.specs.Calls.{heldBook}
 
 -- 31: the book has nothing at that position
@@ -48,7 +48,7 @@ unfoldable pub hasPlayer : ℕ → Bool
 hasPlayer p = ltb p 16
 
 unfoldable pub playerSeen : List ℕ → ℕ → List ℕ
-playerSeen s p = playerValues (playerAt (heldBook s .players) p)
+playerSeen s p = playerView (playerAt (heldBook s .players) p)
 
 -- the entry as an event at t would find it: "each open use of any player with until ≤ t" has ended
 unfoldable pub entryFound : List ℕ → ℕ → ℕ → Entry

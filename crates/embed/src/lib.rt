@@ -168,7 +168,7 @@ fn answer_event(
     image: &mut [u8],
     size: &mut u64,
     player: u8,
-    number: u32,
+    number: u64,
     operation: u8,
     asset: u16,
     kind: u8,
@@ -220,7 +220,7 @@ pub extern "C" fn rights_answer_one(
     image: &mut [u8],
     size: &mut u64,
     player: u8,
-    number: u32,
+    number: u64,
     operation: u8,
     asset: u16,
     kind: u8,
@@ -269,12 +269,12 @@ pub extern "C" fn rights_answer_one(
     code_in(after)
 }
 
-// Writes the 13 bytes of the record that holds these numbers to the start of out. Returns 0, or 30 if out is too short.
+// Writes the 17 bytes of the record that holds these numbers to the start of out. Returns 0, or 30 if out is too short.
 // Rules out: two fields swapped, a byte touched after the record or in a buffer that is too short.
 #[no_mangle]
 pub extern "C" fn rights_record(
     player: u8,
-    number: u32,
+    number: u64,
     operation: u8,
     asset: u16,
     kind: u8,

@@ -17,7 +17,7 @@ use Rattle.book.specs.declared.Book.{Book}
 use Rattle.book.specs.Blank.{noBook}
 use Rattle.model.specs.Book.{Legal}
 use Rattle.model.specs.Image.{newest, versionIn, Typed, Bytes, image, lengthOf, writeBuffer, headerBroken, readCode}
-use Rattle.model.specs.Record.{decoded}
+use Rattle.model.specs.Record.{recordSize, decoded}
 use Rattle.model.specs.Report.{receive, linesLeft, lent}
 use Rattle.model.specs.History.{recordFinal}
 use Rattle.model.specs.Run.{recordAt, recordCount, recordsIn, runText, runBook, runLines}
@@ -49,7 +49,8 @@ records-bytes : (s : List ℕ) → Bytes s → (n : ℕ) → AllBytes (listed (r
 unfolding listed recordAt
 records-bytes s b zero = tt
 records-bytes s b (suc n) =
-    one-more (listed (recordAt s) n) (recordAt s n) (records-bytes s b n) (take-bytes 13 (drop (13 * n) s) (drop-bytes (13 * n) s b))
+    one-more (listed (recordAt s) n) (recordAt s n) (records-bytes s b n) (take-bytes recordSize (drop (recordSize * n) s) (drop-bytes
+    (recordSize * n) s b))
 
 final-kept : (b : Book) (ls : List Line) (rs : List (List ℕ)) → Legal b → Typed b → AllBytes rs
     → Legal (recordFinal b ls rs) × Typed (recordFinal b ls rs)
@@ -85,8 +86,8 @@ pub above-room : (buffer : List ℕ) (size : ℕ) (ls : List Line) (records : Li
 unfolding answerCode callCode imageIn readCode headerBroken
 above-room buffer size ls records room h = rw (lt-leb size (length buffer) h) refl
 
--- a buffer of 4,815 bytes has room for every next image
-pub room-enough : (b : Book) (buffer : List ℕ) → 4815 ≤ length buffer → roomCode b buffer ≡ 0
+-- a buffer of 4,879 bytes has room for every next image
+pub room-enough : (b : Book) (buffer : List ℕ) → 4879 ≤ length buffer → roomCode b buffer ≡ 0
 room-enough b buffer h = let most = demand2 .lengthBounds b .1 in room-there b buffer (omega arith)
 
 -- of an accepted image of the newest version the next one has the same length ("an accepted image writes the same bytes", and no
@@ -188,7 +189,7 @@ module _ (buffer : List ℕ) (size : ℕ) (ls : List Line) (records : List ℕ) 
       rw (next-accepted, f) (room-there (runBook (heldBook nextImage) ms more) (imageAfter buffer size ls records room) there)
 
   -- whole records, and then any more bytes
-  module _ (more : List ℕ) (k : ℕ) (whole : length records ≡ 13 * k) where
+  module _ (more : List ℕ) (k : ℕ) (whole : length records ≡ recordSize * k) where
     pub pieces-text :
         runText (heldBook s) ls records ++ runText (heldBook nextImage) nextLines more ≡ runText (heldBook s) ls (records ++ more)
     pieces-text =

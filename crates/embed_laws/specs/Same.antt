@@ -14,7 +14,7 @@ use Rattle.book.specs.declared.Line.{Line}
 use Rattle.book.specs.declared.Book.{Book}
 use Rattle.model.specs.Image.{Bytes, readCode}
 use Rattle.book.specs.declared.Decoded.{Decoded}
-use Rattle.model.specs.Record.{recordWidths}
+use Rattle.model.specs.Record.{recordSize, recordWidths}
 use Rattle.model.specs.Report.{receive, linesLeft, lent}
 use Rattle.model.specs.History.{recordAnswers, recordFinal, recordLines}
 use Rattle.model.specs.Run.{line, lines, recordCount, recordAt, recordsIn, runText, runBook, runLines}
@@ -26,12 +26,12 @@ use Rattle.embed.specs.One.{oneStep, oneResult, oneImage, oneSize, oneReport}
 
 -- ## One whole record
 
-module _ (r : List ℕ) (whole : length r ≡ 13) where
+module _ (r : List ℕ) (whole : length r ≡ recordSize) where
   only : recordsIn r ≡ r ∷ []
   unfolding recordsIn recordCount recordAt listed
   only =
-      let h : length r ≤ 13 = omega arith in
-      rw (whole) (ap (λ (x : List ℕ). x ∷ []) (take-all 13 r h))
+      let h : length r ≤ recordSize = omega arith in
+      rw (whole) (ap (λ (x : List ℕ). x ∷ []) (take-all recordSize r h))
 
   pub one-text : (b : Book) (ls : List Line) → runText b ls r ≡ line (receive b (lent ls r) .answer)
   unfolding runText recordAnswers lines
@@ -87,7 +87,7 @@ module _ (buffer : List ℕ) (size : ℕ) (ls : List Line) (player number operat
     abbrev pub oneNext : List ℕ
     oneNext = imageIn (oneImage buffer size ls r) (oneSize buffer size ls r)
 
-    whole : length r ≡ 13
+    whole : length r ≡ recordSize
     whole = record-length player number operation asset kind time
 
     one-line : 19 ≤ 19

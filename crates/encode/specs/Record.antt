@@ -1,4 +1,5 @@
--- An event record from its numbers: document 01, "13-byte events (player 8, number 32, operation 8, asset 16, kind 8, time 32)".
+-- An event record from its numbers: document 01, "13-byte events (player 8, number 32, operation 8, asset 16, kind 8, time 32)", with the
+-- number of 64 bits of order 4 in document 02.
 use Prim.Native.Nat.{ℕ}
 use mathlib.Core.Path.{_≡_, refl, sym, ap, _∙_}
 use mathlib.Core.Bool.{not, cond}
@@ -11,7 +12,7 @@ use Rattle.book.specs.declared.Decoded.{Decoded}
 use Rattle.book.specs.declared.Decoded.the-variants.{Invalid, Valid}
 use Rattle.model.specs.Book.{requestLegal}
 use Rattle.model.specs.Image.{Bytes}
-use Rattle.model.specs.Record.{recordWidths, requestOf, eventIn, decoded}
+use Rattle.model.specs.Record.{recordWidths, recordSize, requestOf, eventIn, decoded}
 
 -- the six numbers in the order of the record
 abbrev pub recordValues : ℕ → ℕ → ℕ → ℕ → ℕ → ℕ → List ℕ
@@ -50,7 +51,7 @@ module _ (player number operation asset kind time : ℕ) where
   unfolding recordBytes
   record-shut = refl
 
-  pub record-length : length bytes ≡ 13
+  pub record-length : length bytes ≡ recordSize
   unfolding recordBytes
   record-length = refl
 
@@ -65,11 +66,11 @@ module _ (player number operation asset kind time : ℕ) where
     unfolding recordBytes
     record-values =
         ap (valuesAt recordWidths 0) (sym (append-nil (laidOut recordWidths (recordValues player number operation asset kind time))))
-        ∙ values-back recordWidths 0 (recordValues player number operation asset kind time) [] [] refl refl fit
+        ∙ values-back recordWidths 0 (recordValues player number operation asset kind time) [] [] refl fit
 
     -- so the record decodes to the event with these numbers, or to the code that refuses them
     pub record-decodes : decoded bytes ≡ eventOf player number operation asset kind time
     unfolding decoded eventIn eventOf
     record-decodes =
-        ap (λ (n : ℕ). cond (not (eqb n 13)) (Invalid 6) (decodedOf (valuesAt recordWidths 0 bytes))) record-length
+        ap (λ (n : ℕ). cond (not (eqb n recordSize)) (Invalid 6) (decodedOf (valuesAt recordWidths 0 bytes))) record-length
         ∙ ap decodedOf record-values

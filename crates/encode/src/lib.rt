@@ -1,4 +1,4 @@
-// An event's six numbers as the 13 bytes of a record.
+// An event's six numbers as the 17 bytes of a record.
 ghost use mathlib.Core.Path.{_≡_};
 ghost use Rattle.numbers.specs.Fields.{laidOut};
 ghost use Rattle.model.specs.Record.{recordWidths};
@@ -8,7 +8,7 @@ use book::RECORD_SIZE;
 // Rules out: two fields swapped, the bytes of a number in another order.
 pub fn record_bytes(
     player: u8,
-    number: u32,
+    number: u64,
     operation: u8,
     asset: u16,
     kind: u8,
@@ -18,10 +18,14 @@ pub fn record_bytes(
 {
     [
         player,
-        (number / 16777216 % 256) as u8,
-        (number / 65536 % 256) as u8,
-        (number / 256 % 256) as u8,
-        (number % 256) as u8,
+        (number / 4294967296 / 16777216 % 256) as u8,
+        (number / 4294967296 / 65536 % 256) as u8,
+        (number / 4294967296 / 256 % 256) as u8,
+        (number / 4294967296 % 256) as u8,
+        (number % 4294967296 / 16777216 % 256) as u8,
+        (number % 4294967296 / 65536 % 256) as u8,
+        (number % 4294967296 / 256 % 256) as u8,
+        (number % 4294967296 % 256) as u8,
         operation,
         (asset / 256 % 256) as u8,
         (asset % 256) as u8,

@@ -1,5 +1,5 @@
 -- Records by version: where each field is read, and the least number of bytes. A new version is a case of `by-version`.
-use Prim.Native.Nat.{ℕ, _≤_}
+use Prim.Native.Nat.{ℕ, _+_, _≤_}
 use mathlib.Core.Path.{_≡_, refl}
 use mathlib.Core.Bool.{cond}
 use mathlib.Core.List.{List}
@@ -8,12 +8,14 @@ use lib.ListN.{getD}
 use borrow.Author.Tests.{le-leb}
 use native.Mathlib.Omega.{arith}
 use Rattle.numbers.specs.Fields.{bits8, bits16, bits32, numberAt}
+use Rattle.numbers.proofs.Tests.{on-test}
 use Rattle.book.specs.declared.Asset.{Asset}
 use Rattle.book.specs.declared.Limits.{Limits}
 use Rattle.book.specs.declared.Meters.{Meters}
 use Rattle.book.specs.declared.Last.{Last}
 use Rattle.book.specs.declared.Open.{Open}
-use Rattle.model.specs.Image.{newest, headerSize, assetSize, entrySize, playerSize, assetIn, entryIn, playerIn, tailIn}
+use Rattle.model.specs.Image.{newest, numberWidth, headerSize, assetSize, entrySize, playerSize, assetIn, entryIn, playerIn}
+use Rattle.model.specs.Image.{tailIn}
 use Rattle.model.proofs.Image.Header.{by-version}
 
 -- ## Where each field is read
@@ -52,47 +54,55 @@ metersRead v s = record {
   started = numberAt bits8 50 s;
 }
 
+-- from version 3 on a player's number has 4 bytes more, and what follows it is 4 bytes further on
+abbrev pub wider : ℕ → ℕ
+wider v = cond (leb 3 v) 4 0
+
 abbrev pub lastRead : ℕ → List ℕ → Last
 lastRead v s = record {
-  number = numberAt bits32 0 s;
-  operation = numberAt bits8 4 s;
-  asset = numberAt bits16 5 s;
-  kind = numberAt bits8 7 s;
-  answer = record { code = numberAt bits8 8 s; entry = numberAt bits8 9 s; until = numberAt bits32 10 s };
+  number = numberAt (numberWidth v) 0 s;
+  operation = numberAt bits8 (4 + wider v) s;
+  asset = numberAt bits16 (5 + wider v) s;
+  kind = numberAt bits8 (7 + wider v) s;
+  answer = record {
+    code = numberAt bits8 (8 + wider v) s;
+    entry = numberAt bits8 (9 + wider v) s;
+    until = numberAt bits32 (10 + wider v) s;
+  };
 }
 
 abbrev pub openRead : ℕ → List ℕ → Open
 openRead v s = record {
-  on = numberAt bits8 14 s;
-  entry = numberAt bits8 15 s;
-  begin = numberAt bits32 16 s;
-  until = numberAt bits32 20 s;
-  content = added v 24 s;
+  on = numberAt bits8 (14 + wider v) s;
+  entry = numberAt bits8 (15 + wider v) s;
+  begin = numberAt bits32 (16 + wider v) s;
+  until = numberAt bits32 (20 + wider v) s;
+  content = added v (24 + wider v) s;
 }
 
 module _ (s : List ℕ) (v : ℕ) (h : 1 ≤ v) (k : v ≤ newest) where
   pub asset-read : assetRead v s ≡ assetIn v s
   unfolding assetIn
-  asset-read = by-version (λ v. assetRead v s ≡ assetIn v s) refl refl v h k
+  asset-read = by-version (λ v. assetRead v s ≡ assetIn v s) refl refl refl v h k
 
   pub limits-read : limitsRead v s ≡ entryIn v s .limits
   unfolding entryIn
-  limits-read = by-version (λ v. limitsRead v s ≡ entryIn v s .limits) refl refl v h k
+  limits-read = by-version (λ v. limitsRead v s ≡ entryIn v s .limits) refl refl refl v h k
 
   pub meters-read : metersRead v s ≡ entryIn v s .meters
   unfolding entryIn
-  meters-read = by-version (λ v. metersRead v s ≡ entryIn v s .meters) refl refl v h k
+  meters-read = by-version (λ v. metersRead v s ≡ entryIn v s .meters) refl refl refl v h k
 
   pub last-read : lastRead v s ≡ playerIn v s .last
   unfolding playerIn
-  last-read = by-version (λ v. lastRead v s ≡ playerIn v s .last) refl refl v h k
+  last-read = by-version (λ v. lastRead v s ≡ playerIn v s .last) refl refl refl v h k
 
   pub open-read : openRead v s ≡ playerIn v s .current
   unfolding playerIn
-  open-read = by-version (λ v. openRead v s ≡ playerIn v s .current) refl refl v h k
+  open-read = by-version (λ v. openRead v s ≡ playerIn v s .current) refl refl refl v h k
 
   pub switch-read : added v 11 s ≡ getD (tailIn v s) 0 0
-  switch-read = by-version (λ v. added v 11 s ≡ getD (tailIn v s) 0 0) refl refl v h k
+  switch-read = by-version (λ v. added v 11 s ≡ getD (tailIn v s) 0 0) refl refl refl v h k
 
 -- ## What version 2 adds is there
 
@@ -104,25 +114,25 @@ pub entry-two : (v : ℕ) → 2 ≤ v → entrySize v ≡ 63
 unfolding entrySize
 entry-two v h = rw (le-leb 2 v h)
 
-pub player-two : (v : ℕ) → 2 ≤ v → playerSize v ≡ 28
+pub player-two : (v : ℕ) → 2 ≤ v → playerSize v ≡ 28 + wider v
 unfolding playerSize
-player-two v h = rw (le-leb 2 v h)
+player-two v h = on-test (leb 3 v) (λ z. rw (z, le-leb 2 v h)) (λ z. rw (z, le-leb 2 v h))
 
 -- ## The fields that every version has are there
 
 module _ (v : ℕ) (h : 1 ≤ v) (k : v ≤ newest) where
   pub header-least : 11 ≤ headerSize v
   unfolding headerSize
-  header-least = by-version (λ v. 11 ≤ headerSize v) (omega arith) (omega arith) v h k
+  header-least = by-version (λ v. 11 ≤ headerSize v) (omega arith) (omega arith) (omega arith) v h k
 
   pub asset-least : 5 ≤ assetSize v
   unfolding assetSize
-  asset-least = by-version (λ v. 5 ≤ assetSize v) (omega arith) (omega arith) v h k
+  asset-least = by-version (λ v. 5 ≤ assetSize v) (omega arith) (omega arith) (omega arith) v h k
 
   pub entry-least : 51 ≤ entrySize v
   unfolding entrySize
-  entry-least = by-version (λ v. 51 ≤ entrySize v) (omega arith) (omega arith) v h k
+  entry-least = by-version (λ v. 51 ≤ entrySize v) (omega arith) (omega arith) (omega arith) v h k
 
-  pub player-least : 24 ≤ playerSize v
+  pub player-least : 24 + wider v ≤ playerSize v
   unfolding playerSize
-  player-least = by-version (λ v. 24 ≤ playerSize v) (omega arith) (omega arith) v h k
+  player-least = by-version (λ v. 24 + wider v ≤ playerSize v) (omega arith) (omega arith) (omega arith) v h k

@@ -5,10 +5,11 @@ ghost use mathlib.Core.Bool.{cond};
 ghost use Prim.Native.Nat.{_+_, _*_, _<_, _≤_};
 ghost use lib.ListN.{length};
 ghost use lib.Dec.{leb, eqb};
-ghost use Rattle.numbers.specs.Fields.{bits8, bits16, bits32, numberAt};
+ghost use Rattle.numbers.specs.Fields.{bits8, bits16, bits32, bits64, numberAt};
 ghost use Rattle.book.specs.Blank.{noBook};
-ghost use Rattle.model.specs.Image.{newest, assetSize, entrySize, playerSize, assetIn, entryIn, playerIn};
+ghost use Rattle.model.specs.Image.{newest, numberWidth, assetSize, entrySize, playerSize, assetIn, entryIn, playerIn};
 ghost use Rattle.model.specs.Image.{assetTable, entryTable, playerTable, bookIn, headerBroken};
+ghost use Rattle.image_parse.specs.Versions.{wider};
 use book::Answer;
 use book::Asset;
 use book::Book;
@@ -54,6 +55,15 @@ fn read32(s: &[u8], at: usize) -> u32
     ensures { λ r. ⌜ r ≡ numberAt bits32 at (now (s .entry)) ⌝ }
 {
     numbers::join32(s[at], s[at + 1], s[at + 2], s[at + 3])
+}
+
+fn read64(s: &[u8], at: usize) -> u64
+    requires { ⌜ at + 8 ≤ length (now s) ⌝ }
+    ensures { λ r. ⌜ r ≡ numberAt bits64 at (now (s .entry)) ⌝ }
+{
+    let upper = read32(s, at);
+    let lower = read32(s, at + 4);
+    numbers::join64(upper, lower)
 }
 
 // A number that version 2 added, 0 in version 1.
@@ -127,33 +137,57 @@ fn entry_in(s: &[u8], v: u16) -> Entry
     }
 }
 
+// How many bytes more a player's number has than in versions 1 and 2: what follows it is so much further on.
+fn wider(v: u16) -> usize
+    ensures { λ r. ⌜ r ≡ wider v ⌝ }
+{
+    if 3 <= v {
+        return 4;
+    }
+    0
+}
+
+// A player's number, by the width that the version has.
+fn number_in(s: &[u8], v: u16) -> u64
+    requires { ⌜ 4 + wider v ≤ length (now s) ⌝ }
+    ensures { λ r. ⌜ r ≡ numberAt (numberWidth v) 0 (now (s .entry)) ⌝ }
+{
+    if 3 <= v {
+        return read64(s, 0);
+    }
+    let n = read32(s, 0);
+    n as u64
+}
+
 fn last_in(s: &[u8], v: u16) -> Last
-    requires { ⌜ (1 ≤ v) × (v ≤ newest) × (24 ≤ length (now s)) × (playerSize v ≤ length (now s)) ⌝ }
+    requires { ⌜ (1 ≤ v) × (v ≤ newest) × (24 + wider v ≤ length (now s)) × (playerSize v ≤ length (now s)) ⌝ }
     ensures { λ r. ⌜ r ≡ playerIn v (now (s .entry)) .last ⌝ }
 {
+    let o = wider(v);
     Last {
-        number: read32(s, 0),
-        operation: read8(s, 4),
-        asset: read16(s, 5),
-        kind: read8(s, 7),
+        number: number_in(s, v),
+        operation: read8(s, 4 + o),
+        asset: read16(s, 5 + o),
+        kind: read8(s, 7 + o),
         answer: Answer {
-            code: read8(s, 8),
-            entry: read8(s, 9),
-            until: read32(s, 10),
+            code: read8(s, 8 + o),
+            entry: read8(s, 9 + o),
+            until: read32(s, 10 + o),
         },
     }
 }
 
 fn open_in(s: &[u8], v: u16) -> Open
-    requires { ⌜ (1 ≤ v) × (v ≤ newest) × (24 ≤ length (now s)) × (playerSize v ≤ length (now s)) ⌝ }
+    requires { ⌜ (1 ≤ v) × (v ≤ newest) × (24 + wider v ≤ length (now s)) × (playerSize v ≤ length (now s)) ⌝ }
     ensures { λ r. ⌜ r ≡ playerIn v (now (s .entry)) .current ⌝ }
 {
-    let content = added32(s, v, 24);
+    let o = wider(v);
+    let content = added32(s, v, 24 + o);
     Open {
-        on: read8(s, 14),
-        entry: read8(s, 15),
-        begin: read32(s, 16),
-        until: read32(s, 20),
+        on: read8(s, 14 + o),
+        entry: read8(s, 15 + o),
+        begin: read32(s, 16 + o),
+        until: read32(s, 20 + o),
         content: content,
     }
 }

@@ -109,12 +109,12 @@ entry-length e = refl
 -- ## A player, piece by piece
 
 unfoldable pub lastBytes : Last → List ℕ
-lastBytes l = laidOut lastWidths (lastValues l)
+lastBytes l = laidOut (lastWidths newest) (lastValues l)
 
 unfoldable pub openBytes : Open → List ℕ
 openBytes o = laidOut openWidths (openValues o)
 
-pub last-shut : (l : Last) → laidOut lastWidths (lastValues l) ≡ lastBytes l
+pub last-shut : (l : Last) → laidOut (lastWidths newest) (lastValues l) ≡ lastBytes l
 unfolding lastBytes
 last-shut l = refl
 
@@ -122,7 +122,7 @@ pub open-shut : (o : Open) → laidOut openWidths (openValues o) ≡ openBytes o
 unfolding openBytes
 open-shut o = refl
 
-pub last-length : (l : Last) → length (lastBytes l) ≡ 14
+pub last-length : (l : Last) → length (lastBytes l) ≡ 18
 unfolding lastBytes
 last-length l = refl
 

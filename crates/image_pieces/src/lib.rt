@@ -1,6 +1,6 @@
 // The layout of an image: the newest version, how many bytes each record has by version, and the pieces of a record as bytes: the
 // header, an asset, two pieces of an entry, two of a player, and what version 2 adds to header, entry and player. Big-endian, each
-// field in its place.
+// field in its place. Version 3 has 64 bits for a player's number, in its place.
 // Each contract gives the whole array: the piece's values in its widths. A piece has few bytes, since the checker takes only some
 // fifty such casts in one literal; what a version adds to a record is a piece of its own.
 ghost use mathlib.Core.Path.{_≡_};
@@ -18,7 +18,7 @@ use book::Meters;
 use book::Open;
 
 // The version that is written. The reader knows it and all before it.
-pub const NEWEST: u16 = 2;
+pub const NEWEST: u16 = 3;
 
 // The bytes of each piece. The header begins in the same way in every version.
 pub const HEADER_START: usize = 11;
@@ -29,9 +29,12 @@ const LIMITS: usize = 34;
 
 const METERS: usize = 17;
 
-const LAST: usize = 14;
+const LAST: usize = 18;
 
 const CURRENT: usize = 10;
+
+// A player's last event before version 3, with a number of 32 bits.
+const OLDER_LAST: usize = 14;
 
 // What version 2 adds: the switch or the content, a number each; the track of an entry.
 const NUMBER: usize = 4;
@@ -67,10 +70,13 @@ pub fn entry_size(v: u16) -> usize
 pub fn player_size(v: u16) -> usize
     ensures { λ r. ⌜ (r ≡ playerSize v) × (r ≤ 200) ⌝ }
 {
-    if 2 <= v {
+    if 3 <= v {
         return LAST + CURRENT + NUMBER;
     }
-    LAST + CURRENT
+    if 2 <= v {
+        return OLDER_LAST + CURRENT + NUMBER;
+    }
+    OLDER_LAST + CURRENT
 }
 
 // The bytes of n records.
@@ -207,14 +213,18 @@ pub fn meters_bytes(m: Meters) -> [u8; METERS]
 
 // Rules out: the entry answered for the code, the bytes of a number in another order.
 pub fn last_bytes(p: Last) -> [u8; LAST]
-    ensures { λ r. ⌜ r ≡ laidOut lastWidths (lastValues p) ⌝ }
+    ensures { λ r. ⌜ r ≡ laidOut (lastWidths newest) (lastValues p) ⌝ }
 {
     let a = p.answer;
     [
-        (p.number / 16777216 % 256) as u8,
-        (p.number / 65536 % 256) as u8,
-        (p.number / 256 % 256) as u8,
-        (p.number % 256) as u8,
+        (p.number / 4294967296 / 16777216 % 256) as u8,
+        (p.number / 4294967296 / 65536 % 256) as u8,
+        (p.number / 4294967296 / 256 % 256) as u8,
+        (p.number / 4294967296 % 256) as u8,
+        (p.number % 4294967296 / 16777216 % 256) as u8,
+        (p.number % 4294967296 / 65536 % 256) as u8,
+        (p.number % 4294967296 / 256 % 256) as u8,
+        (p.number % 4294967296 % 256) as u8,
         p.operation,
         (p.asset / 256 % 256) as u8,
         (p.asset % 256) as u8,

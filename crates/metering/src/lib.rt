@@ -87,14 +87,7 @@ fn record_end(b: Book, lines: [Line; 64], entry: u8, content: u32, seconds: u32)
 
 // The line that settling a player's use at t raises; 64 if it raises none.
 // Rules out: a use that is not due recorded.
-pub fn due_line(
-    o: Open,
-    t: u32,
-    switch: u32,
-    l: Limits,
-    assets: [Asset; 64],
-    assetcount: u8,
-) -> usize
+fn due_line(o: Open, t: u32, switch: u32, l: Limits, assets: [Asset; 64], assetcount: u8) -> usize
     ensures { λ r. ⌜ r ≡ cond (expired t o) (lineFor switch l assets assetcount (o .content)) 64 ⌝ }
 {
     if due(o, t) {

@@ -20,33 +20,44 @@ use Rattle.book.specs.declared.Book.{Book}
 use Rattle.book.specs.declared.Outcome.{Outcome}
 use Rattle.book.specs.Blank.{noEntry, closed}
 use Rattle.model.specs.Book.{assetAt, assetsIn, limitsAt, playerAt, Legal}
-use Rattle.model.specs.Image.{Typed, Bytes, newest, versionIn, image, readCode}
+use Rattle.model.specs.Image.{newest, versionIn, imageAs, readCode, SaidBy, Bytes}
 use Rattle.model.specs.Meters.{settled}
 use Rattle.model.specs.Report.{lineAt, receive, linesLeft, lent}
 
 -- ## What a record says
 
--- "13-byte events (player 8, number 32, operation 8, asset 16, kind 8, time 32)"; "Big-endian."
+-- "13-byte events (player 8, number 32, operation 8, asset 16, kind 8, time 32)"; "Big-endian." Order 4 of document 02: "New players put a
+-- 32-bit boot number before their counter", and "Event records grow to 17 bytes".
 abbrev pub byte : ℕ → List ℕ → ℕ
 byte k s = getD s k 0
 
 abbrev pub askedPlayer : List ℕ → ℕ
 askedPlayer s = byte 0 s
 
+abbrev pub askedBoot : List ℕ → ℕ
+askedBoot s = byte 1 s * 16777216 + byte 2 s * 65536 + byte 3 s * 256 + byte 4 s
+
+abbrev pub askedCounter : List ℕ → ℕ
+askedCounter s = byte 5 s * 16777216 + byte 6 s * 65536 + byte 7 s * 256 + byte 8 s
+
+-- the number with that boot number and that counter
+abbrev pub numbered : ℕ → ℕ → ℕ
+numbered boot counter = boot * 4294967296 + counter
+
 abbrev pub askedNumber : List ℕ → ℕ
-askedNumber s = byte 1 s * 16777216 + byte 2 s * 65536 + byte 3 s * 256 + byte 4 s
+askedNumber s = numbered (askedBoot s) (askedCounter s)
 
 abbrev pub askedOperation : List ℕ → ℕ
-askedOperation s = byte 5 s
+askedOperation s = byte 9 s
 
 abbrev pub askedAsset : List ℕ → ℕ
-askedAsset s = byte 6 s * 256 + byte 7 s
+askedAsset s = byte 10 s * 256 + byte 11 s
 
 abbrev pub askedKind : List ℕ → ℕ
-askedKind s = byte 8 s
+askedKind s = byte 12 s
 
 abbrev pub askedTime : List ℕ → ℕ
-askedTime s = byte 9 s * 16777216 + byte 10 s * 65536 + byte 11 s * 256 + byte 12 s
+askedTime s = byte 13 s * 16777216 + byte 14 s * 65536 + byte 15 s * 256 + byte 16 s
 
 -- "operation (1 begin, 2 continue, 3 stop)"; "Kind is 1 to 5 for begin; asset and kind are 0 otherwise."
 pub data LegalRequest (operation asset kind : ℕ) : Type 0 where
@@ -56,7 +67,7 @@ pub data LegalRequest (operation asset kind : ℕ) : Type 0 where
 
 -- the record is an event: it passes the checks 6, 2 and 1
 pub record IsEvent (s : List ℕ) : Type 0 where
-  pub whole : length s ≡ 13
+  pub whole : length s ≡ 17
   pub player : askedPlayer s ≤ 15
   pub request : LegalRequest (askedOperation s) (askedAsset s) (askedKind s)
 
@@ -96,10 +107,21 @@ pub record SameRequest (b : Book) (s : List ℕ) : Type 0 where
   pub asset : askedAsset s ≡ asker b s .last .asset
   pub kind : askedKind s ≡ asker b s .last .kind
 
--- "last + 1"; "nothing follows 4,294,967,295"
-pub record InLine (b : Book) (s : List ℕ) : Type 0 where
-  pub not-last : asker b s .last .number < 4294967295
-  pub number : askedNumber s ≡ asker b s .last .number + 1
+-- "last + 1"; order 4: "Counter 1 under a greater boot number is in line too, and now only the largest 64-bit number has none after it."
+-- In terms of boot number and counter, each at most 4,294,967,295:
+pub data Follows (last number : ℕ) : Type 0 where
+  -- the same boot number with the next counter
+  same-boot : (boot counter : ℕ) → boot ≤ 4294967295 → counter < 4294967295
+      → last ≡ numbered boot counter → number ≡ numbered boot (counter + 1) → Follows last number
+  -- after the greatest counter, the next boot number with counter 0
+  next-boot : (boot : ℕ) → boot < 4294967295
+      → last ≡ numbered boot 4294967295 → number ≡ numbered (boot + 1) 0 → Follows last number
+  -- any greater boot number with counter 1
+  greater-boot : (boot counter greater : ℕ) → counter ≤ 4294967295 → boot < greater → greater ≤ 4294967295
+      → last ≡ numbered boot counter → number ≡ numbered greater 1 → Follows last number
+
+abbrev pub InLine : Book → List ℕ → Type 0
+InLine b s = Follows (asker b s .last .number) (askedNumber s)
 
 -- not "t below the book's time or above 4,000,000,000"
 pub record InTime (b : Book) (s : List ℕ) : Type 0 where
@@ -112,9 +134,9 @@ pub record InTime (b : Book) (s : List ℕ) : Type 0 where
 -- "30 255 0 before all checks"
 pub data Against (b : Book) (ls : List Line) (s : List ℕ) (code : ℕ) : Type 0 where
   bad-list : code ≡ 30 → (GoodList b ls → ⊥) → Against b ls s code
-  cut : code ≡ 6 → GoodList b ls → (length s ≡ 13 → ⊥) → Against b ls s code
-  no-player : code ≡ 2 → GoodList b ls → length s ≡ 13 → 15 < askedPlayer s → Against b ls s code
-  no-request : code ≡ 1 → GoodList b ls → length s ≡ 13 → askedPlayer s ≤ 15
+  cut : code ≡ 6 → GoodList b ls → (length s ≡ 17 → ⊥) → Against b ls s code
+  no-player : code ≡ 2 → GoodList b ls → length s ≡ 17 → 15 < askedPlayer s → Against b ls s code
+  no-request : code ≡ 1 → GoodList b ls → length s ≡ 17 → askedPlayer s ≤ 15
       → (LegalRequest (askedOperation s) (askedAsset s) (askedKind s) → ⊥)
       → Against b ls s code
   unlike : code ≡ 4 → GoodList b ls → IsEvent s → SameNumber b s → (SameRequest b s → ⊥) → Against b ls s code
@@ -247,17 +269,23 @@ pub record Answered (b : Book) (ls : List Line) (s : List ℕ) : Type 0 where
 abbrev pub ImageCode : ℕ → Type 0
 ImageCode code = (code ≡ 0) ⊎ ((20 ≤ code) × (code ≤ 27))
 
--- the bytes are the image of a legal book
+-- the bytes are the image of a legal book, laid out by a version that can say it
 pub record IsImage (s : List ℕ) : Type 0 where
   pub book : Book
+  pub version : ℕ
+  pub oldest : 1 ≤ version
+  pub known : version ≤ newest
   pub legal : Legal book
-  pub typed : Typed book
-  pub bytes : image book ≡ s
+  pub said : SaidBy version book
+  pub bytes : imageAs version book ≡ s
 
 -- What an accepted image gives, and what a refused one and a short buffer leave, is stated by `Demand2`.
 pub record Demand1 : Type 0 where
   pub records : (b : Book) (ls : List Line) (s : List ℕ) → Answered b ls s
+  -- order 4: "now only the largest 64-bit number has none after it"
+  pub followed : (n : ℕ) → n < 18446744073709551615 → Follows n (n + 1)
+  pub none-after : (n : ℕ) → Follows 18446744073709551615 n → ⊥
   pub images : (s : List ℕ) → ImageCode (readCode s)
   -- 22 for any other version
   pub versions : (s : List ℕ) → readCode s ≡ 0 → (1 ≤ versionIn s) × (versionIn s ≤ newest)
-  pub accepted : (s : List ℕ) → Bytes s → (readCode s ≡ 0) × (versionIn s ≡ newest) ↔ IsImage s
+  pub accepted : (s : List ℕ) → Bytes s → readCode s ≡ 0 ↔ IsImage s

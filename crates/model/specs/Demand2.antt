@@ -2,24 +2,12 @@
 -- Statements only, in terms of `Book` and `Image`; proved in `proofs/Image/RoundTrip`.
 use Prim.Native.Nat.{ℕ, _≤_, _<_}
 use mathlib.Core.Path.{_≡_}
-use mathlib.Core.List.{List, [], _∷_, _++_}
-use lib.ListN.{length, getD, take, drop}
-use Rattle.numbers.specs.Count.{joined}
-use Rattle.numbers.specs.Fields.{laidOut}
+use mathlib.Core.List.{List}
+use lib.ListN.{length, take, drop}
 use Rattle.book.specs.declared.Book.{Book}
-use Rattle.book.specs.Blank.{noEntry}
-use Rattle.model.specs.Book.{assetAt, limitsAt, playerAt, assetsIn, entriesIn, Legal}
-use Rattle.model.specs.Image.{headerWidths, startValues, tailValues, assetWidths, assetValues, entryWidths, entryValues, playerWidths}
-use Rattle.model.specs.Image.{playerValues, trackValues}
-use Rattle.model.specs.Image.{Typed, Bytes, newest, versionIn, image, lengthOf, writeAnswer, writeBuffer, readCode, readBook}
-
--- the book laid out by version v: the same numbers in the widths of that version, and none that it lacks
-unfoldable pub imageAs : ℕ → Book → List ℕ
-imageAs v b =
-    laidOut (headerWidths v) (startValues v (assetsIn b) (entriesIn b) (b .time) ++ tailValues b)
-    ++ joined (λ i. laidOut (assetWidths v) (assetValues (assetAt (b .assets) i))) (assetsIn b)
-    ++ joined (λ i. laidOut (entryWidths v) (entryValues (getD (b .entries) i noEntry))) (entriesIn b)
-    ++ joined (λ p. laidOut (playerWidths v) (playerValues (playerAt (b .players) p))) 16
+use Rattle.model.specs.Book.{Legal}
+use Rattle.model.specs.Image.{newest, versionIn, image, imageAs, lengthOf, writeAnswer, writeBuffer, readCode, readBook, SaidBy, Typed}
+use Rattle.model.specs.Image.{Bytes}
 
 pub record Demand2 : Type 0 where
   -- "a book written and read back is the same book", whatever book was held before
@@ -32,11 +20,13 @@ pub record Demand2 : Type 0 where
   pub writesBack : (held : Book) (s : List ℕ) → Bytes s → readCode s ≡ 0 → versionIn s ≡ newest → image (readBook held s) ≡ s
   -- an accepted image of any version is the book that it reads as, laid out by that version: no number is misread
   pub laidAgain : (held : Book) (s : List ℕ) → Bytes s → readCode s ≡ 0 → imageAs (versionIn s) (readBook held s) ≡ s
-  -- "Older images have those fields 0": one of version 1 gives no switch, no entry a track and no open use a content
-  pub olderZero : (held : Book) (s : List ℕ) → readCode s ≡ 0 → versionIn s ≡ 1
-      → (readBook held s .switch ≡ 0)
-      × ((i : ℕ) → trackValues (limitsAt (readBook held s .entries) i) ≡ 0 ∷ 0 ∷ 0 ∷ [])
-      × ((p : ℕ) → playerAt (readBook held s .players) p .current .content ≡ 0)
+  -- "Older images .. reading as the same book": laid out by any version that can say it, a book reads as itself. Order 4: "Numbers in older
+  -- images keep their value."
+  pub readsAs : (held b : Book) (v : ℕ) → 1 ≤ v → v ≤ newest → Legal b → SaidBy v b
+      → (readCode (imageAs v b) ≡ 0) × (readBook held (imageAs v b) ≡ b)
+  -- "Older images have those fields 0": what is read from one is what its version can say. One of version 1 gives no switch, no entry a
+  -- track and no open use a content, and one of version 1 or 2 no number above 4,294,967,295.
+  pub said : (held : Book) (s : List ℕ) → Bytes s → readCode s ≡ 0 → SaidBy (versionIn s) (readBook held s)
   -- "Older images .. are written back as the newest version, reading as the same book": true of every accepted image
   pub olderSame : (held next : Book) (s : List ℕ) → Bytes s → readCode s ≡ 0
       → (readCode (image (readBook held s)) ≡ 0)
@@ -48,8 +38,8 @@ pub record Demand2 : Type 0 where
   pub refusedKeeps : (held : Book) (s : List ℕ) → (readCode s ≡ 0 → ⊥) → readBook held s ≡ held
   -- "The writer fills that many bytes, no more, and returns the length."
   pub writtenLength : (b : Book) → length (image b) ≡ lengthOf b
-  -- "Length 11 + 5A + 51P + 384, at most 3,979", with 4, 12 and 4 bytes more in header, entry and player: never the 30 of a refusal
-  pub lengthBounds : (b : Book) → (463 ≤ lengthOf b) × (lengthOf b ≤ 4815)
+  -- "Length 11 + 5A + 51P + 384, at most 3,979", with 4, 12 and 8 bytes more in header, entry and player: never the 30 of a refusal
+  pub lengthBounds : (b : Book) → (527 ≤ lengthOf b) × (lengthOf b ≤ 4879)
   -- the bytes filled are the image, and those after them are unchanged
   pub written : (b : Book) (old : List ℕ) → lengthOf b ≤ length old → take (writeAnswer b (length old)) (writeBuffer b old) ≡ image b
   pub behindKept : (b : Book) (old : List ℕ) → lengthOf b ≤ length old

@@ -43,7 +43,7 @@ use Rattle.model.specs.Ledger.{seconds-spent, interval-over, interval-ze
 use Rattle.model.specs.Ledger.{reportTimes, reportSeconds}
 use Rattle.model.specs.History.{answers, final, handed, handedLines, recordAnswers, recordFinal, recordLines}
 use Rattle.model.specs.Run.{zeroLines}
-use Rattle.model.specs.Demand1.{GoodList}
+use Rattle.model.specs.Demand1.{GoodList, Follows}
 
 -- ## The run
 
@@ -108,9 +108,9 @@ numberBy (some x) = x .event .number
 abbrev pub numberOf : State → Event → ℕ
 numberOf s e = numberBy (latestTaken (e .player) (s .account .taken))
 
--- "last + 1"; "nothing follows 4,294,967,295"
-abbrev pub Follows : State → Event → Type 0
-Follows s e = (numberOf s e < 4294967295) × (e .number ≡ numberOf s e + 1)
+-- "last + 1", and order 4, in terms of boot number and counter
+abbrev pub InLine : State → Event → Type 0
+InLine s e = Follows (numberOf s e) (e .number)
 
 -- "t below the book's time or above 4,000,000,000: 5", and the book's time is that of the latest taken event
 abbrev pub InTime : State → Event → Type 0
@@ -132,9 +132,9 @@ pub record Checked (s : State) (e : Event) : Type 0 where
   pub again : e .player ≤ 15 → (x : Taken) → latestTaken (e .player) (s .account .taken) ≡ some x → resent (s .account) e ≡ true →
       OnlyAnswers s e (x .answer)
   pub unlike : e .player ≤ 15 → resent (s .account) e ≡ false → 0 < numberOf s e → e .number ≡ numberOf s e → OnlyAnswers s e (refusal 4)
-  pub out-of-line : e .player ≤ 15 → (0 < numberOf s e → e .number ≡ numberOf s e → ⊥) → (Follows s e → ⊥) → OnlyAnswers s e (refusal 3)
-  pub out-of-time : e .player ≤ 15 → Follows s e → (InTime s e → ⊥) → OnlyAnswers s e (refusal 5)
-  pub takes : e .player ≤ 15 → Follows s e → InTime s e → Takes s e
+  pub out-of-line : e .player ≤ 15 → (0 < numberOf s e → e .number ≡ numberOf s e → ⊥) → (InLine s e → ⊥) → OnlyAnswers s e (refusal 3)
+  pub out-of-time : e .player ≤ 15 → InLine s e → (InTime s e → ⊥) → OnlyAnswers s e (refusal 5)
+  pub takes : e .player ≤ 15 → InLine s e → InTime s e → Takes s e
 
 -- ## c. Which begins reach the choice
 
@@ -517,6 +517,11 @@ pub record Reported (b : Book) (ls : List Line) (ds : List Decoded) : Type 0 whe
 
 -- ## The demand, for a fresh book
 
+-- 10 to the 16. A player has numbers enough for 2 to the 62 uses, of 0 seconds each and all at one time, and then a line would be full. Of so
+-- many events each counts one time at most, and 300 seconds at most (60 today), so no line reaches 2 to the 62.
+abbrev pub eventsAtMost : ℕ
+eventsAtMost = 10000000000000000
+
 pub record Demand3 (b : Book) : Type 0 where
   pub time : (xs : List Arrival) → after (starting b) xs .book .time ≡ timeOf (after (starting b) xs .account .taken)
   pub limits : (xs : List Arrival) → Limited (timeOf (after (starting b) xs .account .taken)) (after (starting b) xs .account .uses)
@@ -536,8 +541,8 @@ pub record Demand3 (b : Book) : Type 0 where
   pub reported : (ls : List Line) (ds : List Decoded) → FromZeros b ls → Reported b ls ds
   -- the list that the run program begins with is such a list, and good
   pub zeros : FromZeros b (zeroLines b) × GoodList b (zeroLines b)
-  -- from zeros the lines handed on stay good, however many events there are: by `lent`, none gets 30 for its list
-  pub staysGood : (ls : List Line) (ds : List Decoded) → FromZeros b ls → GoodList b ls
+  -- from zeros the lines handed on stay good, so by `lent` none gets 30 for its list
+  pub staysGood : (ls : List Line) (ds : List Decoded) → length ds ≤ eventsAtMost → FromZeros b ls → GoodList b ls
       → GoodList (after (starting b) (handed b ls ds) .book) (handedLines b ls ds)
   pub records : (ls : List Line) (rs : List (List ℕ)) → (recordAnswers b ls rs ≡ answers b (handed b ls (map decoded rs)))
       × (recordFinal b ls rs ≡ final b (handed b ls (map decoded rs)))

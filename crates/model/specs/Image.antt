@@ -1,13 +1,13 @@
 -- The image of a book: document 01, section "Image": the layout, the writer's bytes, the reader's answer for every byte string.
 -- "Big-endian." A layout is a list of widths with the values in the same order. A version adds widths after the others and a value
--- for each; an image is read by the layout of its own version, and a value that is missing there is 0.
+-- for each, or widens one in its place; an image is read by the layout of its own version, and a value that is missing there is 0.
 use Prim.Native.Nat.{ℕ, _+_, _*_, _-_, _<_}
 use mathlib.Core.Bool.{Bool, cond, _&&_, _||_, not}
 use mathlib.Core.List.{List, [], _∷_, _++_}
 use lib.ListN.{length, getD, drop, replicate}
 use lib.Dec.{ltb, leb, eqb}
 use Rattle.numbers.specs.Count.{joined, listed}
-use Rattle.numbers.specs.Fields.{Width, bits8, bits16, bits32, size, laidOut, valuesAt, Fit}
+use Rattle.numbers.specs.Fields.{Width, bits8, bits16, bits32, bits64, size, laidOut, valuesAt, Fit}
 use Rattle.book.specs.declared.Asset.{Asset}
 use Rattle.book.specs.declared.Limits.{Limits}
 use Rattle.book.specs.declared.Meters.{Meters}
@@ -23,7 +23,7 @@ use Rattle.model.specs.Book.{assetAt, playerAt, assetsIn, entriesIn, lat
 
 -- the version that is written
 abbrev pub newest : ℕ
-newest = 2
+newest = 3
 
 -- "Mark `RBK`, version 16 bits (1), asset and entry numbers (8 each), book time 32.": the same in every version
 abbrev pub headerStart : List Width
@@ -117,8 +117,12 @@ entryOf vs = record {
 }
 
 -- "Sixteen players of 24: number 32, operation, asset 16, kind, answer code, entry, until 32, open, open entry, begin 32, until 32."
-abbrev pub lastWidths : List Width
-lastWidths = bits32 ∷ bits8 ∷ bits16 ∷ bits8 ∷ bits8 ∷ bits8 ∷ bits32 ∷ []
+-- Order 4: "the stored number becomes 64 bits wide in its place (version 3)".
+abbrev pub numberWidth : ℕ → Width
+numberWidth v = cond (leb 3 v) bits64 bits32
+
+abbrev pub lastWidths : ℕ → List Width
+lastWidths v = numberWidth v ∷ bits8 ∷ bits16 ∷ bits8 ∷ bits8 ∷ bits8 ∷ bits32 ∷ []
 
 abbrev pub lastValues : Last → List ℕ
 lastValues l = l .number ∷ l .operation ∷ l .asset ∷ l .kind ∷ l .answer .code ∷ l .answer .entry ∷ l .answer .until ∷ []
@@ -137,7 +141,7 @@ abbrev pub contentValues : Open → List ℕ
 contentValues o = o .content ∷ []
 
 abbrev pub playerWidths : ℕ → List Width
-playerWidths v = lastWidths ++ openWidths ++ contentWidths v
+playerWidths v = lastWidths v ++ openWidths ++ contentWidths v
 
 abbrev pub playerValues : Player → List ℕ
 playerValues p = lastValues (p .last) ++ openValues (p .current) ++ contentValues (p .current)
@@ -167,7 +171,8 @@ entrySize v = size (entryWidths v)
 unfoldable pub playerSize : ℕ → ℕ
 playerSize v = size (playerWidths v)
 
--- "Length 11 + 5A + 51P + 384, at most 3,979." in version 1; in version 2 it is 15 + 5A + 63P + 448, at most 4,815
+-- "Length 11 + 5A + 51P + 384, at most 3,979." in version 1; in version 2 it is 15 + 5A + 63P + 448, at most
+-- 4,815, in version 3 15 + 5A + 63P + 512, at most 4,879
 unfoldable pub imageLength : ℕ → ℕ → ℕ → ℕ
 imageLength v assets entries =
     headerSize v + assetSize v * assets + entrySize v * entries + playerSize v * 16
@@ -193,6 +198,14 @@ image b =
     ++ joined (λ i. assetBytes (assetAt (b .assets) i)) (assetsIn b)
     ++ joined (λ i. entryBytes (getD (b .entries) i noEntry)) (entriesIn b)
     ++ joined (λ p. playerBytes (playerAt (b .players) p)) 16
+
+-- the book laid out by version v: the same numbers in the widths of that version, and none that it lacks
+unfoldable pub imageAs : ℕ → Book → List ℕ
+imageAs v b =
+    laidOut (headerWidths v) (startValues v (assetsIn b) (entriesIn b) (b .time) ++ tailValues b)
+    ++ joined (λ i. laidOut (assetWidths v) (assetValues (assetAt (b .assets) i))) (assetsIn b)
+    ++ joined (λ i. laidOut (entryWidths v) (entryValues (getD (b .entries) i noEntry))) (entriesIn b)
+    ++ joined (λ p. laidOut (playerWidths v) (playerValues (playerAt (b .players) p))) 16
 
 -- their number
 unfoldable pub lengthOf : Book → ℕ
@@ -294,12 +307,16 @@ readBook held s = cond (eqb (readCode s) 0) (bookIn s) held
 
 -- ## What holds of any value of the program's types
 
+-- what version v can say of a book: each number fits its width there, and one that it lacks is 0
+pub record SaidBy (v : ℕ) (b : Book) : Type 0 where
+  pub header : Fit (headerTail v) (tailValues b)
+  pub assets : (i : ℕ) → Fit (assetWidths v) (assetValues (assetAt (b .assets) i))
+  pub entries : (i : ℕ) → Fit (entryWidths v) (entryValues (getD (b .entries) i noEntry))
+  pub players : (p : ℕ) → Fit (playerWidths v) (playerValues (playerAt (b .players) p))
+
 -- each number of a book fits its type: its width in the newest layout
-pub record Typed (b : Book) : Type 0 where
-  pub header : Fit (headerTail newest) (tailValues b)
-  pub assets : (i : ℕ) → Fit (assetWidths newest) (assetValues (assetAt (b .assets) i))
-  pub entries : (i : ℕ) → Fit (entryWidths newest) (entryValues (getD (b .entries) i noEntry))
-  pub players : (p : ℕ) → Fit (playerWidths newest) (playerValues (playerAt (b .players) p))
+abbrev pub Typed : Book → Type 0
+Typed b = SaidBy newest b
 
 -- each element of a list is a byte
 abbrev pub Bytes : List ℕ → Type 0

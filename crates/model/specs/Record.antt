@@ -1,11 +1,11 @@
 -- An event record: the numbers of operations and kinds, and what its bytes decode to.
--- Document 01, sections "Events" and "Image" (the record). Quotations are that document's.
+-- Document 01, sections "Events" and "Image" (the record). Quotations are that document's, if no order is named.
 use Prim.Native.Nat.{ℕ}
 use mathlib.Core.Bool.{not, cond}
 use mathlib.Core.List.{List, [], _∷_}
 use lib.ListN.{length, getD}
 use lib.Dec.{ltb, eqb}
-use Rattle.numbers.specs.Fields.{Width, bits8, bits16, bits32, size, valuesAt}
+use Rattle.numbers.specs.Fields.{Width, bits8, bits16, bits32, bits64, size, valuesAt}
 use Rattle.book.specs.declared.Event.{Event}
 use Rattle.book.specs.declared.Kind.{Kind}
 use Rattle.book.specs.declared.Kind.the-variants.{Play, Display, Execute, Print, Export}
@@ -39,13 +39,14 @@ requestKind (Begin kind asset) = kindNumber kind
 requestKind Continue = 0
 requestKind Stop = 0
 
--- "13-byte events (player 8, number 32, operation 8, asset 16, kind 8, time 32)"
+-- "13-byte events (player 8, number 32, operation 8, asset 16, kind 8, time 32)"; order 4 of document 02: the number has 64 bits, and
+-- "Event records grow to 17 bytes"
 abbrev pub recordWidths : List Width
-recordWidths = bits8 ∷ bits32 ∷ bits8 ∷ bits16 ∷ bits8 ∷ bits32 ∷ []
+recordWidths = bits8 ∷ bits64 ∷ bits8 ∷ bits16 ∷ bits8 ∷ bits32 ∷ []
 
 -- how many bytes that is
 abbrev pub recordSize : ℕ
-recordSize = 13
+recordSize = 17
 
 -- field k of a record, in that order
 abbrev pub recordField : ℕ → List ℕ → ℕ
@@ -59,7 +60,7 @@ kindOf k = cond (eqb k 1) Play (cond (eqb k 2) Display (cond (eqb k 3) Execute (
 unfoldable pub requestOf : ℕ → ℕ → ℕ → Request
 requestOf operation asset kind = cond (eqb operation 1) (Begin (kindOf kind) asset) (cond (eqb operation 2) Continue Stop)
 
--- the event in 13 bytes
+-- the event in 17 bytes
 unfoldable pub eventIn : List ℕ → Event
 eventIn s = record {
   player = recordField 0 s;
@@ -68,7 +69,7 @@ eventIn s = record {
   time = recordField 5 s;
 }
 
--- "6 | event record not 13 bytes"; "Order of checks: 2, 1, then the number."
+-- "6 | event record not 13 bytes", and in order 4 "6 reads that length", 17; "Order of checks: 2, 1, then the number."
 unfoldable pub decoded : List ℕ → Decoded
 decoded s =
     cond (not (eqb (length s) (size recordWidths))) (Invalid 6)

@@ -30,11 +30,11 @@ unfoldable pub lines : List Answer → List ℕ
 lines [] = []
 lines (a ∷ as′) = line a ++ lines as′
 
--- "13-byte events ... from standard input": how many there are in some bytes, the last perhaps cut short
+-- "13-byte events ... from standard input", in order 4 of 17 bytes: how many there are in some bytes, the last perhaps cut short
 unfoldable pub recordCount : List ℕ → ℕ
 recordCount s = (length s + (recordSize - 1)) / recordSize
 
--- record i; "a last record cut short" is shorter than 13
+-- record i; "a last record cut short" is shorter than 17
 unfoldable pub recordAt : List ℕ → ℕ → List ℕ
 recordAt s i = take recordSize (drop (recordSize * i) s)
 

@@ -1,7 +1,7 @@
 // Numbers: read from bytes, most significant byte first; picked by a test; the smaller of two; a difference that stops at 0.
 ghost use mathlib.Core.Path.{_≡_};
 ghost use mathlib.Core.Bool.{cond};
-ghost use Prim.Native.Nat.{_-_, min};
+ghost use Prim.Native.Nat.{_+_, _*_, _-_, min};
 ghost use mathlib.Core.List.{[], _∷_};
 ghost use Rattle.numbers.specs.Count.{one};
 ghost use Rattle.numbers.specs.Fields.{bits16, bits32, numberAt};
@@ -18,6 +18,13 @@ pub fn join32(a: u8, b: u8, c: u8, d: u8) -> u32
     ensures { λ r. ⌜ r ≡ numberAt bits32 0 (a ∷ b ∷ c ∷ d ∷ []) ⌝ }
 {
     (a as u32) * 16777216 + (b as u32) * 65536 + (c as u32) * 256 + (d as u32)
+}
+
+// Rules out: the two halves swapped.
+pub fn join64(upper: u32, lower: u32) -> u64
+    ensures { λ r. ⌜ r ≡ upper * 4294967296 + lower ⌝ }
+{
+    (upper as u64) * 4294967296 + (lower as u64)
 }
 
 // Rules out: the two swapped, the first whatever the test.

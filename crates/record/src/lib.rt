@@ -52,17 +52,19 @@ pub fn decode(s: &[u8]) -> Decoded
     if 15 < player {
         return Decoded::Invalid(2);
     }
-    let operation = s[5];
-    let asset = numbers::join16(s[6], s[7]);
-    let kind = s[8];
+    let operation = s[9];
+    let asset = numbers::join16(s[10], s[11]);
+    let kind = s[12];
     if !request_legal(operation, asset, kind) {
         return Decoded::Invalid(1);
     }
+    let boot = numbers::join32(s[1], s[2], s[3], s[4]);
+    let counter = numbers::join32(s[5], s[6], s[7], s[8]);
     let event = Event {
         player: player,
-        number: numbers::join32(s[1], s[2], s[3], s[4]),
+        number: numbers::join64(boot, counter),
         request: request_of(operation, asset, kind),
-        time: numbers::join32(s[9], s[10], s[11], s[12]),
+        time: numbers::join32(s[13], s[14], s[15], s[16]),
     };
     Decoded::Valid(event)
 }

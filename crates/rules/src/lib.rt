@@ -7,7 +7,7 @@ ghost use Prim.Native.Nat.{_-_};
 ghost use lib.Dec.{ltb};
 ghost use Rattle.model.specs.Book.{grantLength, momentary};
 ghost use Rattle.model.specs.Record.{kindNumber};
-ghost use Rattle.model.specs.Gate.{sameRequest, gate};
+ghost use Rattle.model.specs.Gate.{sameRequest, inLine, gate};
 ghost use Rattle.model.specs.Step.{noted};
 ghost use Rattle.model.specs.Choice.{groundsOf, grantable, rankOf, ranksBefore, cap, leastUntil};
 ghost use Rattle.model.specs.Meters.{where-flagged};
@@ -102,7 +102,26 @@ fn same_request(last: Last, q: Request) -> bool
     (w.operation == last.operation) & (w.asset == last.asset) & (w.kind == last.kind)
 }
 
-// A number that does not follow the last one: a resend or 4 if it is the last one, otherwise 3.
+// "only the largest 64-bit number has none after it"
+const LARGEST_NUMBER: u64 = u64::MAX;
+
+// Whether a number is in line after the player's last one: the next number, or counter 1 under a greater boot number.
+// Rules out: counter 2 under a greater boot number, counter 0 there unless it is the next number, counter 1 again under the same boot
+// number or under a smaller one, a number after the largest.
+fn in_line(last: Last, number: u64) -> bool
+    ensures { λ r. ⌜ r ≡ inLine last number ⌝ }
+{
+    if last.number == LARGEST_NUMBER {
+        return false;
+    }
+    if last.number + 1 == number {
+        return true;
+    }
+    // With counter 1, and not the next one, a greater number is one with a greater boot number.
+    (last.number < number) & (number % 4294967296 == 1)
+}
+
+// A number that is not in line: a resend or 4 if it is the last one, otherwise 3.
 fn out_of_line(last: Last, e: Event) -> Gate
     ensures { λ r. ⌜ r ≡ outOfLine last e ⌝ }
 {
@@ -119,16 +138,14 @@ fn out_of_line(last: Last, e: Event) -> Gate
     Gate::Refuse(4)
 }
 
-// Rules out: reading the time of a resend, a resend of number 0, a number after 4294967295, the time checked before the number.
+// Rules out: reading the time of a resend, a resend of number 0, the time checked before the number.
 pub fn gate_of(now: u32, last: Last, e: Event) -> Gate
     ensures { λ r. ⌜ r ≡ gate now last e ⌝ }
 {
     if 15 < e.player {
         return Gate::Refuse(2);
     }
-    let next = last.number as u64 + 1;
-    let number = e.number as u64;
-    if number != next {
+    if !in_line(last, e.number) {
         return out_of_line(last, e);
     }
     if e.time < now {

@@ -12,10 +12,12 @@ use batch::Block;
 use book::Book;
 use book::Line;
 use book::Outcome;
+use book::RECORD_SIZE;
 use book::Reported;
 use book::at_most_64;
 use image_read::Loaded;
 use text::put_line;
+use turn::OUT;
 
 struct Head {
     more: bool,
@@ -66,7 +68,11 @@ fn record_end(from: usize, size: usize) -> usize
     requires { ⌜ from < size ⌝ }
     ensures { λ r. ⌜ (from < r) × (r ≤ size) ⌝ }
 {
-    if 13 < size - from { from + 13 } else { size }
+    if RECORD_SIZE < size - from {
+        from + RECORD_SIZE
+    } else {
+        size
+    }
 }
 
 // The proof of the function below steps through its code by hand, and passes a struct on whole.
@@ -131,8 +137,8 @@ fn same(a: &[u8], b: &[u8]) -> bool {
 }
 
 fn same_book(a: Book, b: Book) -> bool {
-    let mut first = [0u8; 4815];
-    let mut second = [0u8; 4815];
+    let mut first = [0u8; 4879];
+    let mut second = [0u8; 4879];
     let n = image_write::write(a, &mut first);
     let m = image_write::write(b, &mut second);
     (n == m) & same(&first, &second)
@@ -193,8 +199,8 @@ fn compare(r: Block, q: Block) {
 
 // Prints the answers to the events in the first n bytes of buf.
 fn print_answers(b: Book, n: usize, buf: &[u8]) {
-    let mut out = [0u8; 95798];
-    let mut singly = [0u8; 95798];
+    let mut out = [0u8; OUT];
+    let mut singly = [0u8; OUT];
     let lines = turn::zero_lines(b);
     let lent = at_most_64(b.assetcount);
     if n <= buf.len() {

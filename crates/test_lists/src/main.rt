@@ -5,6 +5,7 @@
 // if it does, these lines after it. Numbers are big-endian, 32 bits each, those of a line 64.
 use book::Book;
 use book::Line;
+use book::RECORD_SIZE;
 use image_read::Loaded;
 use text::put_line;
 
@@ -35,17 +36,13 @@ fn read_head(fd: i32) -> Head {
     }
 }
 
-fn join64(high: u32, low: u32) -> u64 {
-    (high as u64) * 4294967296 + (low as u64)
-}
-
 // The number in the next eight bytes of the file.
 fn read_number(fd: i32) -> u64 {
     let mut h = [0u8; 8];
     io::read_full(fd, &mut h);
     let high = numbers::join32(h[0], h[1], h[2], h[3]);
     let low = numbers::join32(h[4], h[5], h[6], h[7]);
-    join64(high, low)
+    numbers::join64(high, low)
 }
 
 fn read_line(fd: i32) -> Line {
@@ -143,7 +140,7 @@ fn same_block(
     after: [Line; 64],
 ) -> bool {
     let n = record.len();
-    if (n == 0) | (13 < n) {
+    if (n == 0) | (RECORD_SIZE < n) {
         return true;
     }
     let mut out = [0u8; 19];

@@ -1,5 +1,5 @@
 -- How many bytes a turn keeps, and that its text is in the output buffer.
-use Prim.Native.Nat.{ℕ, _-_, _%_, _≤_}
+use Prim.Native.Nat.{ℕ, _-_, _%_, _≤_, _<_}
 use mathlib.Core.Path.{_≡_, _∙_}
 use mathlib.Core.Bool.{Bool, true, false, cond}
 use mathlib.Core.List.{List, _++_}
@@ -7,6 +7,7 @@ use native.Mathlib.Omega.{arith}
 use lib.ListN.{length, drop, length-append, length-drop}
 use Rattle.book.specs.declared.Line.{Line}
 use Rattle.book.specs.declared.Book.{Book}
+use Rattle.model.specs.Record.{recordSize}
 use Rattle.turn.specs.Turn.{keptCount, keptOf, inside, textAfter, writtenAfter, outAfter, keptAfter}
 
 -- no more is kept than is there
@@ -23,11 +24,11 @@ length-kept ended s =
     length-drop (length s - keptCount ended (length s)) s ∙ e
 
 -- less than a record, so there is room to read
-pub kept-small : (input : List ℕ) (n : ℕ) (ended : Bool) → keptAfter input n ended ≤ 12
+pub kept-small : (input : List ℕ) (n : ℕ) (ended : Bool) → keptAfter input n ended < recordSize
 unfolding keptAfter keptCount
 kept-small input n ended = small (inside input n) ended
   where
-    small : (t u : Bool) → cond t (cond u 0 (n % 13)) 0 ≤ 12
+    small : (t u : Bool) → cond t (cond u 0 (n % recordSize)) 0 < recordSize
     small true true = omega arith
     small true false = omega arith
     small false u = omega arith

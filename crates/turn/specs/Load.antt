@@ -1,4 +1,4 @@
--- A file longer than the longest image is refused with the same number from its first 4,816 bytes as from all of them, so no more need
+-- A file longer than the longest image is refused with the same number from its first 4,880 bytes as from all of them, so no more need
 -- be read.
 use Prim.Native.Nat.{ℕ, _+_, _*_, _≤_}
 use mathlib.Core.Path.{_≡_, refl, sym, ap, ap₂, _∙_}
@@ -9,7 +9,7 @@ use lib.ListN.{length, take, getD}
 use lib.Seq.{take-all, getD-take, length-take-le}
 use lib.Dec.{ltb, eqb}
 use borrow.Author.Tests.{ltb-false, le-ltb, ne-eqb}
-use Rattle.numbers.specs.Fields.{Width, bits8, bits16, bits32, bytes, size, numberAt, valuesAt}
+use Rattle.numbers.specs.Fields.{Width, bits8, bits16, bits32, bits64, bytes, size, fourAt, numberAt, valuesAt}
 use Rattle.numbers.proofs.TableLaws.{below-or-not}
 use Rattle.numbers.proofs.Tests.{neither, cond-off, passed}
 use Rattle.book.specs.declared.Book.{Book}
@@ -21,17 +21,21 @@ use Rattle.model.proofs.Image.Header.{known-version, longest, refused-book}
 -- ## The numbers of a header are in the first bytes
 
 module _ (m : ℕ) (s : List ℕ) where
-  number-cut : (w : Width) (o : ℕ) → o + bytes w ≤ m → numberAt w o (take m s) ≡ numberAt w o s
-  number-cut bits8 o h = getD-take m s o 0 (omega arith)
-  number-cut bits16 o h = rw (getD-take m s o 0 (omega arith), getD-take m s (o + 1) 0 (omega arith))
-  number-cut bits32 o h =
+  four-cut : (o : ℕ) → o + 4 ≤ m → fourAt o (take m s) ≡ fourAt o s
+  four-cut o h =
       rw (
         getD-take m s o 0 (omega arith),
         getD-take m s (o + 1) 0 (omega arith),
         getD-take m s (o + 2) 0 (omega arith),
-        getD-take m s
-            (o + 3) 0 (omega arith),
+        getD-take m s (o + 3) 0 (omega arith),
       )
+
+  number-cut : (w : Width) (o : ℕ) → o + bytes w ≤ m → numberAt w o (take m s) ≡ numberAt w o s
+  number-cut bits8 o h = getD-take m s o 0 (omega arith)
+  number-cut bits16 o h = rw (getD-take m s o 0 (omega arith), getD-take m s (o + 1) 0 (omega arith))
+  number-cut bits32 o h = four-cut o (omega arith)
+  number-cut bits64 o h =
+      ap₂ (λ (upper lower : ℕ). upper * 4294967296 + lower) (four-cut o (omega arith)) (four-cut (o + 4) (omega arith))
 
   values-cut : (ws : List Width) (o : ℕ) → o + size ws ≤ m → valuesAt ws o (take m s) ≡ valuesAt ws o s
   values-cut [] o h = refl
@@ -58,8 +62,8 @@ unless : (t : Bool) (c x y : ℕ) → (t ≡ false → x ≡ y) → cond t c x �
 unless true c x y f = refl
 unless false c x y f = f refl
 
--- at most 3,979 bytes in version 1 and 4,815 in version 2
-wrong-length : (n v a p : ℕ) (late : Bool) → 1 ≤ v → v ≤ newest → 4816 ≤ n
+-- at most 3,979 bytes in version 1, 4,815 in version 2 and 4,879 in version 3
+wrong-length : (n v a p : ℕ) (late : Bool) → 1 ≤ v → v ≤ newest → 4880 ≤ n
     → cond {A = ℕ} (ltb 64 a || ltb 64 p || late) 23 (cond (not (eqb n (imageLength v a p))) 20 0) ≡ cond (ltb 64 a || ltb 64 p || late)
     23 20
 wrong-length n v a p late oldest known h =
@@ -70,7 +74,7 @@ wrong-length n v a p late oldest known h =
     ap (λ (t : Bool). cond {A = ℕ} (not t) 20 0) (ne-eqb n (imageLength v a p)
     (λ e. let m = longest v a p oldest known la lp in omega (arith, e, m))))
 
-module _ (s : List ℕ) (long : 4816 ≤ length s) where
+module _ (s : List ℕ) (long : 4880 ≤ length s) where
   long-header : headerBroken s ≡ longStages (valuesAt headerStart 0 s)
   unfolding headerBroken markIn versionIn assetCountIn entryCountIn timeIn longStages
   long-header =
@@ -92,12 +96,12 @@ module _ (s : List ℕ) (long : 4816 ≤ length s) where
 
 -- ## The answer to a file is the answer to its first bytes, one more than the longest image has
 
-module _ (m : ℕ) (enough : 4816 ≤ m) (s : List ℕ) where
+module _ (m : ℕ) (enough : 4880 ≤ m) (s : List ℕ) where
   pub cut-code : readCode (take m s) ≡ readCode s
   cut-code =
       below-or-not m (length s)
       (λ h.
-      let l : 4816 ≤ length (take m s) = rw (length-take-le m s (omega arith)) enough in
+      let l : 4880 ≤ length (take m s) = rw (length-take-le m s (omega arith)) enough in
       long-code (take m s) l ∙ ap longStages (values-cut m s headerStart 0 (omega arith)) ∙ sym (long-code s (omega arith)))
       (λ h. ap readCode (take-all m s h))
 
@@ -105,6 +109,6 @@ module _ (m : ℕ) (enough : 4816 ≤ m) (s : List ℕ) where
   cut-book held =
       below-or-not m (length s)
       (λ h.
-      let l : 4816 ≤ length (take m s) = rw (length-take-le m s (omega arith)) enough in
+      let l : 4880 ≤ length (take m s) = rw (length-take-le m s (omega arith)) enough in
       long-book (take m s) l held ∙ sym (long-book s (omega arith) held))
       (λ h. ap (readBook held) (take-all m s h))

@@ -12,7 +12,7 @@ use borrow.Author.Tests.{le-leb}
 use Rattle.book.specs.declared.Line.{Line}
 use Rattle.book.specs.declared.Book.{Book}
 use Rattle.model.specs.Book.{assetsIn}
-use Rattle.model.specs.Record.{decoded}
+use Rattle.model.specs.Record.{recordSize, decoded}
 use Rattle.model.specs.Report.{receive, linesLeft, lent}
 use Rattle.model.specs.History.{recordLines}
 use Rattle.model.specs.Run.{lines, recordsIn, runText, runBook, runLines, zeroLines}
@@ -141,10 +141,10 @@ module _ (ended : Bool) (l : Between) (ls : List Line) (of : Lends l ls) (r : Re
 -- ## What is answered now, and then what is kept together with what follows
 
 module _ (s t : List ℕ) where
-  whole : length (answeredOf false s) ≡ 13 * (length s / 13)
+  whole : length (answeredOf false s) ≡ recordSize * (length s / recordSize)
   unfolding answeredOf keptCount
   whole =
-      let e : length s - keptCount false (length s) ≡ 13 * (length s / 13) = omega arith in
+      let e : length s - keptCount false (length s) ≡ recordSize * (length s / recordSize) = omega arith in
       length-take-le (length s - keptCount false (length s)) s (omega arith) ∙ e
 
   split : s ++ t ≡ answeredOf false s ++ (keptOf false s ++ t)
@@ -160,13 +160,13 @@ module _ (s t : List ℕ) where
     then = keptOf false s ++ t
 
     split-book : runBook b ls (s ++ t) ≡ runBook (runBook b ls first) (runLines b ls first) then
-    split-book = ap (runBook b ls) split ∙ block-book first then (length s / 13) whole b ls
+    split-book = ap (runBook b ls) split ∙ block-book first then (length s / recordSize) whole b ls
 
     split-lines : runLines b ls (s ++ t) ≡ runLines (runBook b ls first) (runLines b ls first) then
-    split-lines = ap (runLines b ls) split ∙ block-lines first then (length s / 13) whole b ls
+    split-lines = ap (runLines b ls) split ∙ block-lines first then (length s / recordSize) whole b ls
 
     split-text : runText b ls (s ++ t) ≡ runText b ls first ++ runText (runBook b ls first) (runLines b ls first) then
-    split-text = ap (runText b ls) split ∙ block-text first then (length s / 13) whole b ls
+    split-text = ap (runText b ls) split ∙ block-text first then (length s / recordSize) whole b ls
 
 all-answered : (s : List ℕ) → answeredOf true s ≡ s
 unfolding answeredOf keptCount

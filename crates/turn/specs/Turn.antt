@@ -9,13 +9,14 @@ use lib.ListN.{length, take, drop}
 use lib.Dec.{leb}
 use Rattle.book.specs.declared.Line.{Line}
 use Rattle.book.specs.declared.Book.{Book}
+use Rattle.model.specs.Record.{recordSize}
 use Rattle.model.specs.Run.{recordsIn}
 use Rattle.batch.specs.Block.{bookOn, linesOn, blockText}
 
 -- How many of n bytes are kept for the next turn: those of a record that is not complete yet. At the end none: "a last record cut
 -- short" is answered too.
 unfoldable pub keptCount : Bool → ℕ → ℕ
-keptCount ended n = cond ended 0 (n % 13)
+keptCount ended n = cond ended 0 (n % recordSize)
 
 -- of the bytes in the buffer, those that are answered now, and those that are kept
 unfoldable pub answeredOf : Bool → List ℕ → List ℕ

@@ -20,14 +20,14 @@ use book::at_most_64;
 use image_read::Loaded;
 use numbers::min_size;
 
-// The input buffer's size: 5,041 records, and what is kept of one more.
-pub const INPUT: usize = 65545;
+// The input buffer's size: 3,855 records, and what is kept of one more.
+pub const INPUT: usize = 65551;
 
 // Room for the lines of all records that the input buffer can hold, with a last one cut short, at most 19 bytes each.
-pub const OUT: usize = 95798;
+pub const OUT: usize = 73264;
 
 // One byte more than the longest image: these bytes are enough to refuse a longer file.
-pub const IMAGE: usize = 4816;
+pub const IMAGE: usize = 4880;
 
 // The next book and lines, how many bytes of text are at the start of the output buffer, and how many of the next record are at the
 // start of the input buffer. Done is false if n was more than the input buffer holds.

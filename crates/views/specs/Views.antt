@@ -1,19 +1,27 @@
--- What a caller without the book's structs sees of a book, as lists of numbers. The fields of an asset, an entry and a
--- player are in image order (`assetValues`, `entryValues`, `playerValues` of `Image`); here is what is in no image.
+-- What a caller without the book's structs sees of a book, as lists of numbers of 32 bits. The fields of an asset and an entry are in image
+-- order (`assetValues` and `entryValues` of `Image`); here is what is in no image, and a player's, whose number has 64 bits.
 use Prim.Native.Nat.{ℕ, _-_}
 use mathlib.Core.Bool.{Bool, cond}
-use mathlib.Core.List.{List, [], _∷_, map}
+use mathlib.Core.List.{List, [], _∷_, _++_, map}
+use lib.ListN.{drop}
 use lib.Dec.{ltb}
 use Rattle.numbers.specs.Count.{one}
 use Rattle.book.specs.declared.Ask.{Ask}
 use Rattle.book.specs.declared.Entry.{Entry}
+use Rattle.book.specs.declared.Player.{Player}
 use Rattle.book.specs.declared.Book.{Book}
 use Rattle.model.specs.Book.{assetsIn, entriesIn, flagged}
+use Rattle.model.specs.Image.{playerValues}
+use Rattle.model.specs.Gate.{bootOf, counterOf}
 use Rattle.model.specs.Choice.{groundsOf, groundList, grantable}
 
 -- how many assets and entries there are, the book's time, and its switch
 unfoldable pub bookValues : Book → List ℕ
 bookValues b = assetsIn b ∷ entriesIn b ∷ b .time ∷ b .switch ∷ []
+
+-- a player in image order, with the counter for its number, and the boot number last
+abbrev pub playerView : Player → List ℕ
+playerView p = counterOf (p .last .number) ∷ drop 1 (playerValues p) ++ (bootOf (p .last .number) ∷ [])
 
 -- no event comes before the book's time, so nothing is viewed before it
 abbrev pub viewTime : ℕ → ℕ → ℕ

@@ -2,8 +2,8 @@
 // what is left of an entry, and what stands against granting it.
 ghost use mathlib.Core.Path.{_≡_};
 ghost use Rattle.numbers.specs.Count.{one};
-ghost use Rattle.model.specs.Image.{assetValues, entryValues, playerValues};
-ghost use Rattle.views.specs.Views.{bookValues, groundValues, left, leftValues, viewTime};
+ghost use Rattle.model.specs.Image.{assetValues, entryValues};
+ghost use Rattle.views.specs.Views.{bookValues, groundValues, left, leftValues, playerView, viewTime};
 use book::Ask;
 use book::Asset;
 use book::Book;
@@ -66,15 +66,16 @@ pub fn entry_values(e: Entry) -> [u32; 19]
     ]
 }
 
-// Rules out: the answer's until for the open use's.
-pub fn player_values(p: Player) -> [u32; 12]
-    ensures { λ r. ⌜ r ≡ playerValues p ⌝ }
+// The values have 32 bits, the number 64: its counter stands in its place, its boot number last, so that the others keep their places.
+// Rules out: the answer's until for the open use's, boot number and counter swapped.
+pub fn player_values(p: Player) -> [u32; 13]
+    ensures { λ r. ⌜ r ≡ playerView p ⌝ }
 {
     let l = p.last;
     let a = l.answer;
     let o = p.current;
     [
-        l.number,
+        (l.number % 4294967296) as u32,
         l.operation as u32,
         l.asset as u32,
         l.kind as u32,
@@ -86,6 +87,7 @@ pub fn player_values(p: Player) -> [u32; 12]
         o.begin,
         o.until,
         o.content,
+        (l.number / 4294967296) as u32,
     ]
 }
 

@@ -33,7 +33,7 @@ use Rattle.book.specs.Blank.{noEntry}
 use Rattle.book.specs.Changed.{changed}
 use Rattle.model.specs.Book.{limitsAt, metersAt, playerAt, latestTime}
 use Rattle.model.specs.Choice.{asks, noEnd, chooseOf, anyOf}
-use Rattle.model.specs.Record.{decoded}
+use Rattle.model.specs.Record.{recordSize, decoded}
 use Rattle.model.specs.Step.{arrive, openAt}
 use Rattle.model.specs.Report.{lineAt, raised, overdue, recordedAll, endedBy, linesRead}
 use Rattle.model.specs.Meters.{isOn, released, shut, expired}
@@ -167,7 +167,7 @@ lines-64 : (c : Entered) → length (c .args .lines) ≡ 64
 lines-64 c = search length-mapped
 
 -- in a turn there is room for one line more
-in-turn : (c : Turn) → (c .before .loop .i + 1 ≤ (length (entered c .args .records .now) + 12) / 13) ×
+in-turn : (c : Turn) → (c .before .loop .i + 1 ≤ (length (entered c .args .records .now) + (recordSize - 1)) / recordSize) ×
     (19 * (c .before .loop .i + 1) ≤ length (entered c .args .out .now))
 in-turn c = (omega arith, omega arith)
 
@@ -186,7 +186,7 @@ is-decoded : (c : Read) → c .received .result ≡ admitted-at (turn c)
 is-decoded c =
     let i = turn c .before .loop .i in
     c .received .ensures ∙ ap (λ (r : List ℕ). admit (turn c .before .loop .good) (decoded r))
-    (record-part (entered (turn c) .args .records .now) i (c .before .before .min-size .result - 13 * i) (omega arith))
+    (record-part (entered (turn c) .args .records .now) i (c .before .before .min-size .result - recordSize * i) (omega arith))
 
 abbrev event-at : Judged → Event
 event-at c = c .before .before .before .before .before .before .before .event .given .0 .0
@@ -527,7 +527,7 @@ kept-turn :
     (at ≡ lineEnd a (c .before .loop .at) (length (c .before .loop .out))) ×
     (out ≡ lineBuffer a (c .before .loop .at) (c .before .loop .out)) × (at ≤ c .before .loop .at + 19) →
     Going (entered c .args .b) (entered c .args .lines) (entered c .args .lent) (entered c .args .records .now) (entered c .args .out .now)
-    ((length (entered c .args .records .now) + 12) / 13) out (book-at c) (c .before .loop .report)
+    ((length (entered c .args .records .now) + (recordSize - 1)) / recordSize) out (book-at c) (c .before .loop .report)
     (c .before .loop .rows) (c .before .loop .ends) (c .before .loop .good) (c .before .loop .next) at (c .before .loop .i + 1)
 kept-turn c a out at e p =
     let l = c .before .loop in

@@ -90,7 +90,7 @@ stayed = (
     (
       stay-none (λ _. u8) yes,
       (
-        stay-none (λ _. u32) yes,
+        stay-none (λ _. u64) yes,
         (
           stay-none (λ _. u8) yes,
           (
@@ -153,7 +153,7 @@ module _ {M : Type 1} (𝓤 : URA M) (H : Heap 𝓤) (A : Atoms 𝓤) (mem : Mem
 module _ {M : Type 1} (𝓤 : URA M) (H : Heap 𝓤) (A : Atoms 𝓤) (W : Given 𝓤 H A) (mem : Memory → SProp 𝓤) (run : Routine → Fun 𝓤) (κ₀ κ₁
     κ₂ κ₃ κ₄ κ₅ : Lft) (q₀ q₁ q₂ q₃ q₄ q₅ : Share) (image : RefT (List ℕ)) (size : RefT ℕ) (player : ℕ) (number : ℕ) (operation : ℕ) (asset
     : ℕ) (kind : ℕ) (time : ℕ) (code : RefT ℕ) (entry : RefT ℕ) (until : RefT ℕ) (b o : ℕ) (γ : GName) (ys : List Line) (room-image : Room
-    u8 (length (image .now))) (fits-player : player < 2 ^ 8) (fits-number : number < 2 ^ 32) (fits-operation : operation < 2 ^ 8)
+    u8 (length (image .now))) (fits-player : player < 2 ^ 8) (fits-number : number < 2 ^ 64) (fits-operation : operation < 2 ^ 8)
     (fits-asset : asset < 2 ^ 16) (fits-kind : kind < 2 ^ 8) (fits-time : time < 2 ^ 32) (room : Room T.the-row (length ys)) where
   abbrev n : ℕ
   n = length ys
@@ -172,7 +172,7 @@ module _ {M : Type 1} (𝓤 : URA M) (H : Heap 𝓤) (A : Atoms 𝓤) (W : Given
   v-player = vint w8 player
 
   abbrev v-number : Val
-  v-number = vint w32 number
+  v-number = vint w64 number
 
   abbrev v-operation : Val
   v-operation = vint w8 operation
@@ -417,7 +417,7 @@ module _ {M : Type 1} (𝓤 : URA M) (H : Heap 𝓤) (A : Atoms 𝓤) (W : Given
       H A W w16) asset _ (refl, fits-asset) $ fjoin ! $ owned ! u8 (Is u8) (uint-makes 𝓤 H A W w8) operation _ (
         refl,
         fits-operation,
-      ) $ fjoin ! $ owned ! u32 (Is u32) (uint-makes 𝓤 H A W w32) number _ (refl, fits-number) $ fjoin ! $ owned ! u8
+      ) $ fjoin ! $ owned ! u64 (Is u64) (uint-makes 𝓤 H A W w64) number _ (refl, fits-number) $ fjoin ! $ owned ! u8
       (Is u8) (uint-makes 𝓤 H A W w8) player _ (refl, fits-player) $ fjoin ! $ move ! (3 ∷ 0 ∷ []) $ fjoin ! $ move ! (2 ∷ 0 ∷ [])
       $ fjoin ! $ frame ! $ done !
 
@@ -442,8 +442,8 @@ module _ {M : Type 1} (𝓤 : URA M) (H : Heap 𝓤) (A : Atoms 𝓤) (W : Given
       (uint-makes 𝓤 H A W w8) kind _ (refl, fits-kind) $ fjoin ! $ owned ! u16 (Is u16) (uint-makes 𝓤 H A W w16) asset _ (
         refl,
         fits-asset,
-      ) $ fjoin ! $ owned ! u8 (Is u8) (uint-makes 𝓤 H A W w8) operation _ (refl, fits-operation) $ fjoin ! $ owned ! u32 (Is
-      u32) (uint-makes 𝓤 H A W w32) number _ (refl, fits-number) $ fjoin ! $ owned ! u8 (Is u8) (uint-makes 𝓤 H A W w8) player _ (
+      ) $ fjoin ! $ owned ! u8 (Is u8) (uint-makes 𝓤 H A W w8) operation _ (refl, fits-operation) $ fjoin ! $ owned ! u64 (Is
+      u64) (uint-makes 𝓤 H A W w64) number _ (refl, fits-number) $ fjoin ! $ owned ! u8 (Is u8) (uint-makes 𝓤 H A W w8) player _ (
         refl,
         fits-player,
       ) $ fjoin ! $ move ! (1 ∷ 0 ∷ []) $ fjoin ! $ move ! (1 ∷ 0 ∷ []) $ fjoin ! $ move ! (1 ∷ 0 ∷ []) $ join ! $ nothing !
@@ -479,7 +479,7 @@ module _ {M : Type 1} (𝓤 : URA M) (H : Heap 𝓤) (A : Atoms 𝓤) (W : Given
         v-operation ∷ v-asset ∷ v-kind ∷ v-time ∷ v-code ∷ v-entry ∷ v-until ∷ s ∷ []) Post)
     walk =
         qed W ((‵ (flft κ₀ q₀) ⊛ (‵ (flft κ₁ q₁) ⊛ (‵ (flft κ₂ q₂) ⊛ (‵ (flft κ₃ q₃) ⊛ (‵ (flft κ₄ q₄) ⊛ (‵ (flft κ₅ q₅) ⊛ ‵
-        ftrue)))))) ∷ ‵ (owns (MutSlice (named 0) κ₀ u8 ∷ MutRef (named 1) κ₁ u64 ∷ u8 ∷ u32 ∷ u8 ∷ u16 ∷ u8 ∷ u32 ∷ MutRef (named
+        ftrue)))))) ∷ ‵ (owns (MutSlice (named 0) κ₀ u8 ∷ MutRef (named 1) κ₁ u64 ∷ u8 ∷ u64 ∷ u8 ∷ u16 ∷ u8 ∷ u32 ∷ MutRef (named
         2) κ₂ u8 ∷ MutRef (named 3) κ₃ u8 ∷ MutRef (named 4) κ₄ u32 ∷ MutSlice (named 5) κ₅ T.the-row ∷ []) a vals) ∷ []) ∵
         split ! $ move ! (1 ∷ []) $ split ! $ move ! (1 ∷ []) $ split ! $ move ! (1 ∷ []) $ split ! $ move ! (1 ∷ []) $ split ! $ move
         ! (1 ∷ []) $ split ! $ move ! (7 ∷ []) $ fsplit ! $ move ! (1 ∷ []) $ fsplit ! $ move ! (1 ∷ []) $ fsplit ! $ drop ! $ fsplit !
@@ -604,7 +604,7 @@ module _ {M : Type 1} (𝓤 : URA M) (H : Heap 𝓤) (A : Atoms 𝓤) (W : Given
           (
             uint-vals w8,
             (
-              uint-vals w32,
+              uint-vals w64,
               (
                 uint-vals w8,
                 (
@@ -626,7 +626,7 @@ module _ {M : Type 1} (𝓤 : URA M) (H : Heap 𝓤) (A : Atoms 𝓤) (W : Given
           (
             uint-tells w8,
             (
-              uint-tells w32,
+              uint-tells w64,
               (
                 uint-tells w8,
                 (
@@ -671,7 +671,7 @@ module _ {M : Type 1} (𝓤 : URA M) (H : Heap 𝓤) (A : Atoms 𝓤) (W : Given
       (
         goes-none 𝓤 H A W 6 (λ _. u8) yes (λ κs x f. refl),
         (
-          goes-none 𝓤 H A W 6 (λ _. u32) yes (λ κs x f. refl),
+          goes-none 𝓤 H A W 6 (λ _. u64) yes (λ κs x f. refl),
           (
             goes-none 𝓤 H A W 6 (λ _. u8) yes (λ κs x f. refl),
             (

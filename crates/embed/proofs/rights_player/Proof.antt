@@ -4,7 +4,7 @@ use denote.Ref.{now}
 use borrow.Author.Tests.{lt-ltb, le-ltb}
 use Rattle.book.specs.declared.Book.{Book}
 use Rattle.model.specs.Book.{playerAt}
-use Rattle.model.specs.Image.{playerValues}
+use Rattle.views.specs.Views.{playerView}
 use Rattle.embed.specs.Seen.{hasPlayer, playerSeen}
 use Rattle.embed.proofs.SeenLeft.{seen-refused, seen-absent, seen-given}
 use borrow.Author.Needs.{needs}
@@ -63,7 +63,7 @@ returns-3 c =
     seen-given s (hasPlayer (a .player)) (playerSeen s (a .player)) (now (a .out))
     _ _ _ (sym (load .0) ∙ at-test .if1 .left)
     (lt-ltb _ _ (at-end .if2 .left))
-    (at-values .player-values .ensures ∙ ap (λ (b : Book). playerValues (playerAt (b .players) (a .player))) (load .1))
+    (at-values .player-values .ensures ∙ ap (λ (b : Book). playerView (playerAt (b .players) (a .player))) (load .1))
     (c .before .before .fill32 .ensures)
 
 pub rights-player-spec : {M : Type 1} → statement M

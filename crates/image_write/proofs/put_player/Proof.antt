@@ -67,14 +67,14 @@ returns c =
     let l : lb .result ≡ lastBytes (a .p .last) = lb .ensures ∙ last-shut _ in
     let m : mb .result ≡ openBytes (a .p .current) = mb .ensures ∙ open-shut _ in
     let t : tb .result ≡ numberBytes (a .p .current .content) = tb .ensures ∙ number-shut _ in
-    let nl : length (lb .result) ≡ 14 = ap length l ∙ last-length _ in
+    let nl : length (lb .result) ≡ 18 = ap length l ∙ last-length _ in
     let nm : length (mb .result) ≡ 10 = ap length m ∙ open-length _ in
     let nt : length (tb .result) ≡ 4 = ap length t ∙ number-length _ in
     let two : q .last .0 ≡ lay old (a .at) (lb .result ++ mb .result) =
     q .ensures .1
     ∙ lay-more old _ (lb .result) (mb .result) (a .at) (p .result) (p .ensures .1) (sym (p .ensures .0))
     (omega (arith, room, p .ensures .0, nl, nm)) in
-    let both : length (lb .result ++ mb .result) ≡ 24 = length-append (lb .result) (mb .result) ∙ omega (arith, nl, nm) in
+    let both : length (lb .result ++ mb .result) ≡ 28 = length-append (lb .result) (mb .result) ∙ omega (arith, nl, nm) in
     let three : r .last .0 ≡ lay old (a .at) (lb .result ++ mb .result ++ tb .result) =
     r .ensures .1
     ∙ lay-more old _ (lb .result ++ mb .result) (tb .result) (a .at) (q .result) two

@@ -7,7 +7,8 @@ use Rattle.numbers.specs.Count.{listed}
 use Rattle.model.specs.Run.{zeroLines}
 use Rattle.model.specs.Demand1.{GoodList, LegalRequest, begin, continue, stop, IsEvent, asker, Against, bad-list, cut, no-player}
 use Rattle.model.specs.Demand1.{no-request, unlike}
-use Rattle.model.specs.Demand1.{out-of-line, out-of-time, IsResend, IsTaken, TakenCode}
+use Rattle.model.specs.Demand1.{out-of-line, out-of-time, Follows, same-boot, next-boot, greater-boot, IsResend, IsTaken}
+use Rattle.model.specs.Demand1.{TakenCode}
 use Rattle.model.proofs.Examples.AnswerCodes.{odd, bytes, kept, met}
 use Rattle.model.proofs.Examples.Books.{greatest, greatest-legal}
 use Rattle.model.proofs.Examples.Computes.{events-run}
@@ -59,11 +60,19 @@ four =
     (record { not-none = omega arith; number = refl })
     (λ r. omega (arith, r .kind))
 
+skipped : Follows 5 7 → ⊥
+skipped (same-boot boot counter b c p q) = omega (arith, p, q)
+skipped (next-boot boot b p q) = omega (arith, p)
+skipped (greater-boot boot counter greater c b g p q) = omega (arith, q)
+
+next : Follows 5 6
+next = same-boot 0 5 (omega arith) (omega arith) refl refl
+
 pub three : Against odd kept (begins 7 0) 3
-three = out-of-line refl kept-good (begin-event 7 0) (λ n. omega (arith, n .number)) (λ i. omega (arith, i .number))
+three = out-of-line refl kept-good (begin-event 7 0) (λ n. omega (arith, n .number)) skipped
 
 pub five : Against odd kept (begins 6 99) 5
-five = out-of-time refl kept-good (begin-event 6 99) (record { not-last = omega arith; number = refl }) (λ i. omega (arith, i .not-back))
+five = out-of-time refl kept-good (begin-event 6 99) next (λ i. omega (arith, i .not-back))
 
 -- ## A resend and a taken event
 
@@ -79,7 +88,19 @@ pub takes : IsTaken odd kept (begins 6 100)
 takes = record {
   list = kept-good;
   event = begin-event 6 100;
-  line = record { not-last = omega arith; number = refl };
+  line = next;
+  time = record { not-back = omega arith; not-late = omega arith };
+}
+
+-- and under a greater boot number: 3, counter 1
+abbrev rebooted : List ℕ
+rebooted = 0 ∷ 0 ∷ 0 ∷ 0 ∷ 3 ∷ 0 ∷ 0 ∷ 0 ∷ 1 ∷ 1 ∷ 0 ∷ 1 ∷ 1 ∷ 0 ∷ 0 ∷ 0 ∷ 100 ∷ []
+
+pub takes-rebooted : IsTaken odd kept rebooted
+takes-rebooted = record {
+  list = kept-good;
+  event = record { whole = refl; player = omega arith; request = begin refl (omega arith) (omega arith) };
+  line = greater-boot 0 5 3 (omega arith) (omega arith) (omega arith) refl refl;
   time = record { not-back = omega arith; not-late = omega arith };
 }
 
@@ -91,7 +112,7 @@ stored-last = demand1 .records odd kept (begins 6 100) .taken takes .last refl
 -- ## A resend on a legal book: the greatest number
 
 abbrev last-again : List ℕ
-last-again = 3 ∷ 255 ∷ 255 ∷ 255 ∷ 255 ∷ 1 ∷ 255 ∷ 255 ∷ 5 ∷ 0 ∷ 0 ∷ 0 ∷ 0 ∷ []
+last-again = 3 ∷ 255 ∷ 255 ∷ 255 ∷ 255 ∷ 255 ∷ 255 ∷ 255 ∷ 255 ∷ 1 ∷ 255 ∷ 255 ∷ 5 ∷ 0 ∷ 0 ∷ 0 ∷ 0 ∷ []
 
 pub legal-again : IsResend greatest (zeroLines greatest) last-again
 unfolding greatest listed

@@ -32,7 +32,7 @@ use Rattle.model.specs.Book.{takenCode, answerLegal, switchLegal, player
 use Rattle.model.specs.Image.{headerStart, newest, imageLength, Bytes, markIn, versionIn, assetCountIn, entryCountIn, timeIn}
 use Rattle.model.specs.Image.{headerBroken, readCode, readBook, bookIn}
 use Rattle.model.specs.Record.{kindNumber, operationNumber, requestAsset, requestKind, kindOf, requestOf, eventIn, decoded}
-use Rattle.model.specs.Gate.{sameRequest, sameNumber, gate}
+use Rattle.model.specs.Gate.{sameRequest, sameNumber, inLine, gate}
 use Rattle.model.specs.Meters.{amend, isOn, expired, shut, settled}
 use Rattle.model.specs.Choice.{Catalog, catalogOf, usable, parentOf, own, suitable, grantable, suits, allowed, goesBefore, anyOf}
 use Rattle.model.specs.Choice.{choose, Choice, nobody, chosen, asks, failsForSwitch, noneGrantable}
@@ -50,7 +50,7 @@ use Rattle.model.proofs.Ledger.Facts.{on-test, on-same, clash, and-left
 use Rattle.model.proofs.Ledger.Concrete.{Sure, choose-sound, shut-at}
 use Rattle.model.proofs.Ledger.WellFormed.{Static, step-static}
 use Rattle.model.proofs.Demand3.Checks.{gate-again, gate-4, gate-3, gate-5, gate-0, same-number, other-number, follows-line}
-use Rattle.model.proofs.Demand3.Checks.{line-follows, in-time, not-in-time}
+use Rattle.model.proofs.Demand3.Checks.{next-follows, none-after, line-follows, line-is, follows-not, in-time, not-in-time}
 use Rattle.model.proofs.Demand3.Lines.{good-list, list-good, bad-list as not-good, all-size, all-further, all-content, all-off}
 use Rattle.model.proofs.Legal.Rules.{stages-from, used-from}
 use Rattle.model.proofs.Image.Header.{header-passed, accepted-stages}
@@ -278,28 +278,28 @@ module _ (b : Book) (ls : List Line) (s : List ℕ) where
   unfolding arrive linesRead
   invalid code q = (ap (arrive b) q, ap (λ (d : Decoded). linesRead b d ls) q)
 
-  cut-away : (length s ≡ 13 → ⊥) → Untouched (refused 6)
+  cut-away : (length s ≡ 17 → ⊥) → Untouched (refused 6)
   unfolding decoded
-  cut-away n = invalid 6 (rw (ne-eqb (length s) 13 n))
+  cut-away n = invalid 6 (rw (ne-eqb (length s) 17 n))
 
-  player-away : length s ≡ 13 → 15 < askedPlayer s → Untouched (refused 2)
+  player-away : length s ≡ 17 → 15 < askedPlayer s → Untouched (refused 2)
   unfolding decoded
-  player-away w p = invalid 2 (rw (eq-eqb (length s) 13 w, lt-ltb 15 (askedPlayer s) p))
+  player-away w p = invalid 2 (rw (eq-eqb (length s) 17 w, lt-ltb 15 (askedPlayer s) p))
 
-  request-away : length s ≡ 13 → askedPlayer s ≤ 15 → (LegalRequest (askedOperation s) (askedAsset s) (askedKind s) → ⊥)
+  request-away : length s ≡ 17 → askedPlayer s ≤ 15 → (LegalRequest (askedOperation s) (askedAsset s) (askedKind s) → ⊥)
       → Untouched (refused 1)
   unfolding decoded
   request-away w p n =
       let q : requestLegal (askedOperation s) (askedAsset s) (askedKind s) ≡ false =
       on-test (requestLegal (askedOperation s) (askedAsset s) (askedKind s))
       (λ r. absurd (n (test-legal (askedOperation s) (askedAsset s) (askedKind s) r))) (λ r. r) in
-      invalid 1 (rw (eq-eqb (length s) 13 w, le-ltb 15 (askedPlayer s) p, q))
+      invalid 1 (rw (eq-eqb (length s) 17 w, le-ltb 15 (askedPlayer s) p, q))
 
   -- a list that is an event takes the step
   event-is : IsEvent s → decoded s ≡ Valid e
   unfolding decoded
   event-is v = rw (
-    eq-eqb (length s) 13 (v .whole),
+    eq-eqb (length s) 17 (v .whole),
     le-ltb 15 (askedPlayer s) (v .player),
     legal-test (askedOperation s) (askedAsset s)
         (askedKind s) (v .request),
@@ -358,7 +358,7 @@ module _ (b : Book) (ls : List Line) (s : List ℕ) where
       }
 
   other-line : InLine b s → sameNumber l (askedNumber s) ≡ false
-  other-line i = other-number l (askedNumber s) (λ p q. omega (arith, q, i .number))
+  other-line i = other-number l (askedNumber s) (λ p q. follows-not l (askedNumber s) i q)
 
   unlike-away : IsEvent s → SameNumber b s → (SameRequest b s → ⊥) → Untouched (refused 4)
   unfolding stepBy linesBy eventIn
@@ -373,13 +373,13 @@ module _ (b : Book) (ls : List Line) (s : List ℕ) where
       gated v (Refuse 3)
       (gate-3 (b .time) l e (v .player)
       (other-number l (askedNumber s) (λ p q. n (record { not-none = p; number = q })))
-      (line-follows l (askedNumber s) (λ p q. d (record { not-last = p; number = q }))))
+      (line-follows l (askedNumber s) d))
 
   time-away : IsEvent s → InLine b s → (InTime b s → ⊥) → Untouched (refused 5)
   unfolding stepBy linesBy eventIn
   time-away v i d =
       gated v (Refuse 5)
-      (gate-5 (b .time) l e (v .player) (other-line i) (follows-line l (askedNumber s) (i .not-last) (i .number))
+      (gate-5 (b .time) l e (v .player) (other-line i) (follows-line l (askedNumber s) i)
       (not-in-time (b .time) (askedTime s) (λ p q. d (record { not-back = p; not-late = q }))))
 
   away : (code : ℕ) → Against b ls s code → (received b ls s ≡ record { answer = refused code; book = b }) × (left b ls s ≡ ls)
@@ -402,7 +402,7 @@ module _ (b : Book) (ls : List Line) (s : List ℕ) where
   takes : IsTaken b ls s → gate (b .time) l e ≡ Take
   unfolding eventIn
   takes t =
-      gate-0 (b .time) l e (t .event .player) (other-line (t .line)) (follows-line l (askedNumber s) (t .line .not-last) (t .line .number))
+      gate-0 (b .time) l e (t .event .player) (other-line (t .line)) (follows-line l (askedNumber s) (t .line))
       (in-time (b .time) (askedTime s) (t .time .not-back) (t .time .not-late))
 
   -- ## One of the three
@@ -415,10 +415,9 @@ module _ (b : Book) (ls : List Line) (s : List ℕ) where
 
   line-or : InLine b s ⊎ (InLine b s → ⊥)
   line-or =
-      on-test (ltb (l .number) 4294967295)
-      (λ z. on-same (askedNumber s) (l .number + 1) (λ q. inl (record { not-last = ltb-true (l .number) 4294967295 z; number = q }))
-      (λ q. inr (λ i. q (i .number))))
-      (λ z. inr (λ i. omega (arith, i .not-last, ltb-false (l .number) 4294967295 z)))
+      on-test (inLine l (askedNumber s))
+      (λ z. inl (line-is l (askedNumber s) z))
+      (λ z. inr (λ i. clash (follows-line l (askedNumber s) i) z))
 
   time-or : InTime b s ⊎ (InTime b s → ⊥)
   time-or =
@@ -451,7 +450,7 @@ module _ (b : Book) (ls : List Line) (s : List ℕ) where
     where
       judged : GoodList b ls → Verdict b ls s
       judged g =
-          on-same (length s) 13
+          on-same (length s) 17
           (λ w. on-test (ltb 15 (askedPlayer s))
           (λ p. turned-away 2 (no-player refl g w (ltb-true 15 (askedPlayer s) p)))
           (λ p. on-test (requestLegal (askedOperation s) (askedAsset s) (askedKind s))
@@ -738,21 +737,28 @@ image-code s = on-test (eqb (headerBroken s) 0) (λ q. rw q (rule-code (bookIn s
 versions : (s : List ℕ) → readCode s ≡ 0 → (1 ≤ versionIn s) × (versionIn s ≤ newest)
 versions s z = let p = header-passed s (accepted-stages s z .0) in (p .oldest, p .known)
 
-accepted : (s : List ℕ) → Bytes s → (readCode s ≡ 0) × (versionIn s ≡ newest) ↔ IsImage s
+accepted : (s : List ℕ) → Bytes s → readCode s ≡ 0 ↔ IsImage s
 accepted s h = (
-  λ (z, v). record {
+  λ z. record {
     book = readBook noBook s;
+    version = versionIn s;
+    oldest = versions s z .0;
+    known = versions s z .1;
     legal = demand2 .acceptedLegal noBook s h z .0;
-    typed = demand2 .acceptedLegal noBook s h z .1;
-    bytes = demand2 .writesBack noBook s h z v;
+    said = demand2 .said noBook s h z;
+    bytes = demand2 .laidAgain noBook s h z;
   },
-  λ i. (
-    sym (ap readCode (i .bytes)) ∙ demand2 .readsBack noBook (i .book) (i .legal) (i .typed) .0,
-    sym (ap versionIn (i .bytes)) ∙ demand2 .newestWritten (i .book) (i .legal),
-  ),
+  λ i. sym (ap readCode (i .bytes)) ∙ demand2 .readsAs noBook (i .book) (i .version) (i .oldest) (i .known) (i .legal) (i .said) .0,
 )
 
 -- ## Demand 1
 
 pub demand1 : Demand1
-demand1 = record { records = answered; images = image-code; versions = versions; accepted = accepted }
+demand1 = record {
+  records = answered;
+  followed = λ n h. next-follows n (n + 1) (omega arith) refl;
+  none-after = none-after;
+  images = image-code;
+  versions = versions;
+  accepted = accepted;
+}

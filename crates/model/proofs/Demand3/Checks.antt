@@ -1,22 +1,23 @@
 -- The checks before an event is taken, by the ledger: the gate in the statement's words.
 use Prim.Native.Nat.{ℕ, _+_, _≤_, _<_}
-use mathlib.Core.Path.{_≡_, refl, sym, ap, _∙_}
-use mathlib.Core.Bool.{true, false}
+use mathlib.Core.Path.{_≡_, refl, sym, ap, subst, _∙_}
+use mathlib.Core.Bool.{true, false, _&&_}
 use mathlib.Core.Option.{Option, none, some}
 use native.Mathlib.Omega.{arith}
-use lib.Dec.{ltb, leb}
-use borrow.Author.Tests.{lt-ltb, le-ltb, le-leb, eq-eqb, ne-eqb, ltb-true, leb-true}
+use lib.Dec.{ltb, leb, eqb}
+use borrow.Author.Tests.{lt-ltb, le-ltb, le-leb, eq-eqb, ne-eqb, eqb-true, ltb-true, ltb-false, leb-true}
+use Rattle.numbers.proofs.Tests.{otherwise, otherwise-at}
 use Rattle.book.specs.declared.Answer.{Answer}
 use Rattle.book.specs.declared.Last.{Last}
 use Rattle.book.specs.declared.Event.{Event}
 use Rattle.book.specs.declared.Gate.the-variants.{Refuse, Resend, Take}
 use Rattle.model.specs.Book.{latestTime}
-use Rattle.model.specs.Gate.{sameRequest, sameNumber, lastNumber, inLine, timely, gate}
+use Rattle.model.specs.Gate.{sameRequest, sameNumber, largestNumber, bootOf, counterOf, inLine, timely, gate}
 use Rattle.model.specs.Step.{refusal, lastAt, stepBy, step}
 use Rattle.model.specs.Ledger.{Taken, latestTaken, resent, calledTaken}
-use Rattle.model.specs.Demand3.{State, lastBy, numberBy, numberOf, Follows, OnlyAnswers, Checked}
+use Rattle.model.specs.Demand1.{Follows, same-boot, next-boot, greater-boot}
+use Rattle.model.specs.Demand3.{State, lastBy, numberBy, numberOf, InLine, OnlyAnswers, Checked}
 use Rattle.model.proofs.Ledger.Facts.{on-test, on-same, and-left, and-right, and-both}
-use Rattle.model.proofs.Ledger.Bounded.{number-by}
 use Rattle.model.proofs.Ledger.Steps.{Inv, again, gate-take, resent-is, taken-called}
 
 -- ## The gate of one event
@@ -57,6 +58,23 @@ module _ (now : ℕ) (l : Last) (e : Event) where
 
 -- ## Its tests in words
 
+-- the number after another, in boot number and counter
+pub next-follows : (m n : ℕ) → n ≤ largestNumber → n ≡ m + 1 → Follows m n
+next-follows m n h q =
+    on-test (ltb (counterOf m) 4294967295)
+    (λ z.
+    let c = ltb-true (counterOf m) 4294967295 z in
+    same-boot (bootOf m) (counterOf m) (omega (arith, h, q)) c (omega arith) (omega (arith, q)))
+    (λ z.
+    let c = ltb-false (counterOf m) 4294967295 z in
+    next-boot (bootOf m) (omega (arith, h, q, c)) (omega (arith, c)) (omega (arith, q, c)))
+
+-- none follows the largest
+pub none-after : (n : ℕ) → Follows largestNumber n → ⊥
+none-after n (same-boot boot counter b c p q) = omega (arith, b, c, p)
+none-after n (next-boot boot b p q) = omega (arith, b, p)
+none-after n (greater-boot boot counter greater c b g p q) = omega (arith, c, b, g, p)
+
 module _ (l : Last) (n : ℕ) where
   pub same-number : 0 < l .number → n ≡ l .number → sameNumber l n ≡ true
   unfolding sameNumber
@@ -69,16 +87,40 @@ module _ (l : Last) (n : ℕ) where
       (λ z. rw (eq-eqb (l .number) 0 z))
       (λ z. rw (ne-eqb (l .number) 0 z) (ne-eqb n (l .number) (λ q. h (omega arith) q)))
 
-  pub follows-line : l .number < 4294967295 → n ≡ l .number + 1 → inLine l n ≡ true
+  -- the number after the last, whatever that makes of boot number and counter
+  pub next-line : n ≤ largestNumber → n ≡ l .number + 1 → inLine l n ≡ true
   unfolding inLine
-  follows-line p q = and-both (lt-ltb (l .number) lastNumber p) (eq-eqb n (l .number + 1) q)
+  next-line p q = and-both (le-leb n largestNumber p) (rw (eq-eqb n (l .number + 1) q))
 
-  pub line-follows : (l .number < 4294967295 → n ≡ l .number + 1 → ⊥) → inLine l n ≡ false
+  pub follows-line : Follows (l .number) n → inLine l n ≡ true
   unfolding inLine
-  line-follows h =
-      on-test (ltb (l .number) lastNumber)
-      (λ p. rw p (ne-eqb n (l .number + 1) (λ q. h (ltb-true (l .number) lastNumber p) q)))
-      (λ p. rw p)
+  follows-line (same-boot boot counter b c p q) = next-line (omega (arith, b, c, q)) (omega (arith, p, q))
+  follows-line (next-boot boot b p q) = next-line (omega (arith, b, q)) (omega (arith, p, q))
+  follows-line (greater-boot boot counter greater c b g p q) =
+      and-both (le-leb n largestNumber (omega (arith, g, q)))
+      (otherwise (eqb n (l .number + 1)) (ltb (bootOf (l .number)) (bootOf n) && eqb (counterOf n) 1)
+      (λ z. and-both (lt-ltb (bootOf (l .number)) (bootOf n) (omega (arith, c, b, p, q))) (eq-eqb (counterOf n) 1 (omega (arith, q)))))
+
+  pub line-is : inLine l n ≡ true → Follows (l .number) n
+  unfolding inLine
+  line-is e =
+      let m = leb-true n largestNumber (and-left (leb n largestNumber) _ e) in
+      on-same n (l .number + 1)
+      (λ q. next-follows (l .number) n m q)
+      (λ q.
+      let w = otherwise-at (eqb n (l .number + 1)) _ (and-right (leb n largestNumber) _ e) (ne-eqb n (l .number + 1) q) in
+      let b = ltb-true (bootOf (l .number)) (bootOf n) (and-left (ltb (bootOf (l .number)) (bootOf n)) _ w) in
+      let c = eqb-true (counterOf n) 1 (and-right (ltb (bootOf (l .number)) (bootOf n)) _ w) in
+      greater-boot (bootOf (l .number)) (counterOf (l .number)) (bootOf n) (omega arith) b (omega (arith, m)) (omega arith)
+      (omega (arith, c)))
+
+  pub line-follows : (Follows (l .number) n → ⊥) → inLine l n ≡ false
+  line-follows h = on-test (inLine l n) (λ q. absurd (h (line-is q))) (λ q. q)
+
+  pub follows-not : Follows (l .number) n → n ≡ l .number → ⊥
+  follows-not (same-boot boot counter b c p q) e = omega (arith, p, q, e)
+  follows-not (next-boot boot b p q) e = omega (arith, p, q, e)
+  follows-not (greater-boot boot counter greater c b g p q) e = omega (arith, c, b, p, q, e)
 
 module _ (now t : ℕ) where
   pub in-time : now ≤ t → t ≤ 4000000000 → timely now t ≡ true
@@ -94,6 +136,10 @@ module _ (now t : ℕ) where
 
 -- ## By the ledger
 
+number-by : (x : Option Taken) → lastBy x .number ≡ numberBy x
+number-by none = refl
+number-by (some x) = refl
+
 module _ (s : State) (e : Event) (h : Inv (s .book) (s .account)) where
   abbrev l : Last
   l = lastAt (s .book .players) (e .player)
@@ -108,11 +154,15 @@ module _ (s : State) (e : Event) (h : Inv (s .book) (s .account)) where
   unfolding step stepBy
   refuses code g = rw g
 
-  follows-other : Follows s e → sameNumber l (e .number) ≡ false
-  follows-other f = other-number l (e .number) (λ p q. omega (arith, number-is, f .1))
+  -- in line after the book's number, and after the account's
+  follows-in : InLine s e → Follows (l .number) (e .number)
+  follows-in f = subst (λ (n : ℕ). Follows n (e .number)) (sym number-is) f
 
-  follows-in : Follows s e → inLine l (e .number) ≡ true
-  follows-in f = follows-line l (e .number) (omega (arith, number-is, f .0)) (omega (arith, number-is, f .1))
+  follows-out : Follows (l .number) (e .number) → InLine s e
+  follows-out f = subst (λ (n : ℕ). Follows n (e .number)) number-is f
+
+  follows-other : InLine s e → sameNumber l (e .number) ≡ false
+  follows-other f = other-number l (e .number) (λ p q. follows-not l (e .number) (follows-in f) q)
 
   repeats-line : resent (s .account) e ≡ again l e
   repeats-line = resent-is (s .book) (s .account) e h
@@ -133,13 +183,13 @@ module _ (s : State) (e : Event) (h : Inv (s .book) (s .account)) where
         refuses 3
         (gate-3 (s .book .time) l e k
         (other-number l (e .number) (λ p q. n (omega (arith, number-is)) (omega (arith, number-is, q))))
-        (line-follows l (e .number) (λ p q. f (omega (arith, number-is), omega (arith, number-is, q)))));
+        (line-follows l (e .number) (λ y. f (follows-out y))));
     out-of-time = λ k f n.
         refuses 5
-        (gate-5 (s .book .time) l e k (follows-other f) (follows-in f)
+        (gate-5 (s .book .time) l e k (follows-other f) (follows-line l (e .number) (follows-in f))
         (not-in-time (s .book .time) (e .time) (λ p q. n (omega (arith, h .time), q))));
     takes = λ k f t.
-        let g = gate-0 (s .book .time) l e k (follows-other f) (follows-in f)
+        let g = gate-0 (s .book .time) l e k (follows-other f) (follows-line l (e .number) (follows-in f))
         (in-time (s .book .time) (e .time) (omega (arith, h .time, t .0)) (t .1)) in
         record { new = repeats-line ∙ gate-take (s .book .time) l e g .fresh; taken = taken-gate g };
   }

@@ -24,7 +24,7 @@ use Rattle.model.specs.Run.{zeroLines}
 use Rattle.model.specs.Ledger.{latestTaken, resent, calledTaken, timeOf, revise, posted, note, noteArrival, isOpen, sumOf, earliest}
 use Rattle.model.specs.Ledger.{Ground, count-spent, timed-spent, seconds-spent, interval-over, interval-zero, before-start, after-end}
 use Rattle.model.specs.Ledger.{switch-off, stands}
-use Rattle.model.specs.Demand1.{GoodList}
+use Rattle.model.specs.Demand1.{same-boot, GoodList}
 use Rattle.model.specs.Demand3.{State, advance, after, starting, Takes, Suits, own, MayChoose, against, OutOrSpent, NoneLeft}
 use Rattle.model.specs.Demand3.{ForSwitch, Begins, isResend, Demand3}
 use Rattle.model.proofs.Examples.Afternoon.{asset, event, granted}
@@ -109,7 +109,7 @@ fresh = starting (book 0)
 
 takes : Takes fresh asks
 unfolding latestTaken timeOf after
-takes = off .checked [] asks .takes (omega arith) (omega arith, refl) (omega arith, omega arith)
+takes = off .checked [] asks .takes (omega arith) (same-boot 0 0 (omega arith) (omega arith) refl refl) (omega arith, omega arith)
 
 begins : Begins fresh asks Play 5
 unfolding after

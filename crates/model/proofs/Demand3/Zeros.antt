@@ -1,8 +1,8 @@
 -- The list that the run program begins with is good, and from zeros the lines handed on stay good: no sum comes near 2 to the 62.
 use mathlib.Core.Path.{_≡_, refl, sym, ap, _∙_}
-use Prim.Native.Nat.{ℕ, _≤_, _<_}
+use Prim.Native.Nat.{ℕ, suc, _≤_, _<_}
 use mathlib.Core.Bool.{Bool, true, false, _&&_, cond}
-use mathlib.Core.List.{List, [], append-nil}
+use mathlib.Core.List.{List, [], _∷_, append-nil}
 use lib.ListN.{length, List·getD-eq-default}
 use lib.Dec.{leb, eqb}
 use native.Mathlib.Omega.{arith}
@@ -20,12 +20,12 @@ use Rattle.model.specs.History.{handed, handedLines}
 use Rattle.model.specs.Run.{zeroLines}
 use Rattle.model.specs.Ledger.{Use, empty, timeOf, ran, countsReport, countsReportSeconds, ofContent}
 use Rattle.model.specs.Demand1.{GoodList}
-use Rattle.model.specs.Demand3.{State, after, starting, contentOf, timesBy, secondsBy, FromZeros, Reported}
+use Rattle.model.specs.Demand3.{State, after, starting, contentOf, timesBy, secondsBy, FromZeros, Reported, eventsAtMost}
 use Rattle.model.proofs.Ledger.Facts.{on-test, and-right}
 use Rattle.model.proofs.Ledger.Sums.{sum-most, sum-ones}
 use Rattle.model.proofs.Ledger.WellFormed.{asset-tests, switch-most, good-static}
 use Rattle.model.proofs.Ledger.Steps.{Inv}
-use Rattle.model.proofs.Ledger.Bounded.{Bounded, most-events, empty-bounded, after-bounded}
+use Rattle.model.proofs.Ledger.Bounded.{Bounded, empty-bounded, after-bounded}
 use Rattle.model.proofs.Demand3.History.{after-static}
 use Rattle.model.proofs.Demand3.Lines.{good-list, list-good, one-most}
 use Rattle.model.proofs.Demand3.Gains.{reported-of}
@@ -78,7 +78,7 @@ module _ (at : ℕ → ℕ) (lim : ℕ → Limits) (c : ℕ) (u : Use) where
   its-seconds : countsReportSeconds at lim c u ≤ ran u
   its-seconds = cond-most (ofContent at lim c u) (ran u) (ran u) (omega arith)
 
-module _ (es : List Entry) (s : State) (g : Bounded (s .account)) (c : ℕ) where
+module _ (es : List Entry) (s : State) (g : Bounded eventsAtMost (s .account)) (c : ℕ) where
   abbrev now : ℕ → ℕ
   now p = timeOf (s .account .taken)
 
@@ -89,7 +89,6 @@ module _ (es : List Entry) (s : State) (g : Bounded (s .account)) (c : ℕ) wher
         sum-most (countsReport now (limitsAt es) c) (λ u. 1) (one-use now (limitsAt es) c) (s .account .uses),
         sum-ones (s .account .uses),
         g .uses,
-        most-events (s .account) g,
       )
 
   seconds-low : secondsBy es s c < lineBound
@@ -98,12 +97,17 @@ module _ (es : List Entry) (s : State) (g : Bounded (s .account)) (c : ℕ) wher
         arith,
         sum-most (countsReportSeconds now (limitsAt es) c) ran (its-seconds now (limitsAt es) c) (s .account .uses),
         g .seconds,
-        most-events (s .account) g,
       )
 
 -- ## The lines handed on
 
-module _ (b : Book) (l : Legal b) (h : Inv b empty) (ls : List Line) (ds : List Decoded) (z : FromZeros b ls) (g : GoodList b ls) where
+length-handed : (b : Book) (ls : List Line) (ds : List Decoded) → length (handed b ls ds) ≡ length ds
+unfolding handed
+length-handed b ls [] = refl
+length-handed b ls (d ∷ ds) = ap suc (length-handed _ _ ds)
+
+module _ (b : Book) (l : Legal b) (h : Inv b empty) (ls : List Line) (ds : List Decoded) (few : length ds ≤ eventsAtMost)
+    (z : FromZeros b ls) (g : GoodList b ls) where
   abbrev end : State
   end = after (starting b) (handed b ls ds)
 
@@ -113,8 +117,9 @@ module _ (b : Book) (l : Legal b) (h : Inv b empty) (ls : List Line) (ds : List 
   report : Reported b ls ds
   report = reported-of b h ls ds z
 
-  low : Bounded (end .account)
-  low = after-bounded (handed b ls ds) (starting b) h empty-bounded
+  low : Bounded eventsAtMost (end .account)
+  low =
+      after-bounded (handed b ls ds) 0 eventsAtMost (starting b) (omega (arith, few, length-handed b ls ds)) h empty-bounded
 
   -- what holds of every line of the first list, and of the ledger's sums under its content, holds of every line
   line-by : (P : Line → Type 0) → ((k : ℕ) → P (lineAt ls k))

@@ -63,11 +63,12 @@ met s = receive odd (lent kept s)
 
 -- number, asset and time below 256
 abbrev pub bytes : ℕ → ℕ → ℕ → ℕ → ℕ → ℕ → List ℕ
-bytes player number operation asset kind time = player ∷ 0 ∷ 0 ∷ 0 ∷ number ∷ operation ∷ 0 ∷ asset ∷ kind ∷ 0 ∷ 0 ∷ 0 ∷ time ∷ []
+bytes player number operation asset kind time =
+    player ∷ 0 ∷ 0 ∷ 0 ∷ 0 ∷ 0 ∷ 0 ∷ 0 ∷ number ∷ operation ∷ 0 ∷ asset ∷ kind ∷ 0 ∷ 0 ∷ 0 ∷ time ∷ []
 
 -- 4,000,000,001
 abbrev too-late : List ℕ
-too-late = 0 ∷ 0 ∷ 0 ∷ 0 ∷ 6 ∷ 3 ∷ 0 ∷ 0 ∷ 0 ∷ 238 ∷ 107 ∷ 40 ∷ 1 ∷ []
+too-late = 0 ∷ 0 ∷ 0 ∷ 0 ∷ 0 ∷ 0 ∷ 0 ∷ 0 ∷ 6 ∷ 3 ∷ 0 ∷ 0 ∷ 0 ∷ 238 ∷ 107 ∷ 40 ∷ 1 ∷ []
 
 -- this answer, and nothing changed
 abbrev left : Answer → Outcome

@@ -6,12 +6,17 @@ use mathlib.Core.Path.{_≡_, refl, sym, ap, subst, _∙_}
 use mathlib.Core.List.{List, [], _∷_, _++_, append-nil}
 use native.Mathlib.Omega.{arith}
 use lib.ListN.{length, getD, set, take, drop, replicate, List·getD-eq-default}
-use Rattle.numbers.specs.Count.{first, joined, listed}
+use mathlib.Core.Bool.{true}
+use lib.Dec.{ltb}
+use borrow.Author.Tests.{ltb-true}
+use Rattle.numbers.specs.Count.{all, first, joined, listed}
 use Rattle.numbers.specs.Fields.{Width, size, Fit}
 use Rattle.numbers.proofs.FieldLaws.{zeros-fit}
+use Rattle.numbers.proofs.Tests.{all-below}
 use Rattle.numbers.proofs.TableLaws.{below-or-not, blanks, listed-at, length-listed}
 use Rattle.book.specs.declared.Asset.{Asset}
 use Rattle.book.specs.declared.Entry.{Entry}
+use Rattle.book.specs.declared.Last.{Last}
 use Rattle.book.specs.declared.Player.{Player}
 use Rattle.book.specs.declared.Book.{Book}
 use Rattle.book.specs.Blank.{noAsset, noEntry, noPlayer, noMeters, noBook}
@@ -19,9 +24,9 @@ use Rattle.model.specs.Book.{assetsIn, entriesIn}
 use Rattle.model.specs.Book.{Legal, Fresh}
 use Rattle.model.specs.Image.{newest, headerStart, headerTail, assetWidths, assetValues, entryWidths, entryValues, playerWidths}
 use Rattle.model.specs.Image.{playerValues, headerSize, assetSize, entrySize, playerSize, imageLength, headerBytes, assetBytes}
-use Rattle.model.specs.Image.{entryBytes, playerBytes, image, lengthOf}
-use Rattle.model.specs.Image.{readCode, readBook, bookIn, Typed}
-use Rattle.model.specs.Demand2.{imageAs}
+use Rattle.model.specs.Image.{entryBytes, playerBytes, image, imageAs, lengthOf, versionIn}
+use Rattle.model.specs.Image.{readCode, readBook, bookIn, Typed, Bytes}
+use Rattle.model.proofs.Image.Header.{accepted-book, header-passed, accepted-stages}
 use Rattle.model.proofs.Image.RoundTrip.{demand2}
 use Rattle.model.proofs.Examples.Computes.{image-run, legal-run}
 
@@ -88,7 +93,7 @@ greatEntry i = record {
 abbrev greatPlayer : ℕ → Player
 greatPlayer p = record {
   last = record {
-    number = 4294967295;
+    number = 18446744073709551615;
     operation = 1;
     asset = 65535;
     kind = 5;
@@ -142,7 +147,7 @@ greatest-typed = record {
       (zeros-fit (playerWidths newest));
 }
 
--- the reader run on its 4,815 bytes
+-- the reader run on its 4,879 bytes
 pub greatest-read : readCode (image greatest) ≡ 0
 unfolding legal-run image-run greatest
 greatest-read = refl
@@ -151,7 +156,7 @@ greatest-read = refl
 pub greatest-back : readBook noBook (image greatest) ≡ greatest
 greatest-back = demand2 .readsBack noBook greatest greatest-legal greatest-typed .1
 
-pub greatest-length : lengthOf greatest ≡ 4815
+pub greatest-length : lengthOf greatest ≡ 4879
 unfolding greatest assetsIn entriesIn imageLength headerSize assetSize entrySize playerSize lengthOf
 greatest-length = refl
 
@@ -207,7 +212,7 @@ small = record {
   players =
       record {
         last = record {
-          number = 286397204;
+          number = 2387509390271976212;
           operation = 1;
           asset = 5398;
           kind = 3;
@@ -220,7 +225,7 @@ small = record {
 
 -- its bytes, one line for each of the header, the assets, the entries and the players
 pub small-bytes : image small
-    ≡ 82 ∷ 66 ∷ 75 ∷ 0 ∷ 2 ∷ 2 ∷ 2 ∷ 10 ∷ 11 ∷ 12 ∷ 13 ∷ 0 ∷ 0 ∷ 0 ∷ 1 ∷ []
+    ≡ 82 ∷ 66 ∷ 75 ∷ 0 ∷ 3 ∷ 2 ∷ 2 ∷ 10 ∷ 11 ∷ 12 ∷ 13 ∷ 0 ∷ 0 ∷ 0 ∷ 1 ∷ []
     ++ 1 ∷ 2 ∷ 0 ∷ 2 ∷ 1 ∷ []
     ++ 0 ∷ 2 ∷ 0 ∷ 0 ∷ 0 ∷ []
     ++ 5 ∷ 6 ∷ 1 ∷ 2 ∷ 2 ∷ 63 ∷ 0 ∷ 0 ∷ 0 ∷ 10 ∷ 0 ∷ 0 ∷ 0 ∷ 11 ∷ 0 ∷ 0 ∷ 0 ∷ 12 ∷ 10 ∷ 11 ∷ 12 ∷ 1 ∷ 10 ∷ 11 ∷ 12 ∷ 255 ∷ 0 ∷ 0 ∷ 0 ∷
@@ -228,8 +233,9 @@ pub small-bytes : image small
     ∷ 0 ∷ 0 ∷ 0 ∷ 3 ∷ 0 ∷ 0 ∷ 0 ∷ 4 ∷ 10 ∷ 11 ∷ 12 ∷ 2 ∷ 0 ∷ 0 ∷ 0 ∷ 100 ∷ 1
     ∷ 0 ∷ 0 ∷ 0 ∷ 1 ∷ 30 ∷ 27 ∷ 28 ∷ 32 ∷ 0 ∷ 0 ∷ 0 ∷ 1 ∷ []
     ++ 0 ∷ 7 ∷ 0 ∷ 2 ∷ 4 ∷ replicate 58 0
-    ++ 17 ∷ 18 ∷ 19 ∷ 20 ∷ 1 ∷ 21 ∷ 22 ∷ 3 ∷ 0 ∷ 1 ∷ 25 ∷ 26 ∷ 27 ∷ 28 ∷ 1 ∷ 0 ∷ 10 ∷ 11 ∷ 12 ∷ 8 ∷ 10 ∷ 11 ∷ 12 ∷ 14 ∷ 0 ∷ 0 ∷ 1 ∷ 2 ∷ []
-    ++ replicate 420 0
+    ++ 33 ∷ 34 ∷ 35 ∷ 36 ∷ 17 ∷ 18 ∷ 19 ∷ 20 ∷ 1 ∷ 21 ∷ 22 ∷ 3 ∷ 0 ∷ 1 ∷ 25 ∷ 26 ∷ 27 ∷ 28 ∷ 1 ∷ 0 ∷ 10 ∷ 11 ∷ 12 ∷ 8 ∷ 10 ∷ 11 ∷ 12 ∷ 14
+    ∷ 0 ∷ 0 ∷ 1 ∷ 2 ∷ []
+    ++ replicate 480 0
 unfolding small joined headerBytes assetBytes entryBytes playerBytes assetsIn entriesIn image
 small-bytes = refl
 
@@ -325,7 +331,16 @@ pub two-faults :
 unfolding legal-run image-run small
 two-faults = refl
 
--- ## Its image of version 1, which has no switch, track and content
+-- ## Its images of older versions, which have the lower 32 bits of the number; version 1 has no switch, track and content either
+
+abbrev olderLast : Last
+olderLast = record {
+  number = 286397204;
+  operation = 1;
+  asset = 5398;
+  kind = 3;
+  answer = record { code = 0; entry = 1; until = 421141276 };
+}
 
 abbrev older : Book
 older = record {
@@ -357,13 +372,7 @@ older = record {
       ∷ drop 1 (small .entries);
   players =
       record {
-        last = record {
-          number = 286397204;
-          operation = 1;
-          asset = 5398;
-          kind = 3;
-          answer = record { code = 0; entry = 1; until = 421141276 };
-        };
+        last = olderLast;
         current = record { on = 1; entry = 0; begin = 168496136; until = 168496142; content = 0 };
       }
       ∷ replicate 15 noPlayer;
@@ -381,3 +390,64 @@ older-read = refl
 pub older-book : bookIn (imageAs 1 small) ≡ older
 unfolding imageAs image-run small
 older-book = refl
+
+-- the book of its image of version 2
+abbrev second : Book
+second = record {
+  time = small .time;
+  switch = 1;
+  assetcount = 2;
+  entrycount = 2;
+  assets = small .assets;
+  entries = small .entries;
+  players =
+      record { last = olderLast; current = record { on = 1; entry = 0; begin = 168496136; until = 168496142; content = 258 } }
+      ∷ replicate 15 noPlayer;
+}
+
+-- 15 + 5 * 2 + 63 * 2 + 448 bytes
+pub second-length : length (imageAs 2 small) ≡ 599
+unfolding imageAs image-run small
+second-length = refl
+
+pub second-read : readCode (imageAs 2 small) ≡ 0
+unfolding imageAs legal-run image-run small
+second-read = refl
+
+pub second-book : bookIn (imageAs 2 small) ≡ second
+unfolding imageAs image-run small
+second-book = refl
+
+-- ## What an older version can say: the premises of `Demand2.readsAs` are met by what was read from one
+
+bytes-of : (s : List ℕ) → all (λ k. ltb (getD s k 0) 256) (length s) ≡ true → Bytes s
+bytes-of s e k =
+    below-or-not k (length s)
+    (λ h. ltb-true (getD s k 0) 256 (all-below _ (length s) e k h))
+    (λ h. rw (List·getD-eq-default s 0 h) (omega arith))
+
+module _ (s : List ℕ) (b : Bytes s) (e : readCode s ≡ 0) where
+  abbrev read : Book
+  read = readBook noBook s
+
+  -- laid out again by the version of its image, and read again
+  read-again : (readCode (imageAs (versionIn s) read) ≡ 0) × (readBook noBook (imageAs (versionIn s) read) ≡ read)
+  read-again =
+      let p = header-passed s (accepted-stages s e .0) in
+      demand2 .readsAs noBook read (versionIn s) (p .oldest) (p .known) (demand2 .acceptedLegal noBook s b e .0)
+      (demand2 .said noBook s b e)
+
+older-bytes : Bytes (imageAs 1 small)
+unfolding all imageAs image-run small
+older-bytes = bytes-of (imageAs 1 small) refl
+
+older-version : versionIn (imageAs 1 small) ≡ 1
+unfolding imageAs image-run small
+older-version = refl
+
+pub older-again : (readCode (imageAs 1 older) ≡ 0) × (readBook noBook (imageAs 1 older) ≡ older)
+older-again =
+    subst (λ (v : ℕ). (readCode (imageAs v older) ≡ 0) × (readBook noBook (imageAs v older) ≡ older)) older-version
+    (subst (λ (x : Book). (readCode (imageAs (versionIn (imageAs 1 small)) x) ≡ 0) × (readBook noBook (imageAs
+    (versionIn (imageAs 1 small)) x) ≡ x)) (accepted-book noBook (imageAs 1 small) older-read ∙ older-book)
+    (read-again (imageAs 1 small) older-bytes older-read))

@@ -3,7 +3,7 @@
 use mathlib.Core.Path.{_≡_, refl}
 use Prim.Native.Nat.{ℕ}
 use mathlib.Core.List.{List, [], _∷_}
-use lib.ListN.{replicate}
+use lib.ListN.{take, replicate}
 use Rattle.book.specs.declared.Book.{Book}
 use Rattle.book.specs.declared.Entry.{Entry}
 use Rattle.book.specs.declared.Event.{Event}
@@ -20,6 +20,7 @@ use Rattle.model.specs.Book.{requestLegal}
 use Rattle.model.specs.Record.{kindOf, requestOf, eventIn, decoded}
 use Rattle.model.specs.Gate.{sameRequest, sameNumber, inLine, timely, gate}
 use Rattle.model.specs.Step.{refusal}
+use Rattle.model.specs.Demand1.{numbered}
 use Rattle.model.proofs.Examples.Afternoon.{asset, entry, event, granted, run}
 use Rattle.model.proofs.Examples.Computes.{events-run}
 
@@ -225,25 +226,70 @@ gates =
     ∷ gate 100 (last 5) (asks 1 5 (Begin Play 2) 100)
     ∷ gate 100 (last 5) (asks 1 5 Stop 100)
     ∷ gate 100 (last 5) (asks 1 7 Stop 99)
-    ∷ gate 100 (last 4294967295) (asks 1 4294967296 Stop 100)
+    ∷ gate 100 (last 18446744073709551615) (asks 1 18446744073709551616 Stop 100)
     ∷ gate 100 (last 0) (asks 1 0 (Begin Play 1) 100)
     ∷ gate 100 (last 5) (asks 1 6 Stop 99)
     ∷ gate 100 (last 5) (asks 1 6 Stop 4000000001)
     ∷ gate 100 (last 5) (asks 1 6 Stop 100)
-    ∷ gate 100 (last 4294967294) (asks 15 4294967295 Stop 4000000000)
+    ∷ gate 100 (last 18446744073709551614) (asks 15 18446744073709551615 Stop 4000000000)
     ∷ []
 
--- "Order of checks: 2, 1, then the number. ... It gets the stored answer, t is not read"; "nothing follows 4,294,967,295"
+-- "Order of checks: 2, 1, then the number. ... It gets the stored answer, t is not read"; order 4: "only the largest
+-- 64-bit number has none after it"
 pub gate-codes : gates ≡ (Refuse 2 ∷ Resend ∷ Refuse 4 ∷ Refuse 4 ∷ Refuse 4 ∷ Refuse 3 ∷ Refuse 3 ∷ Refuse 3 ∷ Refuse 5 ∷ Refuse 5 ∷
     Take ∷ Take ∷ [])
 unfolding sameRequest sameNumber inLine timely gate
 gate-codes = refl
 
+-- ## Boot number and counter
+
+-- what becomes of a number after the last one
+abbrev after : ℕ → ℕ → Gate
+after number next = gate 100 (last number) (asks 1 next Stop 100)
+
+-- in line: the next counter; after the greatest counter, counter 0 of the next boot number; counter 1 of any greater boot number
+pub boots-in-line :
+    after (numbered 2 7) (numbered 2 8)
+    ∷ after (numbered 2 7) (numbered 3 1)
+    ∷ after (numbered 2 7) (numbered 4294967295 1)
+    ∷ after (numbered 2 4294967295) (numbered 3 0)
+    ∷ after (numbered 2 4294967295) (numbered 3 1)
+    ∷ after 4294967295 4294967296
+    ∷ after 0 1
+    ∷ after 0 (numbered 5 1)
+    ∷ []
+    ≡ replicate 8 Take
+unfolding sameRequest sameNumber inLine timely gate
+boots-in-line = refl
+
+-- out of line: a counter left out; counter 0 or 2 of a greater boot number; the same boot number again from 1; a smaller one; a first
+-- number with counter 0 or 2; nothing comes after the largest number, nor round to 0 or 1
+pub boots-out-of-line :
+    after (numbered 2 7) (numbered 2 9)
+    ∷ after (numbered 2 7) (numbered 3 0)
+    ∷ after (numbered 2 7) (numbered 3 2)
+    ∷ after (numbered 2 7) (numbered 2 1)
+    ∷ after (numbered 2 7) (numbered 1 1)
+    ∷ after (numbered 2 7) 8
+    ∷ after (numbered 2 4294967295) (numbered 2 0)
+    ∷ after 0 (numbered 5 0)
+    ∷ after 0 (numbered 5 2)
+    ∷ after 0 2
+    ∷ after (numbered 4294967295 4294967295) (numbered 4294967296 0)
+    ∷ after (numbered 4294967295 7) (numbered 4294967296 1)
+    ∷ after (numbered 4294967295 4294967295) 0
+    ∷ after (numbered 4294967295 4294967295) 1
+    ∷ []
+    ≡ replicate 14 (Refuse 3)
+unfolding sameRequest sameNumber inLine timely gate
+boots-out-of-line = refl
+
 -- ## Records of bytes
 
--- player 1, number 258, an operation, asset 772, a kind, time 1029
+-- player 1, boot number 1543, counter 258, an operation, asset 772, a kind, time 1029
 abbrev bytes : ℕ → ℕ → ℕ → ℕ → ℕ → List ℕ
-bytes player operation high low kind = player ∷ 0 ∷ 0 ∷ 1 ∷ 2 ∷ operation ∷ high ∷ low ∷ kind ∷ 0 ∷ 0 ∷ 4 ∷ 5 ∷ []
+bytes player operation high low kind =
+    player ∷ 0 ∷ 0 ∷ 6 ∷ 7 ∷ 0 ∷ 0 ∷ 1 ∷ 2 ∷ operation ∷ high ∷ low ∷ kind ∷ 0 ∷ 0 ∷ 4 ∷ 5 ∷ []
 
 abbrev reads : List Decoded
 reads =
@@ -251,6 +297,8 @@ reads =
     ∷ decoded (bytes 1 2 0 0 0)
     ∷ decoded (bytes 1 3 0 0 0)
     ∷ decoded (0 ∷ bytes 1 1 3 4 5)
+    ∷ decoded (take 16 (bytes 1 1 3 4 5))
+    ∷ decoded (take 13 (bytes 1 1 3 4 5))
     ∷ decoded []
     ∷ decoded (bytes 16 4 3 4 5)
     ∷ decoded (bytes 1 4 0 0 0)
@@ -261,11 +309,13 @@ reads =
     ∷ decoded (bytes 1 3 0 0 1)
     ∷ []
 
--- "6 | event record not 13 bytes"; "Kind is 1 to 5 for begin; asset and kind are 0 otherwise."
+-- "6 | event record not 13 bytes", now 17: not 18, 16, 13 or 0; "Kind is 1 to 5 for begin; asset and kind are 0 otherwise."
 pub records-read : reads ≡ (
-    Valid (asks 1 258 (Begin Export 772) 1029)
-    ∷ Valid (asks 1 258 Continue 1029)
-    ∷ Valid (asks 1 258 Stop 1029)
+    Valid (asks 1 (numbered 1543 258) (Begin Export 772) 1029)
+    ∷ Valid (asks 1 (numbered 1543 258) Continue 1029)
+    ∷ Valid (asks 1 (numbered 1543 258) Stop 1029)
+    ∷ Invalid 6
+    ∷ Invalid 6
     ∷ Invalid 6
     ∷ Invalid 6
     ∷ Invalid 2

@@ -11,8 +11,8 @@ use lib.Dec.{ltb, leb, eqb}
 use borrow.Author.Tests.{eq-eqb, le-ltb, le-leb, lt-leb}
 use Rattle.numbers.specs.Count.{all, joined, listed}
 use Rattle.numbers.specs.Fields.{Width, size, laidOut, valuesAt, Fit}
-use Rattle.numbers.proofs.FieldLaws.{values-back, values-from, values-fit, length-laid, laid-back, laid-bytes, append-bytes, drop-bytes}
-use Rattle.numbers.proofs.FieldLaws.{zeros-fit, padded, older, values-padded}
+use Rattle.numbers.proofs.FieldLaws.{values-back, field-back, values-from, values-own, fits-wider, length-laid, laid-back, laid-bytes}
+use Rattle.numbers.proofs.FieldLaws.{append-bytes, drop-bytes, zeros-said, padded, older}
 use Rattle.numbers.proofs.Tests.{row-passed, all-below}
 use Rattle.numbers.proofs.TableLaws.{below-or-not, joined-same, listed-same, length-joined, piece-begins, pieces-joined, listed-at}
 use Rattle.numbers.proofs.TableLaws.{blank-at, length-listed, length-slots, slots-back, joined-bytes}
@@ -21,20 +21,21 @@ use Rattle.book.specs.declared.Entry.{Entry}
 use Rattle.book.specs.declared.Player.{Player}
 use Rattle.book.specs.declared.Book.{Book}
 use Rattle.book.specs.Blank.{noAsset, noEntry, noPlayer}
-use Rattle.model.specs.Book.{assetAt, limitsAt, playerAt, assetsIn, entriesIn, latestTime, between, ruleBroken, Legal}
+use Rattle.model.specs.Book.{assetAt, playerAt, assetsIn, entriesIn, latestTime, between, ruleBroken, Legal}
 use Rattle.model.specs.Image.{headerStart, headerTail, headerWidths, startValues, tailValues, newest, assetWidths, assetValues}
 use Rattle.model.specs.Image.{assetOf, entryWidths, entryValues, entryOf, playerWidths, playerValues, playerOf, imageLength}
-use Rattle.model.specs.Image.{headerBytes, assetBytes, entryBytes, playerBytes, image, headerSize, assetSize, entrySize, playerSize}
+use Rattle.model.specs.Image.{headerBytes, assetBytes, entryBytes, playerBytes, image, imageAs, headerSize, assetSize, entrySize, playerSize}
 use Rattle.model.specs.Image.{lengthOf, writeAnswer, writeBuffer, markIn, versionIn, assetCountIn, entryCountIn, timeIn, assetIn}
 use Rattle.model.specs.Image.{entryIn, playerIn, assetTable, entryTable, playerTable, entriesFrom, playersFrom, tailIn, bookAs}
-use Rattle.model.specs.Image.{bookIn, headerBroken, readCode, readBook, trackValues, Typed, Bytes}
-use Rattle.model.specs.Demand2.{imageAs, Demand2}
+use Rattle.model.specs.Image.{bookIn, headerBroken, readCode, readBook, SaidBy, Typed, Bytes}
+use Rattle.model.specs.Demand2.{Demand2}
 use Rattle.model.proofs.Image.Header.{by-version, HeaderPassed, header-passed, accepted-stages, accepted-book, refused-book}
 
 -- ## One table of records of any layout
 
 module _ {A : Type 0} (ws : List Width) (values : A → List ℕ) (of : List ℕ → A)
-    (whole : (x : A) → of (values x) ≡ x) (each : (x : A) → length (values x) ≡ length ws) where
+    (whole : (x : A) (vs : List ℕ) → ((k : ℕ) → getD vs k 0 ≡ getD (values x) k 0) → of vs ≡ x)
+    (each : (x : A) → length ws ≤ length (values x)) where
   -- a record written to a table reads back
   record-back : (f : ℕ → A) (n i o : ℕ) (pre rest : List ℕ) → length pre ≡ o → i < n → Fit ws (values (f i))
       → of (valuesAt ws 0 (drop (o + size ws * i) (pre ++ joined (λ (k : ℕ). laidOut ws (values (f k))) n ++ rest))) ≡ f i
@@ -43,8 +44,9 @@ module _ {A : Type 0} (ws : List Width) (values : A → List ℕ) (of : List ℕ
       let even : (k : ℕ) → length (g k) ≡ size ws = λ k. length-laid ws (values (f k)) (each (f k)) in
       let s = drop (o + size ws * i) (pre ++ joined g n ++ rest) in
       ap (λ (t : List ℕ). of (valuesAt ws 0 t)) (piece-begins g (size ws) even n i o pre rest e h)
-      ∙ ap of (values-back ws 0 (values (f i)) [] (drop (size ws) s) refl (each (f i)) fit)
-      ∙ whole (f i)
+      ∙ whole (f i) _ (λ k.
+      ap (λ (vs : List ℕ). getD vs k 0) (values-back ws 0 (values (f i)) [] (drop (size ws) s) refl fit)
+      ∙ field-back ws (values (f i)) fit k)
 
 module _ {A : Type 0} (ws : List Width) (values : A → List ℕ) (of : List ℕ → A)
     (again : (o : ℕ) (s : List ℕ) → laidOut ws (values (of (valuesAt ws o s))) ≡ laidOut ws (valuesAt ws o s)) where
@@ -61,52 +63,97 @@ module _ {A : Type 0} (ws : List Width) (values : A → List ℕ) (of : List ℕ
 
 -- ## The parts of an image
 
-abbrev headerPart : Book → List ℕ
-headerPart b = headerBytes (assetsIn b) (entriesIn b) b
+abbrev headerPart : ℕ → Book → List ℕ
+headerPart v b = laidOut (headerWidths v) (startValues v (assetsIn b) (entriesIn b) (b .time) ++ tailValues b)
 
-abbrev assetPart : Book → List ℕ
-assetPart b = joined (λ (i : ℕ). assetBytes (assetAt (b .assets) i)) (assetsIn b)
+abbrev assetPart : ℕ → Book → List ℕ
+assetPart v b = joined (λ (i : ℕ). laidOut (assetWidths v) (assetValues (assetAt (b .assets) i))) (assetsIn b)
 
-abbrev entryPart : Book → List ℕ
-entryPart b = joined (λ (i : ℕ). entryBytes (getD (b .entries) i noEntry)) (entriesIn b)
+abbrev entryPart : ℕ → Book → List ℕ
+entryPart v b = joined (λ (i : ℕ). laidOut (entryWidths v) (entryValues (getD (b .entries) i noEntry))) (entriesIn b)
 
-abbrev playerPart : Book → List ℕ
-playerPart b = joined (λ (p : ℕ). playerBytes (playerAt (b .players) p)) 16
+abbrev playerPart : ℕ → Book → List ℕ
+playerPart v b = joined (λ (p : ℕ). laidOut (playerWidths v) (playerValues (playerAt (b .players) p))) 16
 
-length-headerPart : (b : Book) → length (headerPart b) ≡ headerSize newest
-unfolding headerBytes headerSize
-length-headerPart b = refl
+-- the header is its start and what versions added
+header-parts : (v assets entries : ℕ) (b : Book)
+    → laidOut (headerWidths v) (startValues v assets entries (b .time) ++ tailValues b)
+    ≡ laidOut headerStart (startValues v assets entries (b .time)) ++ laidOut (headerTail v) (tailValues b)
+header-parts v assets entries b = refl
 
-length-assetPart : (b : Book) → length (assetPart b) ≡ assetSize newest * assetsIn b
-unfolding assetBytes assetSize
-length-assetPart b = length-joined (λ (i : ℕ). assetBytes (assetAt (b .assets) i)) (assetSize newest) (λ i. refl) (assetsIn b)
+-- a book has a value for each width of every version
+module _ (v : ℕ) (oldest : 1 ≤ v) (known : v ≤ newest) where
+  tail-enough : (b : Book) → length (headerTail v) ≤ length (tailValues b)
+  tail-enough b =
+      by-version (λ v. length (headerTail v) ≤ length (tailValues b)) (omega arith) (omega arith) (omega arith) v oldest known
 
-length-entryPart : (b : Book) → length (entryPart b) ≡ entrySize newest * entriesIn b
-unfolding entryBytes entrySize
-length-entryPart b = length-joined (λ (i : ℕ). entryBytes (getD (b .entries) i noEntry)) (entrySize newest) (λ i. refl) (entriesIn b)
+  asset-enough : (a : Asset) → length (assetWidths v) ≤ length (assetValues a)
+  asset-enough a =
+      by-version (λ v. length (assetWidths v) ≤ length (assetValues a)) (omega arith) (omega arith) (omega arith) v oldest known
 
-length-playerPart : (b : Book) → length (playerPart b) ≡ playerSize newest * 16
-unfolding playerBytes playerSize
-length-playerPart b = length-joined (λ (p : ℕ). playerBytes (playerAt (b .players) p)) (playerSize newest) (λ p. refl) 16
+  entry-enough : (e : Entry) → length (entryWidths v) ≤ length (entryValues e)
+  entry-enough e =
+      by-version (λ v. length (entryWidths v) ≤ length (entryValues e)) (omega arith) (omega arith) (omega arith) v oldest known
 
-before-entries : (b : Book) → length (headerPart b ++ assetPart b) ≡ headerSize newest + assetSize newest * assetsIn b
-before-entries b = rw (length-append, length-headerPart b, length-assetPart b)
+  player-enough : (p : Player) → length (playerWidths v) ≤ length (playerValues p)
+  player-enough p =
+      by-version (λ v. length (playerWidths v) ≤ length (playerValues p)) (omega arith) (omega arith) (omega arith) v oldest known
 
-before-players : (b : Book)
-    → length (headerPart b ++ assetPart b ++ entryPart b) ≡ headerSize newest + assetSize newest * assetsIn b + entrySize newest *
-    entriesIn b
-before-players b = rw (length-append, before-entries b, length-entryPart b)
+  header-sizes : headerSize v ≡ size headerStart + size (headerTail v)
+  unfolding headerSize
+  header-sizes = by-version (λ v. headerSize v ≡ size headerStart + size (headerTail v)) refl refl refl v oldest known
+
+  length-headerPart : (b : Book) → length (headerPart v b) ≡ headerSize v
+  length-headerPart b =
+      length-append (laidOut headerStart (startValues v (assetsIn b) (entriesIn b) (b .time))) (laidOut (headerTail v) (tailValues b))
+      ∙ ap (λ (n : ℕ). size headerStart + n) (length-laid (headerTail v) (tailValues b) (tail-enough b))
+      ∙ sym header-sizes
+
+  length-assetPart : (b : Book) → length (assetPart v b) ≡ assetSize v * assetsIn b
+  unfolding assetSize
+  length-assetPart b =
+      length-joined (λ (i : ℕ). laidOut (assetWidths v) (assetValues (assetAt (b .assets) i))) (assetSize v)
+      (λ i. length-laid (assetWidths v) (assetValues (assetAt (b .assets) i)) (asset-enough (assetAt (b .assets) i))) (assetsIn b)
+
+  length-entryPart : (b : Book) → length (entryPart v b) ≡ entrySize v * entriesIn b
+  unfolding entrySize
+  length-entryPart b =
+      length-joined (λ (i : ℕ). laidOut (entryWidths v) (entryValues (getD (b .entries) i noEntry))) (entrySize v)
+      (λ i. length-laid (entryWidths v) (entryValues (getD (b .entries) i noEntry)) (entry-enough (getD (b .entries) i noEntry))) (entriesIn b)
+
+  length-playerPart : (b : Book) → length (playerPart v b) ≡ playerSize v * 16
+  unfolding playerSize
+  length-playerPart b =
+      length-joined (λ (p : ℕ). laidOut (playerWidths v) (playerValues (playerAt (b .players) p))) (playerSize v)
+      (λ p. length-laid (playerWidths v) (playerValues (playerAt (b .players) p)) (player-enough (playerAt (b .players) p))) 16
+
+  before-entries : (b : Book) → length (headerPart v b ++ assetPart v b) ≡ headerSize v + assetSize v * assetsIn b
+  before-entries b = rw (length-append, length-headerPart b, length-assetPart b)
+
+  before-players : (b : Book)
+      → length (headerPart v b ++ assetPart v b ++ entryPart v b) ≡ headerSize v + assetSize v * assetsIn b + entrySize v * entriesIn b
+  before-players b = rw (length-append, before-entries b, length-entryPart b)
+
+  length-as : (b : Book) → length (imageAs v b) ≡ imageLength v (assetsIn b) (entriesIn b)
+  unfolding imageAs imageLength
+  length-as b = rw (length-append, before-players b, length-playerPart b)
+
+  long-enough : (b : Book) → size headerStart ≤ length (imageAs v b)
+  unfolding imageLength
+  long-enough b = rw (length-as b, header-sizes) (omega arith)
+
+-- the layout of the newest version is what is written
+as-newest : (b : Book) → imageAs newest b ≡ image b
+unfolding imageAs image headerBytes assetBytes entryBytes playerBytes
+as-newest b = refl
 
 image-length : (b : Book) → length (image b) ≡ lengthOf b
-unfolding image lengthOf imageLength
-image-length b = rw (length-append, before-players b, length-playerPart b)
+unfolding lengthOf
+image-length b = ap length (sym (as-newest b)) ∙ length-as newest (omega arith) (omega arith) b
 
-length-bounds : (b : Book) → (463 ≤ lengthOf b) × (lengthOf b ≤ 4815)
+length-bounds : (b : Book) → (527 ≤ lengthOf b) × (lengthOf b ≤ 4879)
 unfolding lengthOf imageLength assetsIn entriesIn headerSize assetSize entrySize playerSize
 length-bounds b = (omega arith, omega arith)
-
-long-enough : (b : Book) → size headerStart ≤ length (image b)
-long-enough b = rw (image-length b) (omega (arith, length-bounds b .0))
 
 -- ## A stage that passes
 
@@ -115,18 +162,21 @@ passes t c x e z = ap (λ (u : Bool). cond u c x) e ∙ z
 
 -- ## Written and read back
 
-start-fits : (assets entries time : ℕ) → assets ≤ 64 → entries ≤ 64 → time ≤ latestTime → Fit headerStart
-    (startValues newest assets entries time)
-start-fits assets entries time ha he ht = omega arith
+start-fits : (v assets entries time : ℕ) → v ≤ newest → assets ≤ 64 → entries ≤ 64 → time ≤ latestTime → Fit headerStart
+    (startValues v assets entries time)
+start-fits v assets entries time known ha he ht = omega arith
 
--- the header is its start and what versions added
-header-parts : (assets entries : ℕ) (b : Book)
-    → headerBytes assets entries b ≡ laidOut headerStart (startValues newest assets entries (b .time)) ++ laidOut (headerTail newest)
-    (tailValues b)
-unfolding headerBytes
-header-parts assets entries b = refl
+-- a record is told by its values, those that are missing being 0
+asset-whole : (x : Asset) (vs : List ℕ) → ((k : ℕ) → getD vs k 0 ≡ getD (assetValues x) k 0) → assetOf vs ≡ x
+asset-whole x vs h = λ i. assetOf (padded (assetWidths newest) (λ k. h k i))
 
-module _ (b : Book) (l : Legal b) where
+entry-whole : (x : Entry) (vs : List ℕ) → ((k : ℕ) → getD vs k 0 ≡ getD (entryValues x) k 0) → entryOf vs ≡ x
+entry-whole x vs h = λ i. entryOf (padded (entryWidths newest) (λ k. h k i))
+
+player-whole : (x : Player) (vs : List ℕ) → ((k : ℕ) → getD vs k 0 ≡ getD (playerValues x) k 0) → playerOf vs ≡ x
+player-whole x vs h = λ i. playerOf (padded (playerWidths newest) (λ k. h k i))
+
+module _ (v : ℕ) (oldest : 1 ≤ v) (known : v ≤ newest) (b : Book) (l : Legal b) where
   assets-in : assetsIn b ≡ b .assetcount
   unfolding assetsIn
   assets-in = min-eq-left (l .assetCount)
@@ -137,185 +187,206 @@ module _ (b : Book) (l : Legal b) where
 
   -- the image after the start of its header
   after : List ℕ
-  after = laidOut (headerTail newest) (tailValues b) ++ (assetPart b ++ (entryPart b ++ playerPart b))
+  after = laidOut (headerTail v) (tailValues b) ++ (assetPart v b ++ (entryPart v b ++ playerPart v b))
 
-  image-start : image b ≡ laidOut headerStart (startValues newest (b .assetcount) (b .entrycount) (b .time)) ++ after
-  unfolding image after
+  abbrev laid : List ℕ
+  laid = imageAs v b
+
+  abbrev start : List ℕ
+  start = startValues v (b .assetcount) (b .entrycount) (b .time)
+
+  image-start : laid ≡ laidOut headerStart start ++ after
+  unfolding imageAs after
   image-start =
-      append-assoc (headerPart b ++ assetPart b) (entryPart b) (playerPart b)
-      ∙ append-assoc (headerPart b) (assetPart b) (entryPart b ++ playerPart b)
-      ∙ ap₂ (λ (n m : ℕ). headerBytes n m b ++ (assetPart b ++ (entryPart b ++ playerPart b))) assets-in entries-in
-      ∙ ap (λ (x : List ℕ). x ++ (assetPart b ++ (entryPart b ++ playerPart b))) (header-parts (b .assetcount) (b .entrycount) b)
-      ∙ append-assoc (laidOut headerStart (startValues newest (b .assetcount) (b .entrycount) (b .time)))
-      (laidOut (headerTail newest) (tailValues b)) (assetPart b ++ (entryPart b ++ playerPart b))
+      append-assoc (headerPart v b ++ assetPart v b) (entryPart v b) (playerPart v b)
+      ∙ append-assoc (headerPart v b) (assetPart v b) (entryPart v b ++ playerPart v b)
+      ∙ ap₂ (λ (n m : ℕ). laidOut (headerWidths v) (startValues v n m (b .time) ++ tailValues b) ++
+      (assetPart v b ++ (entryPart v b ++ playerPart v b))) assets-in entries-in
+      ∙ ap (λ (x : List ℕ). x ++ (assetPart v b ++ (entryPart v b ++ playerPart v b)))
+      (header-parts v (b .assetcount) (b .entrycount) b)
+      ∙ append-assoc (laidOut headerStart start) (laidOut (headerTail v) (tailValues b))
+      (assetPart v b ++ (entryPart v b ++ playerPart v b))
 
-  header-back : valuesAt headerStart 0 (image b) ≡ startValues newest (b .assetcount) (b .entrycount) (b .time)
+  header-back : valuesAt headerStart 0 laid ≡ start
   header-back =
       ap (valuesAt headerStart 0) image-start
-      ∙ values-back headerStart 0 (startValues newest (b .assetcount) (b .entrycount) (b .time)) [] after refl refl
-      (start-fits (b .assetcount) (b .entrycount) (b .time) (l .assetCount) (l .entryCount) (l .time))
+      ∙ values-back headerStart 0 start [] after refl
+      (start-fits v (b .assetcount) (b .entrycount) (b .time) known (l .assetCount) (l .entryCount) (l .time))
 
-  tail-back : Fit (headerTail newest) (tailValues b) → tailIn newest (image b) ≡ tailValues b
+  switch-back : Fit (headerTail v) (tailValues b) → getD (tailIn v laid) 0 0 ≡ b .switch
   unfolding after
-  tail-back f =
-      let start = laidOut headerStart (startValues newest (b .assetcount) (b .entrycount) (b .time)) in
-      let rest = assetPart b ++ (entryPart b ++ playerPart b) in
-      ap (valuesAt (headerTail newest) (size headerStart)) (image-start ∙ sym
-      (append-assoc start (laidOut (headerTail newest) (tailValues b)) rest))
-      ∙ values-back (headerTail newest) (size headerStart) (tailValues b) start rest refl refl f
+  switch-back f =
+      let rest = assetPart v b ++ (entryPart v b ++ playerPart v b) in
+      ap (λ (s : List ℕ). getD (valuesAt (headerTail v) (size headerStart) s) 0 0) (image-start ∙ sym
+      (append-assoc (laidOut headerStart start) (laidOut (headerTail v) (tailValues b)) rest))
+      ∙ ap (λ (vs : List ℕ). getD vs 0 0)
+      (values-back (headerTail v) (size headerStart) (tailValues b) (laidOut headerStart start) rest refl f)
+      ∙ field-back (headerTail v) (tailValues b) f 0
 
-  assets-counted : assetCountIn (image b) ≡ assetsIn b
+  assets-counted : assetCountIn laid ≡ assetsIn b
   unfolding assetCountIn
   assets-counted = ap (λ (vs : List ℕ). getD vs 4 0) header-back ∙ sym assets-in
 
-  entries-counted : entryCountIn (image b) ≡ entriesIn b
+  entries-counted : entryCountIn laid ≡ entriesIn b
   unfolding entryCountIn
   entries-counted = ap (λ (vs : List ℕ). getD vs 5 0) header-back ∙ sym entries-in
 
-  time-back : timeIn (image b) ≡ b .time
+  time-back : timeIn laid ≡ b .time
   unfolding timeIn
   time-back = ap (λ (vs : List ℕ). getD vs 6 0) header-back
 
-  entries-from : entriesFrom newest (image b) ≡ headerSize newest + assetSize newest * assetsIn b
+  entries-from : entriesFrom v laid ≡ headerSize v + assetSize v * assetsIn b
   unfolding entriesFrom
-  entries-from = ap (λ (n : ℕ). headerSize newest + assetSize newest * n) assets-counted
+  entries-from = ap (λ (n : ℕ). headerSize v + assetSize v * n) assets-counted
 
-  players-from : playersFrom newest (image b) ≡ headerSize newest + assetSize newest * assetsIn b + entrySize newest * entriesIn b
+  players-from : playersFrom v laid ≡ headerSize v + assetSize v * assetsIn b + entrySize v * entriesIn b
   unfolding playersFrom
-  players-from = ap₂ (λ (k n : ℕ). k + entrySize newest * n) entries-from entries-counted
+  players-from = ap₂ (λ (k n : ℕ). k + entrySize v * n) entries-from entries-counted
 
-  version-back : versionIn (image b) ≡ newest
+  version-back : versionIn laid ≡ v
   unfolding versionIn
   version-back = ap (λ (vs : List ℕ). getD vs 3 0) header-back
 
-  module _ (y : Typed b) where
-    assets-back : assetTable newest (image b) (headerSize newest) (assetsIn b) ≡ b .assets
-    unfolding assetTable image assetBytes assetIn assetSize
+  module _ (y : SaidBy v b) where
+    assets-back : assetTable v laid (headerSize v) (assetsIn b) ≡ b .assets
+    unfolding assetTable imageAs assetIn assetSize
     assets-back =
         let n = assetsIn b in
         let slots : length (b .assets) ≡ n + (64 - n) = l .assetSlots ∙ omega (arith, assets-in, l .assetCount) in
-        ap (λ (x : List ℕ). assetTable newest x (headerSize newest) n)
-        (append-assoc (headerPart b ++ assetPart b) (entryPart b) (playerPart b))
+        ap (λ (x : List ℕ). assetTable v x (headerSize v) n)
+        (append-assoc (headerPart v b ++ assetPart v b) (entryPart v b) (playerPart v b))
         ∙ ap (λ (x : List Asset). x ++ replicate (64 - n) noAsset)
         (listed-same _ (assetAt (b .assets)) n (λ i h.
-        record-back (assetWidths newest) assetValues assetOf (λ x. refl) (λ x. refl) (assetAt (b .assets)) n i (headerSize newest)
-        (headerPart b) (entryPart b ++ playerPart b)
-        (length-headerPart b) h (y .assets i)))
+        record-back (assetWidths v) assetValues assetOf asset-whole (asset-enough v oldest known) (assetAt (b .assets)) n i (headerSize v)
+        (headerPart v b) (entryPart v b ++ playerPart v b)
+        (length-headerPart v oldest known b) h (y .assets i)))
         ∙ slots-back (b .assets) n (64 - n) noAsset slots (λ i h. l .assetsBlank i (rw (← assets-in) h))
 
-    entries-back : entryTable newest (image b) (entriesFrom newest (image b)) (entriesIn b) ≡ b .entries
-    unfolding entryTable image entryBytes entryIn headerSize assetSize entrySize playerSize
+    entries-back : entryTable v laid (entriesFrom v laid) (entriesIn b) ≡ b .entries
+    unfolding entryTable imageAs entryIn entrySize
     entries-back =
         let n = entriesIn b in
         let slots : length (b .entries) ≡ n + (64 - n) = l .entrySlots ∙ omega (arith, entries-in, l .entryCount) in
         ap (λ (x : List Entry). x ++ replicate (64 - n) noEntry)
         (listed-same _ (λ (i : ℕ). getD (b .entries) i noEntry) n (λ i h.
-        record-back (entryWidths newest) entryValues entryOf (λ x. refl) (λ x. refl) (λ (i : ℕ). getD (b .entries) i noEntry) n i
-        (entriesFrom newest (image b)) (headerPart b ++ assetPart b) (playerPart b)
-        (before-entries b ∙ sym entries-from) h (y .entries i)))
+        record-back (entryWidths v) entryValues entryOf entry-whole (entry-enough v oldest known) (λ (i : ℕ). getD (b .entries) i noEntry) n
+        i (entriesFrom v laid) (headerPart v b ++ assetPart v b) (playerPart v b)
+        (before-entries v oldest known b ∙ sym entries-from) h (y .entries i)))
         ∙ slots-back (b .entries) n (64 - n) noEntry slots (λ i h. l .entriesBlank i (rw (← entries-in) h))
 
-    players-back : playerTable newest (image b) (playersFrom newest (image b)) ≡ b .players
-    unfolding playerTable image playerBytes playerIn headerSize assetSize entrySize playerSize
+    players-back : playerTable v laid (playersFrom v laid) ≡ b .players
+    unfolding playerTable imageAs playerIn playerSize
     players-back =
         let past : (i : ℕ) → 16 ≤ i → playerAt (b .players) i ≡ noPlayer = λ i h. List·getD-eq-default (b .players) noPlayer
         (rw (l .playerSlots) h) in
-        ap (λ (x : List ℕ). playerTable newest x (playersFrom newest (image b)))
-        (sym (append-nil (headerPart b ++ assetPart b ++ entryPart b ++ playerPart b)))
+        ap (λ (x : List ℕ). playerTable v x (playersFrom v laid))
+        (sym (append-nil (headerPart v b ++ assetPart v b ++ entryPart v b ++ playerPart v b)))
         ∙ listed-same _ (playerAt (b .players)) 16 (λ i h.
-        record-back (playerWidths newest) playerValues playerOf (λ x. refl) (λ x. refl) (playerAt (b .players)) 16 i
-        (playersFrom newest (image b)) (headerPart b ++ assetPart b ++ entryPart b) []
-        (before-players b ∙ sym players-from) h (y .players i))
+        record-back (playerWidths v) playerValues playerOf player-whole (player-enough v oldest known) (playerAt (b .players)) 16 i
+        (playersFrom v laid) (headerPart v b ++ assetPart v b ++ entryPart v b) []
+        (before-players v oldest known b ∙ sym players-from) h (y .players i))
         ∙ sym (append-nil (listed (playerAt (b .players)) 16))
         ∙ slots-back (b .players) 16 0 noPlayer (l .playerSlots) past
 
-    as-back : bookAs newest (image b) ≡ b
+    as-back : bookAs v laid ≡ b
     unfolding bookAs
     as-back = λ i. record {
       time = time-back i;
-      switch = ap (λ (vs : List ℕ). getD vs 0 0) (tail-back (y .header)) i;
+      switch = switch-back (y .header) i;
       assetcount = (assets-counted ∙ assets-in) i;
       entrycount = (entries-counted ∙ entries-in) i;
-      assets = (ap (assetTable newest (image b) (headerSize newest)) assets-counted ∙ assets-back) i;
-      entries = (ap (entryTable newest (image b) (entriesFrom newest (image b))) entries-counted ∙ entries-back) i;
+      assets = (ap (assetTable v laid (headerSize v)) assets-counted ∙ assets-back) i;
+      entries = (ap (entryTable v laid (entriesFrom v laid)) entries-counted ∙ entries-back) i;
       players = players-back i;
     }
 
-    book-back : bookIn (image b) ≡ b
+    book-back : bookIn laid ≡ b
     unfolding bookIn
-    book-back = ap (λ (v : ℕ). bookAs v (image b)) version-back ∙ as-back
+    book-back = ap (λ (w : ℕ). bookAs w laid) version-back ∙ as-back
 
-    mark-back : markIn (image b) ≡ true
+    mark-back : markIn laid ≡ true
     unfolding markIn
     mark-back = ap (λ (vs : List ℕ). eqb (getD vs 0 0) 82 && eqb (getD vs 1 0) 66 && eqb (getD vs 2 0) 75) header-back
 
-    none-large : (ltb 64 (assetCountIn (image b)) || ltb 64 (entryCountIn (image b)) || ltb latestTime (timeIn (image b))) ≡ false
-    none-large =
-        let n : assetCountIn (image b) ≤ 64 = rw (assets-counted, assets-in) (l .assetCount) in
-        let m : entryCountIn (image b) ≤ 64 = rw (entries-counted, entries-in) (l .entryCount) in
-        let t : timeIn (image b) ≤ latestTime = rw (time-back) (l .time) in
-        rw (le-ltb 64 (assetCountIn (image b)) n, le-ltb 64 (entryCountIn (image b)) m, le-ltb latestTime (timeIn (image b)) t)
+    version-known : not (between 1 newest (versionIn laid)) ≡ false
+    version-known =
+        ap (λ (w : ℕ). not (between 1 newest w)) version-back
+        ∙ by-version (λ w. not (between 1 newest w) ≡ false) refl refl refl v oldest known
 
-    whole-back : length (image b) ≡ imageLength (versionIn (image b)) (assetCountIn (image b)) (entryCountIn (image b))
-    unfolding lengthOf
+    none-large : (ltb 64 (assetCountIn laid) || ltb 64 (entryCountIn laid) || ltb latestTime (timeIn laid)) ≡ false
+    none-large =
+        let n : assetCountIn laid ≤ 64 = rw (assets-counted, assets-in) (l .assetCount) in
+        let m : entryCountIn laid ≤ 64 = rw (entries-counted, entries-in) (l .entryCount) in
+        let t : timeIn laid ≤ latestTime = rw (time-back) (l .time) in
+        rw (le-ltb 64 (assetCountIn laid) n, le-ltb 64 (entryCountIn laid) m, le-ltb latestTime (timeIn laid) t)
+
+    whole-back : length laid ≡ imageLength (versionIn laid) (assetCountIn laid) (entryCountIn laid)
     whole-back =
-        image-length b
-        ∙ sym (ap (λ (v : ℕ). imageLength v (assetCountIn (image b)) (entryCountIn (image b))) version-back ∙ ap₂ (imageLength newest)
+        length-as v oldest known b
+        ∙ sym (ap (λ (w : ℕ). imageLength w (assetCountIn laid) (entryCountIn laid)) version-back ∙ ap₂ (imageLength v)
         assets-counted entries-counted)
 
-    header-holds : headerBroken (image b) ≡ 0
+    header-holds : headerBroken laid ≡ 0
     unfolding headerBroken
     header-holds =
-        passes (ltb (length (image b)) (size headerStart)) 20 _ (le-ltb (length (image b)) (size headerStart) (long-enough b))
-        (passes (not (markIn (image b))) 21 _ (ap not mark-back)
-        (passes (not (between 1 newest (versionIn (image b)))) 22 _ (ap (λ (v : ℕ). not (between 1 newest v)) version-back)
+        passes (ltb (length laid) (size headerStart)) 20 _ (le-ltb (length laid) (size headerStart) (long-enough v oldest known b))
+        (passes (not (markIn laid)) 21 _ (ap not mark-back)
+        (passes (not (between 1 newest (versionIn laid))) 22 _ version-known
         (passes _ 23 _ none-large
-        (passes _ 20 0 (ap not (eq-eqb (length (image b)) (imageLength (versionIn (image b)) (assetCountIn (image b))
-        (entryCountIn (image b))) whole-back)) refl))))
+        (passes _ 20 0 (ap not (eq-eqb (length laid) (imageLength (versionIn laid) (assetCountIn laid)
+        (entryCountIn laid)) whole-back)) refl))))
 
-    reads-back : (held : Book) → (readCode (image b) ≡ 0) × (readBook held (image b) ≡ b)
+    reads-as : (held : Book) → (readCode laid ≡ 0) × (readBook held laid ≡ b)
     unfolding readCode readBook
-    reads-back held =
-        let code : readCode (image b) ≡ 0 = rw (header-holds, book-back) (l .rules) in
+    reads-as held =
+        let code : readCode laid ≡ 0 = rw (header-holds, book-back) (l .rules) in
         (code, rw (code) book-back)
 
+module _ (b : Book) (l : Legal b) where
+  newest-written : versionIn (image b) ≡ newest
+  newest-written = ap versionIn (sym (as-newest b)) ∙ version-back newest (omega arith) (omega arith) b l
+
+  module _ (y : Typed b) where
+    reads-back : (held : Book) → (readCode (image b) ≡ 0) × (readBook held (image b) ≡ b)
+    reads-back held =
+        subst (λ (s : List ℕ). (readCode s ≡ 0) × (readBook held s ≡ b)) (as-newest b)
+        (reads-as newest (omega arith) (omega arith) b l y held)
+
     image-bytes : Bytes (image b)
-    unfolding image assetBytes entryBytes playerBytes
+    unfolding imageAs
     image-bytes =
-        let fits : Fit headerStart (startValues newest (assetsIn b) (entriesIn b) (b .time)) =
-        rw (assets-in, entries-in) (start-fits (b .assetcount) (b .entrycount) (b .time) (l .assetCount) (l .entryCount) (l .time)) in
-        append-bytes (headerPart b ++ assetPart b ++ entryPart b) (playerPart b)
-        (append-bytes (headerPart b ++ assetPart b) (entryPart b)
-        (append-bytes (headerPart b) (assetPart b)
-        (subst Bytes (sym (header-parts (assetsIn b) (entriesIn b) b))
-        (append-bytes (laidOut headerStart (startValues newest (assetsIn b) (entriesIn b) (b .time)))
-        (laidOut (headerTail newest) (tailValues b))
-        (laid-bytes headerStart (startValues newest (assetsIn b) (entriesIn b) (b .time)) fits)
-        (laid-bytes (headerTail newest) (tailValues b) (y .header))))
-        (joined-bytes _ (λ i. laid-bytes (assetWidths newest) (assetValues (assetAt (b .assets) i)) (y .assets i)) (assetsIn b)))
-        (joined-bytes _ (λ i. laid-bytes (entryWidths newest) (entryValues (getD (b .entries) i noEntry)) (y .entries i)) (entriesIn b)))
-        (joined-bytes _ (λ i. laid-bytes (playerWidths newest) (playerValues (playerAt (b .players) i)) (y .players i)) 16)
+        let v = newest in
+        let start = startValues v (assetsIn b) (entriesIn b) (b .time) in
+        let fits : Fit headerStart start =
+        rw (assets-in v (omega arith) (omega arith) b l, entries-in v (omega arith) (omega arith) b l)
+        (start-fits v (b .assetcount) (b .entrycount) (b .time) (omega arith) (l .assetCount) (l .entryCount) (l .time)) in
+        subst Bytes (as-newest b)
+        (append-bytes (headerPart v b ++ assetPart v b ++ entryPart v b) (playerPart v b)
+        (append-bytes (headerPart v b ++ assetPart v b) (entryPart v b)
+        (append-bytes (headerPart v b) (assetPart v b)
+        (subst Bytes (sym (header-parts v (assetsIn b) (entriesIn b) b))
+        (append-bytes (laidOut headerStart start) (laidOut (headerTail v) (tailValues b))
+        (laid-bytes headerStart start fits)
+        (laid-bytes (headerTail v) (tailValues b) (y .header))))
+        (joined-bytes _ (λ i. laid-bytes (assetWidths v) (assetValues (assetAt (b .assets) i)) (y .assets i)) (assetsIn b)))
+        (joined-bytes _ (λ i. laid-bytes (entryWidths v) (entryValues (getD (b .entries) i noEntry)) (y .entries i)) (entriesIn b)))
+        (joined-bytes _ (λ i. laid-bytes (playerWidths v) (playerValues (playerAt (b .players) i)) (y .players i)) 16))
 
 -- ## Read by the layout of any version
 
--- each layout up to the newest is an older one of the newest: one test of all versions
-layouts : all (λ v. older (headerTail v) (headerTail newest) && older (assetWidths v) (assetWidths newest)
-    && older (entryWidths v) (entryWidths newest) && older (playerWidths v) (playerWidths newest)) (suc newest) ≡ true
-unfolding all
-layouts = refl
-
-module _ {A : Type 0} (ws xs : List Width) (old : older ws xs ≡ true) (values : A → List ℕ) (of : List ℕ → A)
-    (again : (vs : List ℕ) → values (of vs) ≡ padded xs (λ k. getD vs k 0)) (d : A) (blank : Fit xs (values d)) where
-  -- the contents of every slot of a table that was read fit the newest layout
-  slots-fit : (s : List ℕ) → Bytes s → (o n k i : ℕ)
-      → Fit xs (values (getD (listed (λ (j : ℕ). of (valuesAt ws 0 (drop (o + size ws * j) s))) n ++ replicate k d) i d))
-  slots-fit s b o n k i =
+module _ {A : Type 0} (ws xs : List Width) (few : length ws ≤ length xs) (values : A → List ℕ) (of : List ℕ → A)
+    (again : (vs : List ℕ) → values (of vs) ≡ padded xs (λ k. getD vs k 0)) (d : A) (blank : Fit ws (values d)) where
+  -- the contents of every slot of a table that was read are what its layout can say
+  slots-said : (s : List ℕ) → Bytes s → (o n k i : ℕ)
+      → Fit ws (values (getD (listed (λ (j : ℕ). of (valuesAt ws 0 (drop (o + size ws * j) s))) n ++ replicate k d) i d))
+  slots-said s b o n k i =
       let f : ℕ → A = λ (j : ℕ). of (valuesAt ws 0 (drop (o + size ws * j) s)) in
-      let t = drop (o + size ws * i) s in
+      let said : (t : List ℕ) → Bytes t → Fit ws (values (of (valuesAt ws 0 t))) =
+      λ t c. subst (Fit ws) (sym (again (valuesAt ws 0 t))) (values-own ws xs 0 t few c) in
       below-or-not i n
-      (λ h. subst (λ (x : A). Fit xs (values x)) (sym (listed-at f n i d (replicate k d) h))
-      (subst (Fit xs) (sym (again (valuesAt ws 0 t))) (values-padded ws xs 0 t old (drop-bytes (o + size ws * i) s b))))
-      (λ h. subst (λ (x : A). Fit xs (values x)) (sym (blank-at f n i k d h)) blank)
+      (λ h. subst (λ (x : A). Fit ws (values x)) (sym (listed-at f n i d (replicate k d) h))
+      (said (drop (o + size ws * i) s) (drop-bytes (o + size ws * i) s b)))
+      (λ h. subst (λ (x : A). Fit ws (values x)) (sym (blank-at f n i k d h)) blank)
 
 -- n filled slots and the blank ones after them make up the whole table
 slots-all : (n : ℕ) → n ≤ 64 → n + (64 - n) ≡ 64
@@ -336,37 +407,54 @@ module _ (s : List ℕ) (b : Bytes s) (p : HeaderPassed s) where
     rules = rules;
   }
 
-  read-typed : Typed (bookIn s)
+  read-said : SaidBy (versionIn s) (bookIn s)
   unfolding bookIn bookAs assetTable entryTable playerTable assetIn entryIn playerIn headerSize assetSize entrySize playerSize
-  read-typed =
+  read-said =
       let v = versionIn s in
-      let all-old = row-passed _ (older (assetWidths v) (assetWidths newest) ∷ older (entryWidths v) (entryWidths newest) ∷ older
-      (playerWidths v) (playerWidths newest) ∷ [])
-      (all-below _ (suc newest) layouts v (omega (arith, p .known))) in
+      let few-assets = asset-enough v (p .oldest) (p .known) noAsset in
+      let few-entries = entry-enough v (p .oldest) (p .known) noEntry in
+      let few-players = player-enough v (p .oldest) (p .known) noPlayer in
       record {
-        header = values-padded (headerTail v) (headerTail newest) (size headerStart) s (all-old .0) b;
-        assets = slots-fit (assetWidths v) (assetWidths newest) (all-old .1 .0) assetValues assetOf (λ vs. refl) noAsset
-            (zeros-fit (assetWidths newest)) s b (headerSize v) (assetCountIn s) (64 - assetCountIn s);
-        entries = slots-fit (entryWidths v) (entryWidths newest) (all-old .1 .1 .0) entryValues entryOf (λ vs. refl) noEntry
-            (zeros-fit (entryWidths newest)) s b (entriesFrom v s) (entryCountIn s) (64 - entryCountIn s);
+        header = values-own (headerTail v) (headerTail newest) (size headerStart) s (tail-enough v (p .oldest) (p .known) (bookIn s)) b;
+        assets = slots-said (assetWidths v) (assetWidths newest) few-assets assetValues assetOf (λ vs. refl) noAsset
+            (zeros-said (assetWidths v) (length (assetWidths newest)) few-assets) s b (headerSize v) (assetCountIn s) (64 - assetCountIn s);
+        entries = slots-said (entryWidths v) (entryWidths newest) few-entries entryValues entryOf (λ vs. refl) noEntry
+            (zeros-said (entryWidths v) (length (entryWidths newest)) few-entries) s b (entriesFrom v s) (entryCountIn s)
+            (64 - entryCountIn s);
         players = λ i.
-            subst (λ (l : List Player). Fit (playerWidths newest) (playerValues (playerAt l i)))
+            subst (λ (l : List Player). Fit (playerWidths v) (playerValues (playerAt l i)))
             (append-nil (playerTable v s (playersFrom v s)))
-            (slots-fit (playerWidths v) (playerWidths newest) (all-old .1 .1 .1 .0) playerValues playerOf (λ vs. refl) noPlayer
-            (zeros-fit (playerWidths newest)) s b (playersFrom v s) 16 0 i);
+            (slots-said (playerWidths v) (playerWidths newest) few-players playerValues playerOf (λ vs. refl) noPlayer
+            (zeros-said (playerWidths v) (length (playerWidths newest)) few-players) s b (playersFrom v s) 16 0 i);
       }
+
+-- each layout up to the newest is an older one of the newest: one test of all versions
+layouts : all (λ v. older (headerTail v) (headerTail newest) && older (assetWidths v) (assetWidths newest)
+    && older (entryWidths v) (entryWidths newest) && older (playerWidths v) (playerWidths newest)) (suc newest) ≡ true
+unfolding all
+layouts = refl
+
+-- so what an older version can say of a book fits its type
+said-typed : (v : ℕ) (b : Book) → v ≤ newest → SaidBy v b → Typed b
+said-typed v b known y =
+    let all-old = row-passed _ (older (assetWidths v) (assetWidths newest) ∷ older (entryWidths v) (entryWidths newest) ∷ older
+    (playerWidths v) (playerWidths newest) ∷ [])
+    (all-below _ (suc newest) layouts v (omega (arith, known))) in
+    record {
+      header = fits-wider (headerTail v) (headerTail newest) (tailValues b) (all-old .0) refl (y .header);
+      assets = λ i. fits-wider (assetWidths v) (assetWidths newest) (assetValues (assetAt (b .assets) i)) (all-old .1 .0) refl (y .assets i);
+      entries = λ i. fits-wider (entryWidths v) (entryWidths newest) (entryValues (getD (b .entries) i noEntry)) (all-old .1 .1 .0) refl (y .entries i);
+      players = λ i. fits-wider (playerWidths v) (playerWidths newest) (playerValues (playerAt (b .players) i)) (all-old .1 .1 .1 .0) refl (y .players i);
+    }
 
 -- ## An image of any version, read and laid out again
 
 -- the fields of each version, read and laid out again, are the same bytes
 module _ (v : ℕ) (h : 1 ≤ v) (k : v ≤ newest) where
-  header-sizes : headerSize v ≡ size headerStart + size (headerTail v)
-  unfolding headerSize
-  header-sizes = by-version (λ v. headerSize v ≡ size headerStart + size (headerTail v)) refl refl v h k
-
   tail-same : (s : List ℕ) → laidOut (headerTail v) (tailValues (bookAs v s)) ≡ laidOut (headerTail v) (tailIn v s)
   unfolding bookAs
-  tail-same s = by-version (λ v. laidOut (headerTail v) (tailValues (bookAs v s)) ≡ laidOut (headerTail v) (tailIn v s)) refl refl v h k
+  tail-same s = by-version (λ v. laidOut (headerTail v) (tailValues (bookAs v s)) ≡ laidOut (headerTail v) (tailIn v s)) refl refl refl v
+      h k
 
   asset-same : (o : ℕ) (s : List ℕ)
       → laidOut (assetWidths v) (assetValues (assetOf (valuesAt (assetWidths v) o s))) ≡ laidOut (assetWidths v)
@@ -374,7 +462,7 @@ module _ (v : ℕ) (h : 1 ≤ v) (k : v ≤ newest) where
   asset-same o s = by-version
       (λ v. laidOut (assetWidths v) (assetValues (assetOf (valuesAt (assetWidths v) o s))) ≡ laidOut (assetWidths v)
       (valuesAt (assetWidths v) o s))
-      refl refl v h k
+      refl refl refl v h k
 
   entry-same : (o : ℕ) (s : List ℕ)
       → laidOut (entryWidths v) (entryValues (entryOf (valuesAt (entryWidths v) o s))) ≡ laidOut (entryWidths v)
@@ -382,7 +470,7 @@ module _ (v : ℕ) (h : 1 ≤ v) (k : v ≤ newest) where
   entry-same o s = by-version
       (λ v. laidOut (entryWidths v) (entryValues (entryOf (valuesAt (entryWidths v) o s))) ≡ laidOut (entryWidths v)
       (valuesAt (entryWidths v) o s))
-      refl refl v h k
+      refl refl refl v h k
 
   player-same : (o : ℕ) (s : List ℕ)
       → laidOut (playerWidths v) (playerValues (playerOf (valuesAt (playerWidths v) o s))) ≡ laidOut (playerWidths v)
@@ -390,7 +478,7 @@ module _ (v : ℕ) (h : 1 ≤ v) (k : v ≤ newest) where
   player-same o s = by-version
       (λ v. laidOut (playerWidths v) (playerValues (playerOf (valuesAt (playerWidths v) o s))) ≡ laidOut (playerWidths v)
       (valuesAt (playerWidths v) o s))
-      refl refl v h k
+      refl refl refl v h k
 
 module _ (s : List ℕ) (b : Bytes s) (p : HeaderPassed s) where
   abbrev v : ℕ
@@ -473,41 +561,6 @@ module _ (s : List ℕ) (b : Bytes s) (p : HeaderPassed s) where
       ∙ sym (take-add (playersFrom v s) k s)
       ∙ take-all (playersFrom v s + k) s (omega (arith, ends))
 
--- ## An image of version 1 has none of the fields that version 2 added
-
-module _ (s : List ℕ) where
-  first-tracks : (i : ℕ) → trackValues (limitsAt (bookAs 1 s .entries) i) ≡ 0 ∷ 0 ∷ 0 ∷ []
-  unfolding bookAs entryTable entryIn
-  first-tracks i =
-      below-or-not i (entryCountIn s)
-      (λ h. ap (λ (e : Entry). trackValues (e .limits)) (listed-at _ (entryCountIn s) i noEntry _ h))
-      (λ h. ap (λ (e : Entry). trackValues (e .limits)) (blank-at _ (entryCountIn s) i (64 - entryCountIn s) noEntry h))
-
-  first-contents : (p : ℕ) → playerAt (bookAs 1 s .players) p .current .content ≡ 0
-  unfolding bookAs playerTable playerIn
-  first-contents p =
-      ap (λ (l : List Player). playerAt l p .current .content) (sym (append-nil (playerTable 1 s (playersFrom 1 s))))
-      ∙ below-or-not p 16
-      (λ h. ap (λ (x : Player). x .current .content) (listed-at _ 16 p noPlayer [] h))
-      (λ h. ap (λ (x : Player). x .current .content) (blank-at _ 16 p 0 noPlayer h))
-
-older-zero : (held : Book) (s : List ℕ) → readCode s ≡ 0 → versionIn s ≡ 1
-    → (readBook held s .switch ≡ 0)
-    × ((i : ℕ) → trackValues (limitsAt (readBook held s .entries) i) ≡ 0 ∷ 0 ∷ 0 ∷ [])
-    × ((p : ℕ) → playerAt (readBook held s .players) p .current .content ≡ 0)
-unfolding bookIn bookAs
-older-zero held s e first =
-    let as-first : readBook held s ≡ bookAs 1 s = accepted-book held s e ∙ ap (λ (v : ℕ). bookAs v s) first in (
-      ap (λ (b : Book). b .switch) as-first,
-      λ i. ap (λ (b : Book). trackValues (limitsAt (b .entries) i)) as-first ∙ first-tracks s i,
-      λ p. ap (λ (b : Book). playerAt (b .players) p .current .content) as-first ∙ first-contents s p,
-    )
-
--- the layout of the newest version is what is written
-as-newest : (b : Book) → imageAs newest b ≡ image b
-unfolding imageAs image headerBytes assetBytes entryBytes playerBytes
-as-newest b = refl
-
 -- ## The reader and the writer
 
 laid-again : (held : Book) (s : List ℕ) → Bytes s → readCode s ≡ 0 → imageAs (versionIn s) (readBook held s) ≡ s
@@ -517,11 +570,17 @@ writes-back : (held : Book) (s : List ℕ) → Bytes s → readCode s ≡ 0 → 
 writes-back held s b e n =
     sym (as-newest (readBook held s)) ∙ ap (λ (v : ℕ). imageAs v (readBook held s)) (sym n) ∙ laid-again held s b e
 
+said : (held : Book) (s : List ℕ) → Bytes s → readCode s ≡ 0 → SaidBy (versionIn s) (readBook held s)
+said held s b e =
+    subst (SaidBy (versionIn s)) (sym (accepted-book held s e)) (read-said s b (header-passed s (accepted-stages s e .0)))
+
 accepted-legal : (held : Book) (s : List ℕ) → Bytes s → readCode s ≡ 0 → Legal (readBook held s) × Typed (readBook held s)
 accepted-legal held s b e =
     let z = accepted-stages s e in
-    let p = header-passed s (z .0) in
-    (subst Legal (sym (accepted-book held s e)) (read-legal s b p (z .1)), subst Typed (sym (accepted-book held s e)) (read-typed s b p))
+    let p = header-passed s (z .0) in (
+      subst Legal (sym (accepted-book held s e)) (read-legal s b p (z .1)),
+      said-typed (versionIn s) (readBook held s) (p .known) (said held s b e),
+    )
 
 older-same : (held next : Book) (s : List ℕ) → Bytes s → readCode s ≡ 0
     → (readCode (image (readBook held s)) ≡ 0)
@@ -530,7 +589,7 @@ older-same : (held next : Book) (s : List ℕ) → Bytes s → readCode s ≡ 0
 older-same held next s b e =
     let h = accepted-legal held s b e in
     let r = reads-back (readBook held s) (h .0) (h .1) next in
-    (r .0, version-back (readBook held s) (h .0), r .1)
+    (r .0, newest-written (readBook held s) (h .0), r .1)
 
 module _ (b : Book) (old : List ℕ) (h : lengthOf b ≤ length old) where
   fits : leb (lengthOf b) (length old) ≡ true
@@ -558,10 +617,11 @@ pub demand2 : Demand2
 demand2 = record {
   readsBack = λ held b l y. reads-back b l y held;
   imageBytes = image-bytes;
-  newestWritten = version-back;
+  newestWritten = newest-written;
   writesBack = writes-back;
   laidAgain = laid-again;
-  olderZero = older-zero;
+  readsAs = λ held b v oldest known l y. reads-as v oldest known b l y held;
+  said = said;
   olderSame = older-same;
   acceptedLegal = accepted-legal;
   refusedKeeps = refused-book;

@@ -10,6 +10,7 @@ use lib.Dec.{leb, ltb, eqb}
 use native.Mathlib.Omega.{arith}
 use native.Mathlib.Nat.{add-zero}
 use borrow.Author.Tests.{eqb-true, eq-eqb, ne-eqb, ltb-true, ltb-false, lt-ltb, le-ltb, leb-true, leb-false, not-false}
+use Rattle.numbers.proofs.Tests.{otherwise-at}
 use Rattle.book.specs.declared.Limits.{Limits}
 use Rattle.book.specs.declared.Meters.{Meters}
 use Rattle.book.specs.declared.Entry.{Entry}
@@ -31,7 +32,7 @@ use Rattle.model.specs.Book.{limitsAt, metersAt, momentary, latestTime}
 use Rattle.model.specs.Choice.{asks, Catalog, catalogOf, usable, suits, allowed, grantable, Choice, nobody, chosen, anyOf, choose}
 use Rattle.model.specs.Choice.{suitable, grantUntil, failsForSwitch, noneGrantable}
 use Rattle.model.specs.Record.{operationNumber, requestAsset, requestKind, kindNumber}
-use Rattle.model.specs.Gate.{sameRequest, sameNumber, inLine, lastNumber, timely, gate}
+use Rattle.model.specs.Gate.{sameRequest, sameNumber, bootOf, counterOf, inLine, largestNumber, timely, gate}
 use Rattle.model.specs.Meters.{amend, begun, continued, ended, shut, settled}
 use Rattle.model.specs.Step.{refusal, Done, unchanged, granted, doBegin, more, doContinue, doStop, done, lastAt, openAt, noted}
 use Rattle.model.specs.Step.{stored, takenStep, stepBy, step, arrive}
@@ -265,15 +266,20 @@ gate-refuse now l e c z =
 pub record Taking (now : ℕ) (l : Last) (e : Event) : Type 0 where
   pub player : e .player < 16
   pub fresh : again l e ≡ false
-  pub room : l .number < lastNumber
-  pub number : e .number ≡ l .number + 1
+  pub number : (0 < e .number) × (e .number ≤ largestNumber)
   pub later : now ≤ e .time
   pub early : e .time ≤ latestTime
 
-in-line : (l : Last) (n : ℕ) → inLine l n ≡ true → (l .number < lastNumber) × (n ≡ l .number + 1)
+-- a number in line is not 0 and has 64 bits
+pub in-line : (l : Last) (n : ℕ) → inLine l n ≡ true → (0 < n) × (n ≤ largestNumber)
 unfolding inLine
 in-line l n e =
-    (ltb-true _ _ (and-left (ltb (l .number) lastNumber) _ e), eqb-true n (l .number + 1) (and-right (ltb (l .number) lastNumber) _ e))
+    let most = leb-true n largestNumber (and-left (leb n largestNumber) _ e) in
+    on-same n (l .number + 1)
+    (λ q. (omega (arith, q), most))
+    (λ q.
+    let w = otherwise-at (eqb n (l .number + 1)) _ (and-right (leb n largestNumber) _ e) (ne-eqb n (l .number + 1) q) in
+    (omega (arith, eqb-true (counterOf n) 1 (and-right (ltb (bootOf (l .number)) (bootOf n)) _ w)), most))
 
 in-time : (now t : ℕ) → timely now t ≡ true → now ≤ t
 unfolding timely
@@ -295,8 +301,7 @@ gate-take now l e z =
     record {
       player = omega (arith, ltb-false 15 (e .player) q);
       fresh = rw r;
-      room = in-line l (e .number) (not-false (inLine l (e .number)) s) .0;
-      number = in-line l (e .number) (not-false (inLine l (e .number)) s) .1;
+      number = in-line l (e .number) (not-false (inLine l (e .number)) s);
       later = in-time now (e .time) (not-false (timely now (e .time)) t);
       early = not-late now (e .time) (not-false (timely now (e .time)) t);
     }))))
@@ -389,7 +394,7 @@ module _ (b : Book) (a : Account) (e : Event) (h : Inv b a) where
       let ps : List Player = map (shut (e .time)) (b .players) in
       let es : List Entry = settled (e .time) (b .players) (b .entries) in
       let pk : e .player < length ps = rw (length-map (b .players) (shut (e .time)), h .formed .players) (t .player) in
-      stored-keeps ps es _ pk (resent-is ∙ t .fresh) (omega (arith, t .number)) (shut-last (e .time) (b .players)) formed (taken-did t)
+      stored-keeps ps es _ pk (resent-is ∙ t .fresh) (t .number .0) (shut-last (e .time) (b .players)) formed (taken-did t)
 
   -- a taken event raises the ledger's sums for the report by what the uses that it ends add
   pub taken-report : Taking (b .time) (lastAt (b .players) (e .player)) e → (v : Value) (c : ℕ)

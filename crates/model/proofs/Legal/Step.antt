@@ -50,6 +50,7 @@ use Rattle.model.proofs.Ledger.Facts.{upd-other}
 use Rattle.model.proofs.Ledger.Invariant.{shutO, grant-most}
 use Rattle.model.proofs.Ledger.Concrete.{store-open, shut-at, shut-open}
 use Rattle.model.proofs.Ledger.WellFormed.{all-below}
+use Rattle.model.proofs.Ledger.Steps.{in-line}
 use Rattle.model.proofs.Legal.Facts.{all-of}
 use Rattle.model.proofs.Legal.Rules.{openPasses, playerPasses, lawfulIn, Counted, MeterOk, OpenOk, Sound, Live, open-to}
 use Rattle.model.proofs.Legal.Rules.{blank-current, unused-from, used-from, player-to, meter-to, Stages, stages-from, stages-to}
@@ -62,8 +63,8 @@ use Rattle.model.proofs.Legal.Events.{Effect, stage, turn-part, settled
 -- the checks it has passed
 pub record Passed (b : Book) (e : Event) : Type 0 where
   pub player : e .player < 16
-  pub number : e .number ≡ lastAt (b .players) (e .player) .number + 1
-  pub fits : e .number < 4294967296
+  pub number : 0 < e .number
+  pub fits : e .number < 18446744073709551616
   pub later : b .time ≤ e .time
   pub early : e .time ≤ latestTime
 
@@ -78,17 +79,17 @@ only-take false true false n t e = let w : true ≡ false = cc in clash refl w
 only-take true s r n t e = let w : true ≡ false = cc in clash refl w
 
 pub gate-passed : (b : Book) (e : Event) → gate (b .time) (lastAt (b .players) (e .player)) e ≡ Take → Passed b e
-unfolding gate inLine timely
+unfolding gate timely
 gate-passed b e g =
     let l : Last = lastAt (b .players) (e .player) in
     let h = only-take (ltb 15 (e .player)) (sameNumber l (e .number)) (sameRequest l (e .request)) (inLine l (e .number))
     (timely (b .time) (e .time)) g in
-    let n = row-passed (ltb (l .number) 4294967295) (eqb (e .number) (l .number + 1) ∷ []) (h .1 .0) in
+    let n = in-line l (e .number) (h .1 .0) in
     let t = row-passed (leb (b .time) (e .time)) (leb (e .time) latestTime ∷ []) (h .1 .1) in
     record {
       player = omega (arith, ltb-false 15 (e .player) (h .0));
-      number = eqb-true _ _ (n .1 .0);
-      fits = omega (arith, eqb-true (e .number) (l .number + 1) (n .1 .0), ltb-true (l .number) 4294967295 (n .0));
+      number = n .0;
+      fits = omega (arith, n .1);
       later = leb-true _ _ (t .0);
       early = leb-true _ _ (t .1 .0);
     }
@@ -162,7 +163,7 @@ record OpenFits (o : Open) : Type 0 where
   content : o .content < 4294967296
 
 record LastFits (l : Last) : Type 0 where
-  number : l .number < 4294967296
+  number : l .number < 18446744073709551616
   operation : l .operation < 256
   asset : l .asset < 65536
   kind : l .kind < 256
@@ -512,7 +513,7 @@ decoded-fits s b =
     (λ p. rw p tt)
   where
     asset-fits : (x z : Bool) → requestAsset (cond x (Begin (kindOf (recordField 4 s)) (recordField 3 s)) (cond z Continue Stop)) < 65536
-    asset-fits true z = number-fits bits16 6 s b
+    asset-fits true z = number-fits bits16 10 s b
     asset-fits false true = omega arith
     asset-fits false false = omega arith
 

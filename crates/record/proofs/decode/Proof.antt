@@ -68,9 +68,6 @@ shared-slice-read-join32-4 c = search needs
 join32-requires : tie.Need-join32-requires
 join32-requires c κs = search needs
 
-request-of-requires : tie.Need-request-of-requires
-request-of-requires c κs = search needs
-
 shared-slice-read-join32-5 : tie.Need-shared-slice-read-join32-5
 shared-slice-read-join32-5 c = search needs
 
@@ -86,29 +83,50 @@ shared-slice-read-join32-8 c = search needs
 join32-requires-2 : tie.Need-join32-requires-2
 join32-requires-2 c κs = search needs
 
+join64-requires : tie.Need-join64-requires
+join64-requires c κs = search needs
+
+request-of-requires : tie.Need-request-of-requires
+request-of-requires c κs = search needs
+
+shared-slice-read-join32-9 : tie.Need-shared-slice-read-join32-9
+shared-slice-read-join32-9 c = search needs
+
+shared-slice-read-join32-10 : tie.Need-shared-slice-read-join32-10
+shared-slice-read-join32-10 c = search needs
+
+shared-slice-read-join32-11 : tie.Need-shared-slice-read-join32-11
+shared-slice-read-join32-11 c = search needs
+
+shared-slice-read-join32-12 : tie.Need-shared-slice-read-join32-12
+shared-slice-read-join32-12 c = search needs
+
+join32-requires-3 : tie.Need-join32-requires-3
+join32-requires-3 c κs = search needs
+
 returns-4 : tie.Need-returns-4
 unfolding decoded eventIn
 returns-4 c =
     let s = now (c .before .before .before .before .before .before .before .before .before .before .before .before .before .before
-    .before .before .before .before .before .before .before .before .args .s) in
-    let legal : requestLegal (recordField 2 s) (recordField 3 s) (recordField 4 s) ≡ true = rw
-    (c .before .before .before .before .before .before .before .before .before .before .before .before .before .before .join16
-    .ensures) at (sym (c .before .before .before .before .before .before .before .before .before .before .before .before
-    .request-legal .ensures) ∙ not-false _ (c .before .before .before .before .before .before .before .before .before .before
-    .before .if3 .left)) in
+    .before .before .before .before .before .before .before .before .before .before .before .before .before .before .args .s) in
+    let asset = c .before .before .before .before .before .before .before .before .before .before .before .before .before .before .before
+    .before .before .before .before .before .join16 .ensures in
+    let legal : requestLegal (recordField 2 s) (recordField 3 s) (recordField 4 s) ≡ true =
+    rw asset at (sym (c .before .before .before .before .before .before .before .before .before .before .before .before .before .before
+    .before .before .before .before .request-legal .ensures) ∙ not-false _ (c .before .before .before .before .before .before .before
+    .before .before .before .before .before .before .before .before .before .before .if3 .left)) in
     rw (
       eq-eqb _ _ (c .before .before .before .before .before .before .before .before .before .before .before .before .before .before
-          .before .before .before .before .before .before .if1 .left),
-      le-ltb _ _
-          (c .before .before .before .before .before .before .before .before .before .before .before .before .before .before .before
-          .before .before .before .if2 .left),
+          .before .before .before .before .before .before .before .before .before .before .before .before .if1 .left),
+      le-ltb _ _ (c .before .before .before .before .before .before .before .before .before .before .before .before .before .before
+          .before .before .before .before .before .before .before .before .before .before .if2 .left),
       legal,
-      c .before .before .before .before .before .before .join32 .ensures,
-      c .before
-          .before .before .before .before .request-of .ensures,
-      c .join322 .ensures,
-      c .before .before .before .before .before
-          .before .before .before .before .before .before .before .before .before .join16 .ensures,
+      c .before .before .before .before .before .before .join64 .ensures,
+      c .before .before .before .before .before .before .before .before .before .before .before .before .join32 .ensures,
+      c .before .before .before .before .before .before .before .join322 .ensures,
+      c .before .before .before .before .before .request-of .ensures,
+      c .join323 .ensures,
+      asset,
     )
 
 pub decode-spec : {M : Type 1} → statement M
@@ -130,10 +148,16 @@ decode-spec =
     shared-slice-read-join32-3
     shared-slice-read-join32-4
     join32-requires
-    request-of-requires
     shared-slice-read-join32-5
     shared-slice-read-join32-6
     shared-slice-read-join32-7
     shared-slice-read-join32-8
     join32-requires-2
+    join64-requires
+    request-of-requires
+    shared-slice-read-join32-9
+    shared-slice-read-join32-10
+    shared-slice-read-join32-11
+    shared-slice-read-join32-12
+    join32-requires-3
     returns-4)

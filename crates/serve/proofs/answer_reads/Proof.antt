@@ -1,11 +1,12 @@
 -- `answer_reads` ends: the count of turns falls. Less than a record is kept, so there is room to read.
-use Prim.Native.Nat.{ℕ, _≤_}
+use Prim.Native.Nat.{ℕ, _≤_, _<_}
 use mathlib.Core.Path.{_≡_}
 use mathlib.Core.Bool.{Bool}
 use mathlib.Core.List.{List}
 use lib.ListN.{length}
 use Rattle.book.specs.declared.Line.{Line}
 use Rattle.book.specs.declared.Book.{Book}
+use Rattle.model.specs.Record.{recordSize}
 use Rattle.turn.specs.Turn.{writtenAfter, outAfter, keptAfter}
 use native.Mathlib.Omega.{arith}
 use Rattle.turn.specs.Kept.{kept-small, written-inside}
@@ -18,11 +19,11 @@ text-there : (b : Book) (ls : List Line) (lent : ℕ) (input : List ℕ) (n : �
     → written ≡ writtenAfter b ls lent input n ended → outs ≡ outAfter b ls lent input n ended out → written ≤ length outs
 text-there b ls lent input n ended out outs written e f = rw (e, f) (written-inside b ls lent input n ended out)
 
-kept-few : (input : List ℕ) (n : ℕ) (ended : Bool) (kept : ℕ) → kept ≡ keptAfter input n ended → kept ≤ 12
+kept-few : (input : List ℕ) (n : ℕ) (ended : Bool) (kept : ℕ) → kept ≡ keptAfter input n ended → kept < recordSize
 kept-few input n ended kept e = rw e (kept-small input n ended)
 
 abbrev Inv-loop : tie.InvT-loop
-Inv-loop lent input₀ out₀ book₀ lines₀ kept₀ left₀ t14 input out book lines kept left = kept ≤ 12
+Inv-loop lent input₀ out₀ book₀ lines₀ kept₀ left₀ t14 input out book lines kept left = kept < recordSize
 
 abbrev μ-loop : tie.MeasureT-loop
 μ-loop lent input₀ out₀ book₀ lines₀ kept₀ left₀ t14 input out book lines kept left = left

@@ -12,6 +12,7 @@ use lib.Seq.{length-take-le, take-take, take-add, drop-at}
 use Rattle.numbers.proofs.Tests.{on-test}
 use Rattle.book.specs.declared.Line.{Line}
 use Rattle.book.specs.declared.Book.{Book}
+use Rattle.model.specs.Record.{recordSize}
 use Rattle.model.specs.Run.{recordCount}
 use Rattle.batch.specs.Block.{fits, blockText, blockBook, blockLines, blockWritten, blockBuffer}
 use Rattle.turn.specs.Turn.{keptCount, answeredOf, keptOf, inside, bookAfter, linesAfter, textAfter, writtenAfter, outAfter}
@@ -40,7 +41,8 @@ part : (a k : ℕ) (l : List ℕ) → a + k ≤ length l → drop a (take (a + k
 part a k l h = ap (drop a) (take-add a k l) ∙ drop-at (take a l) (take k (drop a l)) a (length-take-le a l (omega arith))
 
 module _ (b : Book) (ls : List Line) (lent : ℕ) (input : List ℕ) (n : ℕ) (ended : Bool) (out : List ℕ) (kept : ℕ)
-    (inside-is : inside input n ≡ true) (count : kept ≡ cond ended 0 (n % 13)) (room : 19 * ((length input + 12) / 13) ≤ length out) where
+    (inside-is : inside input n ≡ true) (count : kept ≡ cond ended 0 (n % recordSize)) (room : 19 * ((length input + (recordSize - 1)) /
+    recordSize) ≤ length out) where
   there : n ≤ length input
   there = leb-true n (length input) inside-is
 
