@@ -6,7 +6,7 @@
  * the image, each in 32 bits, and the image. Every whole text that a read delivered is answered before the next read, so a
  * program at the other end of two pipes may wait. With TIMES each text is read so often, and standard error has a line for
  * each: the nanoseconds of one reading. The exit status is 1, with a word on standard error, where a call left something that
- * it must not. oracle/text_fuzz.py and bench/texts.py build and call it. */
+ * it must not. oracle/text_fuzz.py, bench/texts.py and tests/dates.py build and call it. */
 #define _POSIX_C_SOURCE 200809L
 #include <stdio.h>
 #include <stdlib.h>

@@ -1,5 +1,5 @@
--- `calendar::days_before` meets its contract: the months before one of these years and months are few enough to be summed.
-use mathlib.Core.Path.{_≡_, sym, _∙_}
+-- `calendar::days_before` meets its contract: the constant passes the test of a table of month starts, and the month is one of it.
+use mathlib.Core.Path.{_≡_, refl, sym, _∙_}
 use mathlib.Core.Bool.{Bool, true}
 use Prim.Native.Nat.{ℕ, _≤_}
 use native.Mathlib.Omega.{arith}
@@ -7,7 +7,9 @@ use lib.Dec.{leb}
 use borrow.Author.Tests.{leb-true}
 use Rattle.numbers.proofs.Tests.{and-left, and-right}
 use Rattle.model.specs.Book.{between}
-use Rattle.xml_model.specs.Calendar.{inCalendar, daysBefore}
+use Rattle.xml_model.specs.Calendar.{leap, monthDays, monthLength, inCalendar, daysBefore}
+use Rattle.calendar.specs.MonthStarts.{startsFrom, tableTest}
+use Rattle.calendar.proofs.TableTest.{month-starts}
 use borrow.Author.Needs.{needs}
 use Rattle.calendar.proofs.days_before.Statement.{statement}
 use Rattle.calendar.proofs.days_before.Tie as tie
@@ -32,45 +34,44 @@ in-range year month e h =
       last = leb-true month 12 (and-right (leb 1 month) (leb month 12) m);
     }
 
+-- where the table is read, year and month are in the calendar
+range : (c : tie.Then1) → InRange (c .before .before .args .year) (c .before .before .args .month)
+range c =
+    let a = c .before .before .args in
+    in-range (a .year) (a .month) (c .before .in-calendar .ensures) (c .if1 .taken)
+
 in-calendar-requires : tie.Need-in-calendar-requires
 in-calendar-requires c κs = search needs
 
-sub-days-of : tie.Need-sub-days-of
-sub-days-of c =
-    let a = c .before .before .args in
-    let r = in-range (a .year) (a .month) (c .before .in-calendar .ensures) (c .if1 .taken) in
-    omega arith
+sub-k : tie.Need-sub-k
+sub-k c = let r = range c in omega arith
 
-mul-days-of : tie.Need-mul-days-of
-mul-days-of c =
-    let a = c .before .before .args in
-    let r = in-range (a .year) (a .month) (c .before .in-calendar .ensures) (c .if1 .taken) in
-    omega arith
+mul-k : tie.Need-mul-k
+mul-k c = let r = range c in omega arith
 
-sub-days-of-2 : tie.Need-sub-days-of-2
-sub-days-of-2 c =
-    let a = c .before .before .args in
-    let r = in-range (a .year) (a .month) (c .before .in-calendar .ensures) (c .if1 .taken) in
-    omega arith
+sub-k-2 : tie.Need-sub-k-2
+sub-k-2 c = let r = range c in omega arith
 
-cast-days-of : tie.Need-cast-days-of
-cast-days-of c = search needs
+cast-k : tie.Need-cast-k
+cast-k c = search needs
 
-add-days-of : tie.Need-add-days-of
-add-days-of c =
-    let a = c .before .before .args in
-    let r = in-range (a .year) (a .month) (c .before .in-calendar .ensures) (c .if1 .taken) in
-    omega arith
+add-k : tie.Need-add-k
+add-k c = let r = range c in omega arith
 
-days-of-requires : tie.Need-days-of-requires
-days-of-requires c κs =
-    let a = c .before .before .args in
-    let r = in-range (a .year) (a .month) (c .before .in-calendar .ensures) (c .if1 .taken) in
-    omega arith
+cast-k-2 : tie.Need-cast-k-2
+cast-k-2 c = search needs
+
+slice-aggregate-start-in : tie.Need-slice-aggregate-start-in
+slice-aggregate-start-in c = search needs
+
+-- the test of the whole table is computed here
+start-in-requires : tie.Need-start-in-requires
+unfolding tableTest startsFrom monthLength monthDays leap
+start-in-requires c κs = let r = range (c .before) in (month-starts _ refl, omega arith)
 
 returns : tie.Need-returns
 unfolding daysBefore
-returns c = rw (c .days-of .ensures, ← (c .before .before .in-calendar .ensures), c .before .if1 .taken)
+returns c = rw (c .start-in .ensures, ← (c .before .before .before .in-calendar .ensures), c .before .before .if1 .taken)
 
 returns-2 : tie.Need-returns-2
 unfolding daysBefore
@@ -81,11 +82,13 @@ days-before-spec =
     tie.close
     (tie.spec
     in-calendar-requires
-    sub-days-of
-    mul-days-of
-    sub-days-of-2
-    cast-days-of
-    add-days-of
-    days-of-requires
+    sub-k
+    mul-k
+    sub-k-2
+    cast-k
+    add-k
+    cast-k-2
+    slice-aggregate-start-in
+    start-in-requires
     returns
     returns-2)

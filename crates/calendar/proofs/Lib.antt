@@ -1,0 +1,2 @@
+-- What the test of the table of month starts shows.
+mod TableTest

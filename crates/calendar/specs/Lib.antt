@@ -1,0 +1,2 @@
+-- The table of month starts.
+pub mod MonthStarts
