@@ -6,8 +6,9 @@
 //!
 //! What makes it fast:
 //! - one book, changed in place; a limit that is not flagged is a number that never binds, so no flag is tested;
+//! - an entry's end and its started interval are one number, its last moment;
 //! - for each asset and kind the suitable entries, sorted in the order of the choice; an entry that is over leaves its lists;
-//! - the rank of an entry in one word; the lists are sorted again only when an interval starts;
+//! - the rank of an entry in one word; the lists are sorted again only when the start of an interval changes a last moment;
 //! - uses are settled only when the earliest until has come;
 //! - the usage report is kept by the positions of the assets, from zeros; it is not printed, as by the run program;
 //! - one read and one write for some eight thousand events, lines put together from prepared text.
@@ -482,8 +483,7 @@ struct Entry {
     used_timed: u32,
     timed: u32,
     start: u32,
-    end: u32,
-    last: u32, // the first second after a started interval
+    last: u32, // the last moment: the first second after its end and its started interval
     used_seconds: u32,
     accumulated: u32,
     timer: u32,
@@ -492,7 +492,8 @@ struct Entry {
     asset: u16,
     flags: u8,
     kind: u8,
-    recorded: bool, // tracked, and the switch is on
+    unstarted: bool, // an interval is flagged and has not started
+    recorded: bool,  // tracked, and the switch is on
 }
 
 impl Entry {
@@ -502,7 +503,6 @@ impl Entry {
         used_timed: 0,
         timed: 0,
         start: 0,
-        end: 0,
         last: 0,
         used_seconds: 0,
         accumulated: 0,
@@ -512,6 +512,7 @@ impl Entry {
         asset: 0,
         flags: 0,
         kind: 1,
+        unstarted: false,
         recorded: false,
     };
 
@@ -523,8 +524,7 @@ impl Entry {
             used_timed: from.used_timed,
             timed: or(TIMED, from.timed, NEVER),
             start: from.start,
-            end: or(END, from.end, NEVER - 1),
-            last: if from.started == 1 { from.first + from.interval } else { NEVER },
+            last: or(END, from.end + 1, NEVER).min(if from.started == 1 { from.first + from.interval } else { NEVER }),
             used_seconds: from.used_seconds,
             accumulated: or(ACCUMULATED, from.accumulated, NEVER),
             timer: from.timer,
@@ -533,6 +533,7 @@ impl Entry {
             asset: from.asset,
             flags: from.flags,
             kind: from.kind,
+            unstarted: from.has(INTERVAL) && from.started == 0,
             recorded: switch == 1 && from.tracked == 1,
         }
     }
@@ -542,7 +543,6 @@ impl Entry {
         (self.used_count < self.count)
             & (self.used_timed < self.timed)
             & (self.start <= t)
-            & (t <= self.end)
             & (t < self.last)
             & (self.used_seconds < self.accumulated)
     }
@@ -551,21 +551,20 @@ impl Entry {
     /// to be listed again.)
     #[inline(always)]
     fn is_over(&self, t: u32) -> bool {
-        (self.end < t) | (self.last <= t) | (self.used_count >= self.count)
+        (self.last <= t) | (self.used_count >= self.count)
     }
 
-    /// The order of the choice in one number, the smaller first: no flags, earlier end, interval started, own, position.
+    /// The order of the choice in one number, the smaller first: no flags, earlier last moment, own, position.
     fn rank(&self, asked: u16, position: u8) -> u64 {
         let bit = |test: bool| test as u64;
-        let fresh = bit(self.last == NEVER);
-        bit(self.flags != 0) << 42 | (self.end as u64) << 10 | fresh << 9 | bit(self.asset != asked) << 8 | position as u64
+        bit(self.flags != 0) << 41 | (self.last as u64) << 9 | bit(self.asset != asked) << 8 | position as u64
     }
 
     /// The least of the bounds; the seconds already used reach up to `paid_to`.
     #[inline(always)]
     fn least_until(&self, t: u32, paid_to: u32) -> u32 {
         let paid = paid_to.saturating_add(self.accumulated - self.used_seconds);
-        (t + grant_length(self.kind)).min(self.end + 1).min(self.last).min(paid)
+        (t + grant_length(self.kind)).min(self.last).min(paid)
     }
 
     #[inline(always)]
@@ -573,16 +572,17 @@ impl Entry {
         self.used_seconds += if self.flags & ACCUMULATED != 0 { seconds } else { 0 };
     }
 
-    /// Meters a begin at t; whether it starts the interval.
+    /// Meters a begin at t; whether its last moment is another one from now on.
     #[inline(always)]
     fn begin(&mut self, t: u32) -> bool {
         self.used_count += (self.flags & COUNT) as u32;
         self.used_timed += (self.flags & TIMED) as u32 / TIMED as u32;
-        let starts = self.flags & INTERVAL != 0 && self.last == NEVER;
-        if starts {
-            self.last = t + self.interval;
+        let before = self.last;
+        if self.unstarted {
+            self.unstarted = false;
+            self.last = before.min(t + self.interval);
         }
-        starts
+        self.last != before
     }
 
     /// Meters the end of a use that ran so many seconds; a timer of 0 takes nothing off.
@@ -693,8 +693,9 @@ impl Server {
         positions[..*len as usize].sort_unstable_by_key(|&position| self.entries[position as usize].rank(asked, position));
     }
 
+    /// The entry at this position has another last moment.
     #[cold]
-    fn interval_started(&mut self, position: u8) {
+    fn sort_again(&mut self, position: u8) {
         for which in 0..self.candidates.len() {
             if self.candidates[which].list().contains(&position) {
                 self.sort(which);
@@ -811,7 +812,7 @@ impl Server {
             self.passed_over(which, t);
         }
         let entry = &mut self.entries[position as usize % MOST];
-        let starts = entry.begin(t);
+        let moved = entry.begin(t);
         let mut until = t;
         if !is_momentary(kind) {
             until = entry.least_until(t, t);
@@ -826,8 +827,8 @@ impl Server {
         } else if entry.recorded {
             self.report[i as usize % MOST].times += (entry.timed_value == 0) as u64;
         }
-        if starts {
-            self.interval_started(position);
+        if moved {
+            self.sort_again(position);
         }
         Answer { code: 0, entry: position, until }
     }

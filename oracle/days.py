@@ -153,6 +153,42 @@ def subscription_book(rng, around):
     return book
 
 
+def rival_book(rng, around, length):
+    """Entries that compete for the same begins of a day of so many events, with an end or an interval, or both, or neither. Ends, and
+    intervals that start in the first seconds, are over within a few seconds of one another, some in the middle of the day. What has no
+    interval mostly starts later, so that intervals have started by then."""
+    contents = list(range(1, rng.randint(2, 5)))
+    book = Book(assets=[Asset(9, 0, 0)] + [Asset(number, 9, 1) for number in contents])
+    kind, lasts = rng.choice((1, 1, 1, 1, 2, 2, 3, 3, 4, 5)), 30 + length * rng.choice((1, 1, 2))
+    sorts = [INTERVAL, *rng.choices((END, END, INTERVAL, END | INTERVAL, END | INTERVAL, COUNT), k=3)]
+    for _ in range(rng.randint(3, 9)):
+        flags = 0 if rng.random() < 0.02 else rng.choice(sorts)
+        shares = ((START, 0 if flags == INTERVAL else 0.8), (COUNT, 0.1), (ACCUMULATED, 0.1), (TIMED, 0.4))
+        flags |= sum(flag for flag, share in shares if flags and rng.random() < share)
+        entry = Entry(rng.randint(1, 3), rng.choice((9, *contents)), kind, flags & ~(TIMED | ACCUMULATED) if kind >= 4 else flags)
+        rival_limits(rng, entry, around, rng.choice((lasts, lasts, lasts // 2)))
+        book.entries.append(entry)
+    if rng.random() < 0.3:
+        track(rng, book)
+    return book
+
+
+def rival_limits(rng, entry, around, over):
+    """Gives the entry the limits of its flags: it is over about so many seconds from now. A timed count mostly comes back."""
+    if entry.has(COUNT):
+        entry.count = limit(rng, rng.randint(1, over))
+    if entry.has(TIMED):
+        entry.timed, entry.timer = limit(rng, rng.randint(1, 2)), rng.choice((20, 61, 1_000_000, 1_000_000))
+    if entry.has(START):
+        entry.start = min(LATEST, around + rng.choice((2, 5, 10)))
+    if entry.has(END):
+        entry.end = min(LATEST, around + over - rng.choice((0, 1, 1, 1, 2)))
+    if entry.has(INTERVAL):
+        entry.interval = limit(rng, rng.choice((over, over, over - 1, over - 2, over - 5, 100_000_000)))
+    if entry.has(ACCUMULATED):
+        entry.accumulated = limit(rng, rng.choice((50, 1000)))
+
+
 def nothing_more(rng, book):
     """Makes some limits 0 in the middle of a day, where the image still meets the rules: those of which nothing is used, and
     intervals in which nothing is open, started ones too."""
@@ -270,6 +306,46 @@ class Cabins:
         return Event(index, *request, t)
 
 
+class Rivals:
+    """Players on a book of rival_book. Now and then one starts an interval in the second in which it has to start to be over when
+    another entry is."""
+
+    def __init__(self, rng, book):
+        self.rng = rng
+        self.count = rng.randint(2, 16)
+        self.kind = book.entries[0].kind
+        self.contents = [asset.number for asset in book.assets if asset.key]
+
+    def next_event(self, book, around):
+        rng, now = self.rng, max(book.time, around)
+        index, chance = rng.randrange(self.count), rng.random()
+        player = book.players[index]
+        if chance < 0.03:
+            return next_event(rng, book, around)
+        if chance < 0.1 and player.number:
+            return Event(index, player.number, player.operation, player.asset, player.kind, now)
+        number, t = next_number(rng, player.number), now + rng.choice((0, 0, 0, 1, 1, 2, 3))
+        if player.open:
+            return Event(index, number, rng.choice((CONTINUE, STOP, STOP)), 0, 0, min(t, LATEST))
+        found = list(self.meetings(book, now)) if chance < 0.6 else []
+        content, t = rng.choice(found or [(rng.choice(self.contents), t)])
+        return Event(index, number, BEGIN, content, self.kind, min(t, LATEST))
+
+    def meetings(self, book, now):
+        """Contents and times of begins in the next seconds that start an interval so that it is over when another entry is, or a second
+        later."""
+        over = {entry.end + 1 for entry in book.entries if entry.has(END)}
+        over |= {entry.first + entry.interval for entry in book.entries if entry.started}
+        times = {end - entry.interval for entry in book.entries if entry.has(INTERVAL) and not entry.started for end in over}
+        for t in sorted(time for time in times if now <= time <= now + 20):
+            for content in self.contents:
+                able = [p for p in rights.suitable_entries(book, book.asset(content), self.kind)
+                        if rights.is_grantable(book, book.entries[p], t)]
+                entry = book.entries[min(able, key=lambda p: rights.rank(book.entries[p], p, content))] if able else Entry()
+                if entry.has(INTERVAL) and not entry.started and t + entry.interval in over:
+                    yield from ((content, t), (content, t), (content, t + 1))
+
+
 def damaged(rng, record):
     """Now and then a record with a byte changed, or one of random bytes."""
     chance = rng.random()
@@ -283,7 +359,7 @@ def damaged(rng, record):
 
 # ---- Days
 
-KINDS = ("crowd", "crowd", "wide", "cabins", "greatest", "going on", "old", "damaged image")
+KINDS = ("crowd", "crowd", "wide", "cabins", "rivals", "rivals", "greatest", "going on", "old", "damaged image")
 
 
 def make_day(seed, length, kind=None, around=None):
@@ -298,18 +374,23 @@ def make_day(seed, length, kind=None, around=None):
         book = wide_book(rng, around)
     elif kind == "cabins":
         book = subscription_book(rng, around)
+    elif kind == "rivals":
+        book = rival_book(rng, around, length)
     else:
         book = fresh_book(rng, around)
-    stretch(rng, book, around, 1 + length // 20)
+    if kind != "rivals":
+        stretch(rng, book, around, 1 + length // 20)
     if kind == "greatest":
         greatest_limits(rng, book)
     if kind in ("going on", "old"):
         play(rng, book, around, None, rng.randint(1, 60))
         nothing_more(rng, book)
+    if kind == "rivals" and rng.random() < 0.3:
+        play(rng, book, around, Rivals(rng, book), rng.randint(1, 30))
     if kind == "old":
         make_old(rng, book)
     image, book = stored(rng, book)
-    cabins = Cabins(rng, book) if kind == "cabins" else None
+    cabins = Cabins(rng, book) if kind == "cabins" else Rivals(rng, book) if kind == "rivals" else None
     records, lines = play(rng, book, around, cabins, length)
     if rng.random() < 0.3:
         records.append(rng.randbytes(rng.randint(1, rights.RECORD.size - 1)))
@@ -403,6 +484,8 @@ def stored_days():
     for number in range(46, 60):
         image, events, text = make_day(1 + number, 5, "damaged image", 1000)
         yield image or b"", events, text
+    for number in range(60, 72):
+        yield make_day(1 + number, 150, "rivals", arounds[number % 5])
     yield from written_days.days()
 
 

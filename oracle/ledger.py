@@ -148,20 +148,27 @@ class Ledger:
             return []
         return [p for p in range(len(self.entries)) if self.entries[p].kind == kind and self.relation(p, asset)]
 
+    def moments(self, entry):
+        """The seconds from which on the entry's end date and its interval allow nothing; of an interval that has not started, none."""
+        limits, start = self.entries[entry], self.interval_start(entry)
+        if limits.flags & 8:
+            yield limits.end + 1
+        if limits.flags & 16 and start is not None:
+            yield start + limits.interval
+
+    def is_over_earlier(self, a, b):
+        """Order 6: whether the entry at a has the earlier last moment. Then one of its moments is before all of those at b; and any
+        moment is before none."""
+        return any(all(x < y for y in self.moments(b)) for x in self.moments(a))
+
     def comes_before(self, a, b, asset):
-        """Whether the entry at position a goes before the one at b: rules (i) to (v), in turn."""
+        """Whether the entry at position a goes before the one at b: no flags, earlier last moment, own before inherited, lower position,
+        in turn."""
         x, y = self.entries[a], self.entries[b]
         if (x.flags == 0) != (y.flags == 0):
             return x.flags == 0
-        x_ends, y_ends = x.flags & 8 != 0, y.flags & 8 != 0
-        if x_ends != y_ends:
-            return x_ends
-        if x_ends and x.end != y.end:
-            return x.end < y.end
-        x_runs = x.flags & 16 != 0 and self.interval_start(a) is not None
-        y_runs = y.flags & 16 != 0 and self.interval_start(b) is not None
-        if x_runs != y_runs:
-            return x_runs
+        if self.is_over_earlier(a, b) or self.is_over_earlier(b, a):
+            return self.is_over_earlier(a, b)
         x_own, y_own = self.relation(a, asset) == "own", self.relation(b, asset) == "own"
         if x_own != y_own:
             return x_own

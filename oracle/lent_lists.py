@@ -46,7 +46,7 @@ def case(name, book, line, lent, left=None):
     """One event with its answer, as in written_days.py, or `HEX: ANSWER` for the bytes of a record. Without a list after it that one
     stays as it was."""
     if "." in line:
-        event, answer, _ = parts_of(line)
+        event, answer, _, _ = parts_of(line)
         record = rights.encode(event)
     else:
         record, _, told = line.partition(":")

@@ -5,6 +5,7 @@ report. It shares nothing with the proved program, so an answer on which both ag
 """
 
 import copy
+import math
 import struct
 from dataclasses import dataclass, field
 
@@ -301,10 +302,18 @@ def limits_allow(entry, t):
 
 
 def rank(entry, position, asked):
-    """The least rank is chosen: rules (i) to (v) of the choice."""
-    end = entry.end if entry.has(END) else LATEST + 1
-    running = entry.has(INTERVAL) and entry.started
-    return (0 if entry.flags == 0 else 1, end, 0 if running else 1, 0 if entry.asset == asked else 1, position)
+    """The least rank is chosen: rules (i), (iv) and (v) of the choice, and order 6's earlier last moment in place of (ii) and (iii)."""
+    return (0 if entry.flags == 0 else 1, last_moment(entry), 0 if entry.asset == asked else 1, position)
+
+
+def last_moment(entry):
+    """Order 6: "the least of end + 1 and, if started, first + interval; an entry with neither comes last"."""
+    moments = []
+    if entry.has(END):
+        moments.append(entry.end + 1)
+    if entry.has(INTERVAL) and entry.started:
+        moments.append(entry.first + entry.interval)
+    return min(moments, default=math.inf)
 
 
 def least_until(entry, first, t, paid_to):

@@ -3,14 +3,15 @@
 The afternoon of document 01, then random days. On each day, demand 3 is judged by the ledger; every book along
 the way is written and read back; events turned away and resends must leave the book unchanged; and the day without its
 resends is run again. On every other day the lines of the usage report are handed on from zeros and must be the ledger's sums; on the
-others each event is lent any list, the same in both runs. The days written by hand are judged by the ledger too, and the lists lent by
-hand get their answers. Then servers with one planted fault each must be caught, by the ledger on random days, and by the stored days,
-images or lists. Last, the stored texts get their answers from the reader of XML texts, and readers with one planted fault each must be
-caught by them.
+others each event is lent any list, the same in both runs. The days written by hand are judged by the ledger too, the rules of the choice
+before order 6 answer those otherwise that say so, and the lists lent by hand get their answers. Then servers with one planted fault each
+must be caught, by the ledger on random days, and by the stored days, images or lists. Last, the stored texts get their answers from the
+reader of XML texts, and readers with one planted fault each must be caught by them.
 """
 
 import copy
 import dataclasses
+import itertools
 import random
 import sys
 from contextlib import contextmanager
@@ -21,7 +22,7 @@ import lent_lists
 import rights
 import text_faults
 import written_days
-from ledger import Broken, Ledger, demand
+from ledger import Broken, Ledger, Use, demand
 from lent_lists import plain
 from rights import Asset, Book, Entry, Event
 
@@ -116,6 +117,21 @@ def check_in_line():
            "only the largest number has none after it")
 
 
+def check_order():
+    """The rules and the ledger agree on which of two entries goes first, with ends and intervals that are over around one another."""
+    assets, entries = [Asset(1, 9, 1), Asset(9, 0, 0)], []
+    for asset, flags in itertools.product((1, 9), (0, rights.COUNT, rights.END, rights.INTERVAL, rights.END | rights.INTERVAL)):
+        ends = (8, 9, 10) if flags & rights.END else (0,)
+        intervals = (4, 5, 6) if flags & rights.INTERVAL else (0,)
+        for end, interval, started in itertools.product(ends, intervals, (0, 1) if flags & rights.INTERVAL else (0,)):
+            entries.append(Entry(1, asset, PLAY, flags, end=end, interval=interval, started=started, first=5 * started))
+    for pair in itertools.product(entries, repeat=2):
+        ledger = Ledger(assets, pair, 0)
+        ledger.uses = [Use(position, 0, 5, 5, 1) for position, entry in enumerate(pair) if entry.started]
+        first = rights.rank(pair[0], 0, 1) < rights.rank(pair[1], 1, 1)
+        demand(ledger.comes_before(0, 1, 1) == first != ledger.comes_before(1, 0, 1), f"which of {pair} goes first")
+
+
 def check_written_days():
     """Those that start from a fresh book by the ledger, and the reports of all. Returns how many are fresh."""
     fresh = 0
@@ -131,6 +147,19 @@ def check_written_days():
     return fresh
 
 
+def check_choice_before():
+    """By the rules of the choice before order 6 the written days are answered otherwise exactly where they say so, and as they say: each
+    such day up to the first answer that differs. Returns how many there are."""
+    with planted("rank", ranked(the_rules_before_order_6)):
+        for name, version, book, steps, _ in written_days.written():
+            answers = rights.run(rights.write(book, version), b"".join(rights.encode(event) for event, _, _ in steps)).splitlines()
+            given = [tuple(map(int, line.split())) for line in answers]
+            differs = [(place, was) for place, (was, (_, answer, _)) in enumerate(zip(given, steps)) if was != answer]
+            told = [written_days.WAS[name]] if name in written_days.WAS else []
+            demand(differs[:1] == told, f"{name}: the first answer that was another one is {differs[:1]}, by hand {told}")
+    return len(written_days.WAS)
+
+
 def is_fresh(book):
     entries = [dataclasses.replace(each, used_count=0, used_timed=0, first=0, used_seconds=0, started=0) for each in book.entries]
     return book == Book(assets=book.assets, entries=entries, switch=book.switch)
@@ -138,15 +167,17 @@ def is_fresh(book):
 
 def run_day(rng, length):
     """One random day, checked. Returns how often each code was answered."""
-    around = rng.choice((0, 1000, 1000, 1_700_000_000, rights.LATEST - 500))
-    fresh = days.fresh_book(rng, around)
+    around = rng.choice((0, 1000, 1000, 1_700_000_000, rights.LATEST - 500, rights.LATEST - 60))
+    rivals = rng.random() < 0.4
+    fresh = days.rival_book(rng, around, length) if rivals else days.fresh_book(rng, around)
+    cabins = days.Rivals(rng, fresh) if rivals else None
     book, ledger = copy.deepcopy(fresh), Ledger(fresh.assets, fresh.entries, fresh.switch)
     lines, handed = rights.zeros(book), rng.random() < 0.5
     lines += [rights.Line(*rng.choices((0, 5, 900), k=3)) for _ in range(rng.randint(0, 2))]
     further = plain(lines)[len(book.assets):]
     seen, kept, after = {}, [], rights.write(book)
     for _ in range(length):
-        event = days.next_event(rng, book, around)
+        event = cabins.next_event(book, around) if cabins else days.next_event(rng, book, around)
         lent = lines if handed else lent_lists.random_list(rng, book, lines)
         told, before = [dataclasses.replace(line) for line in lent], after
         answer = rights.step(book, event, lent)
@@ -264,8 +295,20 @@ def timed_never_goes_back(real):
     return end_use
 
 
-def inherited_before_own(real):
-    return lambda e, p, asked: real(e, p, asked)[:3] + (1 - real(e, p, asked)[3], p)
+def ranked(rule):
+    """A fault of the order of the choice, told by the four parts of an entry's rank and the entry."""
+    def fault(real):
+        return lambda entry, position, asked: rule(*real(entry, position, asked), entry)
+    fault.__name__ = rule.__name__
+    return fault
+
+
+def inherited_before_own(flags, last, inherited, position, entry):
+    return flags, last, 1 - inherited, position
+
+
+def higher_position_first(flags, last, inherited, position, entry):
+    return flags, last, inherited, -position
 
 
 def without(entry, *limits):
@@ -740,6 +783,144 @@ def version_2_is_refused(real):
     return lambda data: (22, None) if data[3:5] == b"\0\2" and len(data) >= 11 and data[:3] == b"RBK" else real(data)
 
 
+# Order 6: the last moment in the order of the choice. A fault of the last moment is told by the moments of the entry's end and of its
+# started interval, each None if there is none, and by the entry.
+
+def last_moment_is(rule):
+    def fault(real):
+        def last_moment(entry):
+            end = entry.end + 1 if entry.has(rights.END) else None
+            interval = entry.first + entry.interval if entry.has(rights.INTERVAL) and entry.started else None
+            found = [each for each in rule(end, interval, entry) if each is not None]
+            return min(found, default=real(rights.Entry()))
+        return last_moment
+    fault.__name__ = rule.__name__
+    return fault
+
+
+def the_end_itself(end, interval, entry):
+    return end and end - 1, interval
+
+
+def the_last_second_of_the_interval(end, interval, entry):
+    return end, interval and interval - 1
+
+
+def the_end_alone(end, interval, entry):
+    return end,
+
+
+def the_interval_alone(end, interval, entry):
+    return interval,
+
+
+def the_interval_only_without_an_end(end, interval, entry):
+    return end if end else interval,
+
+
+def the_end_only_without_a_started_interval(end, interval, entry):
+    return interval if interval else end,
+
+
+def the_greater_of_the_two(end, interval, entry):
+    return max(end or 0, interval or 0) or None,
+
+
+def the_begin_of_the_interval(end, interval, entry):
+    return end, interval and entry.first
+
+
+def the_length_of_the_interval(end, interval, entry):
+    return end, interval and entry.interval
+
+
+def the_length_of_an_interval_that_has_not_started(end, interval, entry):
+    return end, interval or (entry.interval if entry.has(rights.INTERVAL) else None)
+
+
+def an_interval_that_has_not_started_is_last(end, interval, entry):
+    """Though it has an end."""
+    return (end, interval) if entry.started or not entry.has(rights.INTERVAL) else ()
+
+
+def neither_is_4000000001(end, interval, entry):
+    """The number that stood for no end: an interval may be over later."""
+    return (end, interval) if end or interval else (rights.LATEST + 1,)
+
+
+def neither_is_4000000002(end, interval, entry):
+    return (end, interval) if end or interval else (rights.LATEST + 2,)
+
+
+def neither_is_first(end, interval, entry):
+    return (end, interval) if end or interval else (0,)
+
+
+def counts_from_the_begin(part):
+    """A fault of the last moment that reads the time of the begin."""
+    def fault(real):
+        def begin(book, player, number, kind, t, lines):
+            with planted("last_moment", last_moment_is(lambda end, interval, entry: part(end, interval, entry, t))):
+                return real(book, player, number, kind, t, lines)
+        return begin
+    fault.__name__ = part.__name__
+    return fault
+
+
+def an_interval_that_would_start_now(end, interval, entry, t):
+    return end, interval or (t + entry.interval if entry.has(rights.INTERVAL) else None)
+
+
+def unused_seconds_too(end, interval, entry, t):
+    return end, interval, t + entry.accumulated - entry.used_seconds if entry.has(rights.ACCUMULATED) else None
+
+
+def until_decides(end, interval, entry, t):
+    return rights.least_until(entry, entry.first if entry.started else t, t, t),
+
+
+def the_rules_before_order_6(flags, last, inherited, position, entry):
+    """Earlier end, none last; then interval already started."""
+    end = entry.end if entry.has(rights.END) else rights.LATEST + 1
+    return flags, end, 0 if entry.has(rights.INTERVAL) and entry.started else 1, inherited, position
+
+
+def a_started_interval_before_every_end(flags, last, inherited, position, entry):
+    return flags, 0 if entry.has(rights.INTERVAL) and entry.started else 1, last, inherited, position
+
+
+def an_end_before_every_interval(flags, last, inherited, position, entry):
+    return flags, 0 if entry.has(rights.END) else 1, last, inherited, position
+
+
+def a_started_interval_first_in_a_tie(flags, last, inherited, position, entry):
+    return flags, last, 0 if entry.has(rights.INTERVAL) and entry.started else 1, inherited, position
+
+
+def an_end_first_in_a_tie(flags, last, inherited, position, entry):
+    return flags, last, 0 if entry.has(rights.END) else 1, inherited, position
+
+
+def later_last_moment_first(flags, last, inherited, position, entry):
+    return flags, -last, inherited, position
+
+
+def own_before_the_last_moment(flags, last, inherited, position, entry):
+    return flags, inherited, last, position
+
+
+def position_before_own(flags, last, inherited, position, entry):
+    return flags, last, position, inherited
+
+
+def the_last_moment_before_no_flags(flags, last, inherited, position, entry):
+    return last, flags, inherited, position
+
+
+def no_flags_are_like_neither(flags, last, inherited, position, entry):
+    return last, inherited, position
+
+
 # Order 3: images
 
 def the_content_is_kept_of_tracked_entries_only(real):
@@ -843,7 +1024,7 @@ FAULTS = [                  # caught by the ledger on random days, and by a stor
     ("answered", resend_compares_time), ("answered", resend_is_metered), ("stop", count_goes_back),
     ("limits_allow", end_is_excluded), ("suitable_entries", inherits_through_illegal),
     ("suitable_entries", inherits_two_levels), ("answered", settles_the_asker_only),
-    ("limits_allow", always_none_grantable), ("end_use", timed_never_goes_back), ("rank", inherited_before_own),
+    ("limits_allow", always_none_grantable), ("end_use", timed_never_goes_back),
     ("limits_allow", an_interval_of_0_is_granted_once), ("suitable_entries", a_limit_of_0_is_not_suitable),
     ("begin", a_limit_of_0_refuses_all), ("limits_allow", a_timer_a_start_and_an_end_of_0_are_never_grantable),
     ("limits_allow", no_flags_are_never_grantable),
@@ -862,7 +1043,17 @@ FAULTS = [                  # caught by the ledger on random days, and by a stor
         counter_1_of_any_boot_number, counter_1_of_the_same_boot_number, boot_numbers_are_not_compared,
         boot_numbers_are_compared_in_31_bits, a_first_event_has_boot_number_0)),
     *(("answered", a_resend_is_known_by(part)) for part in (rights.boot_of, rights.counter_of)),
-    ("answered", the_counter_alone_is_stored)]
+    ("answered", the_counter_alone_is_stored),
+    *(("last_moment", last_moment_is(rule)) for rule in (
+        the_end_itself, the_last_second_of_the_interval, the_end_alone, the_interval_alone, the_interval_only_without_an_end,
+        the_end_only_without_a_started_interval, the_greater_of_the_two, the_begin_of_the_interval, the_length_of_the_interval,
+        the_length_of_an_interval_that_has_not_started, an_interval_that_has_not_started_is_last, neither_is_4000000001,
+        neither_is_4000000002, neither_is_first)),
+    *(("begin", counts_from_the_begin(part)) for part in (an_interval_that_would_start_now, unused_seconds_too, until_decides)),
+    *(("rank", ranked(rule)) for rule in (
+        inherited_before_own, higher_position_first, the_rules_before_order_6, a_started_interval_before_every_end,
+        an_end_before_every_interval, a_started_interval_first_in_a_tie, an_end_first_in_a_tie, later_last_moment_first,
+        own_before_the_last_moment, position_before_own, the_last_moment_before_no_flags, no_flags_are_like_neither))]
 LAST_NUMBER_FAULTS = [      # of numbers that no day from a fresh book comes to: caught by a stored day
     *(("is_in_line", in_line_if(rule)) for rule in (
         nothing_follows_the_last_counter, nothing_follows_the_last_counter_of_boot_0, no_counter_0,
@@ -998,6 +1189,7 @@ def main():
     check_afternoon()
     check_records()
     check_in_line()
+    check_order()
     seen, done, seed = {}, 0, 1
     while done < events:
         for name, times in run_day(random.Random(seed), 60).items():
@@ -1005,6 +1197,7 @@ def main():
         done, seed = done + 60, seed + 1
     print(f"{done} events in {seed - 1} days:", ", ".join(f"{n} {seen[n]}" for n in sorted(seen, key=str)))
     print(f"{check_written_days()} days written by hand, {lent_lists.check()} lists")
+    print(f"{check_choice_before()} days written by hand were answered otherwise before order 6")
     check_contents()
     print(f"{check_faults()} planted faults caught")
     stored, faults = text_faults.check()

@@ -3,7 +3,8 @@
 The book is told in words, as in texts.py: its assets, a bar, its entries, as `9; 1 inherits 9 key | 1 play count 5`; `used_count 2`
 and the like set meters, `started 1` and `first 900` an interval that runs, `tracked 1`, `timed_value 30` and `mark 1` a track. A
 line is an event and its answer as document 01 writes them: `0.1 begin 1 play 1000: 0 0 1060`, where a code alone has 255 0 behind it;
-`0.3.1` is player 0 with counter 1 under boot number 3.
+`0.3.1` is player 0 with counter 1 under boot number 3. `was 0 1 1060` behind the answer says that the rules of the choice before order 6
+gave that one, and that the day's answers before it were the same; a day without it is answered by those rules as by today's.
 `-> 1 2 90` behind it says that content 1 has 2 times and 90 seconds in the report from there on; a report begins with zeros, and what
 is not told stays. `days.py` stores the days behind its random ones, without the report, which the run program does not print.
 """
@@ -15,7 +16,9 @@ from rights import Event, Player
 from texts import KINDS, book_of
 
 DAYS = []                   # (name, version of the image, book, steps: event, answer, report after it, bytes behind the last record)
-LINE = re.compile(r"(\d+)\.(?:(\d+)\.)?(\d+) (begin (\d+) (\w+)|continue|stop) (\d+): (\d+)(?: (\d+) (\d+))?(?: -> (.*))?")
+WAS = {}                    # by the name of a day: which of its steps the rules before order 6 answered otherwise first, and how
+LINE = re.compile(r"(\d+)\.(?:(\d+)\.)?(\d+) (begin (\d+) (\w+)|continue|stop) (\d+): (\d+)(?: (\d+) (\d+))?"
+                  r"(?: was (\d+) (\d+) (\d+))?(?: -> (.*))?")
 TOP = 4_294_967_295         # the last counter, and the greatest boot number
 OPERATIONS = {"begin": rights.BEGIN, "continue": rights.CONTINUE, "stop": rights.STOP}
 
@@ -28,22 +31,27 @@ def day(name, words, *lines, time=0, switch=0, players=(), version=rights.NEWEST
     for index, player in players:
         book.players[index] = player
     report, steps = {asset.number: (0, 0) for asset in book.assets}, []
+    assert all(name != each[0] for each in DAYS), f"two days are named {name}"
     for line in lines:
-        event, answer, gained = parts_of(line)
+        event, answer, was, gained = parts_of(line)
         assert gained.keys() <= report.keys(), f"{name}: {line}"
         report = report | gained
+        if was:
+            WAS[name] = (len(steps), was)
         steps.append((event, answer, [(content, *sums) for content, sums in report.items()]))
     DAYS.append((name, version, book, steps, bytes.fromhex(tail)))
 
 
 def parts_of(line):
-    """The event of a line, its answer, and what it says of the report: times and seconds by content."""
-    player, boot, counter, request, asset, kind, t, code, entry, until, told = LINE.fullmatch(line).groups()
+    """The event of a line, its answer, the answer of the rules before order 6 if it was another (empty if not), and what the line says of
+    the report: times and seconds by content."""
+    player, boot, counter, request, asset, kind, t, code, entry, until, *was, told = LINE.fullmatch(line).groups()
     operation = OPERATIONS[request.split()[0]]
     number = int(boot or 0) * 2 ** 32 + int(counter)
     event = Event(int(player), number, operation, int(asset or 0), KINDS.index(kind) + 1 if kind else 0, int(t))
     sums = [tuple(map(int, part.split())) for part in (told or "").split(",") if part]
-    return event, (int(code), int(entry or 255), int(until or 0)), {content: (times, seconds) for content, times, seconds in sums}
+    gained = {content: (times, seconds) for content, times, seconds in sums}
+    return event, (int(code), int(entry or 255), int(until or 0)), tuple(int(each) for each in was if each), gained
 
 
 # ---- Document 01
@@ -416,8 +424,234 @@ def record_lengths():
     day("one begin of the 13-byte form", "1 key | 1 play", tail="00 00000001 01 0001 01 000003e8")
 
 
+# ---- Order 6: the last moment
+
+def two(one, other, swapped):
+    """Two entries in one order or the other, and the positions of the first and the second named."""
+    return ("; ".join((other, one)), 1, 0) if swapped else ("; ".join((one, other)), 0, 1)
+
+
+def end_and_interval():
+    """An end against a running interval: whichever is over earlier goes first, own or inherited, at the lower or the higher position."""
+    for swapped in (False, True):
+        place = "the interval at 0" if swapped else "the end at 0"
+        entries, end, interval = two("1 play start 1001 end 5000", "1 play interval 500", swapped)
+        day(f"an interval over before another's end, {place}", f"1 key | {entries}",
+            f"0.1 begin 1 play 1000: 0 {interval} 1060", f"1.1 begin 1 play 1001: 0 {interval} 1061 was 0 {end} 1061",
+            f"0.2 stop 1010: 0 {interval} 1010", f"0.3 begin 1 play 1440: 0 {interval} 1500", f"1.2 begin 1 play 1499: 0 {interval} 1500",
+            "1.3 continue 1499: 15", f"2.1 begin 1 play 1500: 0 {end} 1560", f"0.4 begin 1 play 5000: 0 {end} 5001",
+            "1.4 begin 1 play 5001: 13")
+        entries, end, interval = two("1 play start 1001 end 1500", "1 play interval 5000", swapped)
+        day(f"an interval over after another's end, {place}", f"1 key | {entries}",
+            f"0.1 begin 1 play 1000: 0 {interval} 1060", f"1.1 begin 1 play 1001: 0 {end} 1061", f"2.1 begin 1 play 1500: 0 {end} 1501",
+            "2.2 continue 1500: 15", f"3.1 begin 1 play 1501: 0 {interval} 1561", f"4.1 begin 1 play 5999: 0 {interval} 6000",
+            "5.1 begin 1 play 6000: 13")
+        entries, end, interval = two("1 play end 5000", "9 play interval 500", swapped)
+        day(f"an inherited interval over before the end of its own entry, {place}", f"1 inherits 9 key; 2 inherits 9 key; 9 | {entries}",
+            f"0.1 begin 2 play 1000: 0 {interval} 1060", f"1.1 begin 1 play 1001: 0 {interval} 1061 was 0 {end} 1061",
+            f"2.1 begin 1 play 1499: 0 {interval} 1500", f"3.1 begin 1 play 1500: 0 {end} 1560", "4.1 begin 2 play 1500: 13")
+        entries, end, interval = two("9 play start 1001 end 1200", "1 play interval 500", swapped)
+        day(f"an inherited end before its own interval is over, {place}", f"1 inherits 9 key; 9 | {entries}",
+            f"0.1 begin 1 play 1000: 0 {interval} 1060", f"1.1 begin 1 play 1001: 0 {end} 1061", f"1.2 stop 1002: 0 {end} 1002",
+            f"1.3 begin 1 play 1201: 0 {interval} 1261")
+    for kind in ("display", "execute"):
+        day(f"an interval over before another's end, {kind}", f"1 key | 1 {kind} start 1001 end 5000; 1 {kind} interval 500",
+            f"0.1 begin 1 {kind} 1000: 0 1 1060", f"1.1 begin 1 {kind} 1001: 0 1 1061 was 0 0 1061", f"2.1 begin 1 {kind} 1500: 0 0 1560")
+    for kind in ("print", "export"):
+        day(f"an interval over before another's end, {kind}", f"1 key | 1 {kind} start 1001 end 5000; 1 {kind} interval 500",
+            f"0.1 begin 1 {kind} 1000: 0 1 1000", f"0.2 begin 1 {kind} 1001: 0 1 1001 was 0 0 1001", f"0.2 begin 1 {kind} 1400: 0 1 1001",
+            f"0.3 begin 1 {kind} 1499: 0 1 1499", f"0.4 begin 1 {kind} 1500: 0 0 1500", f"0.5 begin 1 {kind} 5001: 13")
+        day(f"an end before another's interval is over, {kind}", f"1 key | 1 {kind} interval 500; 1 {kind} start 1001 end 1200",
+            f"0.1 begin 1 {kind} 1000: 0 0 1000", f"0.2 begin 1 {kind} 1001: 0 1 1001", f"0.3 begin 1 {kind} 1201: 0 0 1201")
+
+
+def both_limits():
+    """An entry with an end and an interval: the least of the two, and its end alone before its interval has started."""
+    day("both, the interval is the least", "1 key | 1 play start 1001 end 3000; 1 play end 5000 interval 500",
+        "0.1 begin 1 play 1000: 0 1 1060", "1.1 begin 1 play 1001: 0 1 1061 was 0 0 1061", "2.1 begin 1 play 1500: 0 0 1560")
+    day("both, the end is the least", "1 key | 1 play start 1001 end 3000; 1 play end 2000 interval 5000",
+        "0.1 begin 1 play 1000: 0 1 1060", "1.1 begin 1 play 1001: 0 1 1061", "2.1 begin 1 play 2000: 0 1 2001",
+        "3.1 begin 1 play 2001: 0 0 2061")
+    day("both, the end is the least, beside an interval", "1 key | 1 play interval 2000 started 1 first 1000; "
+        "1 play end 2000 interval 5000 started 1 first 1000", "0.1 begin 1 play 1000: 0 1 1060", "1.1 begin 1 play 2001: 0 0 2061",
+        time=1000)
+    day("both, the interval is the least, beside an interval over earlier", "1 key | 1 play interval 2000 started 1 first 1000; "
+        "1 play end 5000 interval 2500 started 1 first 1000", "0.1 begin 1 play 1000: 0 0 1060 was 0 1 1060",
+        "1.1 begin 1 play 3000: 0 1 3060", time=1000)
+    day("both, the interval is the least, beside an interval over later", "1 key | 1 play interval 3000 started 1 first 1000; "
+        "1 play end 5000 interval 2500 started 1 first 1000", "0.1 begin 1 play 1000: 0 1 1060", "1.1 begin 1 play 3500: 0 0 3560",
+        time=1000)
+    day("both on two entries, crosswise", "1 key | 1 play end 1999 interval 5000 started 1 first 1000; "
+        "1 play end 5000 interval 900 started 1 first 1000", "0.1 begin 1 play 1000: 0 1 1060 was 0 0 1060",
+        "1.1 begin 1 play 1900: 0 0 1960", "2.1 begin 1 play 2000: 13", time=1000)
+    day("both, before the interval starts", "1 key | 1 play count 1 end 3000; 1 play end 5000 interval 500; 1 play count 1 end 4000",
+        "0.1 begin 1 play 1000: 0 0 1060", "1.1 begin 1 play 1001: 0 2 1061", "2.1 begin 1 play 1002: 0 1 1062",
+        "3.1 begin 1 play 1501: 0 1 1502", "3.2 begin 1 play 1502: 13")
+
+
+def ties():
+    """The same last moment: own before inherited, then the lower position; and a second to each side."""
+    for swapped in (False, True):
+        place = "the interval at 0" if swapped else "the end at 0"
+        for date, ends_first in ((1498, True), (1499, not swapped), (1500, False)):
+            entries, end, interval = two(f"1 play start 1001 end {date}", "1 play interval 500", swapped)
+            chosen = f"0 {end} 1061" if ends_first else f"0 {interval} 1061 was 0 {end} 1061"
+            day(f"end {date}, an interval over at 1500, {place}", f"1 key | {entries}",
+                f"0.1 begin 1 play 1000: 0 {interval} 1060", f"1.1 begin 1 play 1001: {chosen}")
+        for date, ends_first in ((1498, True), (1499, False), (1500, False)):
+            entries, end, interval = two(f"9 play start 1001 end {date}", "1 play interval 500", swapped)
+            chosen = f"0 {end} 1061" if ends_first else f"0 {interval} 1061 was 0 {end} 1061"
+            day(f"inherited end {date}, its own interval over at 1500, {place}", f"1 inherits 9 key; 9 | {entries}",
+                f"0.1 begin 1 play 1000: 0 {interval} 1060", f"1.1 begin 1 play 1001: {chosen}")
+        for date, ends_first in ((1498, True), (1499, True), (1500, False)):
+            entries, end, interval = two(f"1 play start 1001 end {date}", "9 play interval 500", swapped)
+            chosen = f"0 {end} 1061" if ends_first else f"0 {interval} 1061 was 0 {end} 1061"
+            day(f"its own end {date}, an inherited interval over at 1500, {place}", f"1 inherits 9 key; 2 inherits 9 key; 9 | {entries}",
+                f"0.1 begin 2 play 1000: 0 {interval} 1060", f"1.1 begin 1 play 1001: {chosen}")
+        place = "its own at 0" if swapped else "the inherited one at 0"
+        for length, own_first in ((489, False), (490, True), (491, True)):
+            entries, inherited, own = two(f"9 play interval {length}", "1 play interval 500", swapped)
+            chosen = f"0 {own} 1071" if own_first else f"0 {inherited} 1071 was 0 {own} 1071"
+            day(f"its own interval over at 1500, an inherited one of {length} from 1010, {place}",
+                f"1 inherits 9 key; 2 inherits 9 key; 9 | {entries}", f"0.1 begin 1 play 1000: 0 {own} 1060",
+                f"1.1 begin 2 play 1010: 0 {inherited} 1070", f"2.1 begin 1 play 1011: {chosen}")
+    for length, chosen in ((2100, "0 1 1060"), (2101, "0 0 1060 was 0 1 1060"), (5000, "0 0 1060 was 0 1 1060")):
+        day(f"two ends alike, one with an interval of {length}",
+            f"1 key | 1 play end 3000; 1 play end 3000 interval {length} started 1 first 900", f"0.1 begin 1 play 1000: {chosen}",
+            time=1000)
+    for length, chosen in ((2100, "0 0 1060"), (2101, "0 1 1060 was 0 0 1060"), (5000, "0 1 1060 was 0 0 1060")):
+        day(f"two ends alike, the inherited one with an interval of {length}",
+            f"1 inherits 9 key; 9 | 9 play end 3000 interval {length} started 1 first 900; 1 play end 3000",
+            f"0.1 begin 1 play 1000: {chosen}", time=1000)
+    day("two ends alike, an interval not started", "1 key | 1 play end 3000 interval 100; 1 play end 3000; 1 play end 2999 count 1",
+        "0.1 begin 1 play 1000: 0 2 1060", "1.1 begin 1 play 1000: 0 0 1060", "2.1 begin 1 play 1100: 0 1 1160")
+
+
+def neither():
+    """An entry with neither comes last, however late another is over, and before or after other such entries by own and position."""
+    day("neither against an interval", "1 key | 1 play count 9; 1 play interval 500 started 1 first 900",
+        "0.1 begin 1 play 1000: 0 1 1060", "1.1 begin 1 play 1400: 0 0 1460", time=1000)
+    day("neither against an end", "1 inherits 9 key; 9 | 1 play count 9; 9 play end 4000000000",
+        "0.1 begin 1 play 1000: 0 1 1060", "1.1 begin 1 play 4000000000: 0 1 4000000001")
+    day("neither against both", "1 inherits 9 key; 9 | 1 play count 9; 9 play end 4000000000 interval 50000",
+        "0.1 begin 1 play 1000: 0 1 1060", "1.1 begin 1 play 50999: 0 1 51000", "2.1 begin 1 play 51000: 0 0 51060")
+    for length in (1000, 1001, 1002, 1003, 100_000_000):
+        day(f"its own with neither against an interval of {length} from 3999999000",
+            f"1 inherits 9 key; 2 inherits 9 key; 9 | 1 play count 9; 9 play interval {length}",
+            "0.1 begin 2 play 3999999000: 0 1 3999999060", "1.1 begin 1 play 3999999001: 0 1 3999999061")
+    day("limits that are no moment", "1 inherits 9 key; 9 | 9 play count 1; 1 play timed 1 timer 100; 1 play start 5 count 1; "
+        "1 play interval 100 count 1; 9 play interval 100 count 1; 1 play accumulated 60",
+        "0.1 begin 1 play 1000: 0 1 1060", "1.1 begin 1 play 1000: 0 2 1060", "2.1 begin 1 play 1000: 0 3 1060",
+        "3.1 begin 1 play 1000: 0 5 1060", "4.1 begin 1 play 1000: 0 0 1060", "5.1 begin 1 play 1000: 0 4 1060",
+        "6.1 begin 1 play 1000: 13")
+    day("few seconds left are no moment", "1 key | 1 play accumulated 10; 1 play end 4000000000; 1 play accumulated 5",
+        "0.1 begin 1 play 1000: 0 1 1060", "0.2 stop 1001: 0 1 1001", "0.3 begin 1 play 1002: 0 1 1062")
+    day("six entries in the order of the choice", "1 key | 1 play count 1; 1 play count 1 end 1800; "
+        "1 play count 1 interval 700 started 1 first 1000; 1 play count 1 end 2500 interval 400 started 1 first 1000; "
+        "1 play count 1 interval 100; 1 play count 1 end 1600",
+        "0.1 begin 1 play 1000: 0 3 1060 was 0 5 1060", "1.1 begin 1 play 1000: 0 5 1060", "2.1 begin 1 play 1000: 0 2 1060",
+        "3.1 begin 1 play 1000: 0 1 1060", "4.1 begin 1 play 1000: 0 0 1060", "5.1 begin 1 play 1000: 0 4 1060",
+        "6.1 begin 1 play 1000: 13", time=1000)
+    day("no flags before every last moment", "1 inherits 9 key; 9 | 1 play interval 500 started 1 first 900; 1 play end 1100; 9 play",
+        "0.1 begin 1 play 1000: 0 2 1060", "1.1 begin 1 play 1050: 0 2 1110", "2.1 begin 1 play 1399: 0 2 1459", time=1000)
+    day("no flags before neither", "1 inherits 9 key; 9 | 1 play count 5; 1 play interval 500; 9 play",
+        "0.1 begin 1 play 1000: 0 2 1060", "1.1 begin 1 play 1000: 0 2 1060")
+
+
+def not_started():
+    """An interval that is flagged and has not started is no moment; from its start on it is one."""
+    day("not started against an end", "1 key | 1 play interval 10; 1 play end 4000000000",
+        "0.1 begin 1 play 1000: 0 1 1060", "1.1 begin 1 play 1000: 0 1 1060")
+    day("not started against a running one", "1 inherits 9 key; 9 | 1 play interval 10; 9 play interval 100000000 started 1 first 900",
+        "0.1 begin 1 play 1000: 0 1 1060", "1.1 begin 1 play 1000: 0 1 1060", time=1000)
+    day("not started against neither, at the higher position", "1 key | 1 play count 1; 1 play interval 10",
+        "0.1 begin 1 play 1000: 0 0 1060", "1.1 begin 1 play 1001: 0 1 1011", "1.2 begin 1 play 1011: 13")
+    day("not started against neither, at the lower position", "1 key | 1 play interval 10; 1 play count 1",
+        "0.1 begin 1 play 1000: 0 0 1010", "1.1 begin 1 play 1001: 0 0 1010", "1.2 begin 1 play 1010: 0 1 1070")
+    day("not started, its own, against neither, inherited", "1 inherits 9 key; 9 | 9 play count 1; 1 play interval 10",
+        "0.1 begin 1 play 1000: 0 1 1010", "1.1 begin 1 play 1001: 0 1 1010", "2.1 begin 1 play 1010: 0 0 1070")
+    day("two not started, the longer one first", "1 key | 1 play interval 900; 1 play interval 10",
+        "0.1 begin 1 play 1000: 0 0 1060", "1.1 begin 1 play 1001: 0 0 1061", "2.1 begin 1 play 1900: 0 1 1910")
+    day("not started is not started at 0", "1 key | 1 play end 50000; 1 play interval 40000", "0.1 begin 1 play 1000: 0 0 1060",
+        "1.1 begin 1 play 1000: 0 0 1060")
+    day("started at 0", "1 key | 1 play start 1 end 100; 1 play interval 50", "0.1 begin 1 play 0: 0 1 50",
+        "1.1 begin 1 play 1: 0 1 50 was 0 0 61", "2.1 begin 1 play 50: 0 0 101")
+    day("the same begin before and after an interval starts",
+        "1 inherits 9 key; 2 inherits 9 key; 9 | 9 play interval 300; 1 play end 2000",
+        "0.1 begin 1 play 1000: 0 1 1060", "0.2 stop 1001: 0 1 1001", "0.3 begin 1 play 1010: 0 1 1070", "0.4 stop 1010: 0 1 1010",
+        "1.1 begin 2 play 1010: 0 0 1070", "0.5 begin 1 play 1010: 0 0 1070 was 0 1 1070", "0.6 stop 1011: 0 0 1011",
+        "0.7 begin 1 play 1309: 0 0 1310", "0.8 begin 1 play 1310: 0 1 1370", "1.2 begin 2 play 1310: 13")
+    day("a resend in between", "1 inherits 9 key; 2 inherits 9 key; 9 | 1 play end 5000; 9 play interval 500",
+        "0.1 begin 1 play 1000: 0 0 1060", "1.1 begin 2 play 1000: 0 1 1060", "0.1 begin 1 play 1001: 0 0 1060",
+        "0.2 stop 1001: 0 0 1001", "0.3 begin 1 play 1002: 0 1 1062 was 0 0 1062", "1.1 begin 2 play 1003: 0 1 1060",
+        "0.3 begin 1 play 1600: 0 1 1062", "0.4 begin 1 play 1600: 0 0 1660", "0.4 begin 1 play 1000: 0 0 1660")
+    day("an interval started and its use stopped in the same second", "1 inherits 9 key; 2 inherits 9 key; 9 | 1 play end 2000; "
+        "9 play interval 300", "0.1 begin 2 play 1000: 0 1 1060", "0.2 stop 1000: 0 1 1000", "1.1 begin 1 play 1000: 0 1 1060 was 0 0 1060")
+
+
+def not_grantable():
+    """The earliest last moment of those that can be granted: what is spent, not yet in its dates or switched off is passed over."""
+    day("the earlier one is spent", "1 key | 1 play count 1 used_count 1 interval 500 started 1 first 900; 1 play end 5000",
+        "0.1 begin 1 play 1000: 0 1 1060", "1.1 begin 1 play 1001: 0 1 1061", time=1000)
+    day("the earlier one is spent by its first begin", "1 key | 1 play start 1001 end 5000; 1 play count 1 interval 500",
+        "0.1 begin 1 play 1000: 0 1 1060", "1.1 begin 1 play 1001: 0 0 1061")
+    day("a timed count of the earlier one comes back", "1 key | 1 play start 1001 end 5000; 1 play timed 1 timer 30 interval 500",
+        "0.1 begin 1 play 1000: 0 1 1060", "1.1 begin 1 play 1001: 0 0 1061", "0.2 stop 1020: 0 1 1020",
+        "2.1 begin 1 play 1020: 0 1 1080 was 0 0 1080", "3.1 begin 1 play 1021: 0 0 1081")
+    day("seconds of the earlier one come back", "1 key | 1 play start 1001 end 5000; 1 play accumulated 60 interval 500",
+        "0.1 begin 1 play 1000: 0 1 1060", "1.1 begin 1 play 1001: 0 0 1061", "0.2 stop 1020: 0 1 1020",
+        "2.1 begin 1 play 1020: 0 1 1060 was 0 0 1080", "3.1 begin 1 play 1021: 0 0 1081")
+    day("the earlier end is that of a later start", "1 key | 1 play start 1200 end 1300; 1 play interval 500 started 1 first 900",
+        "0.1 begin 1 play 1000: 0 1 1060", "1.1 begin 1 play 1200: 0 0 1260", "2.1 begin 1 play 1301: 0 1 1361", time=1000)
+    day("an interval of 0 is never chosen", "1 key | 1 play interval 0 end 1500; 1 play interval 0 started 1 first 1000; 1 play end 5000; "
+        "1 play interval 900 started 1 first 950", "0.1 begin 1 play 1000: 0 3 1060 was 0 2 1060", "1.1 begin 1 play 1850: 0 2 1910",
+        time=1000)
+    day("the earlier one is switched off", "1 key | 1 play tracked 1 interval 500 started 1 first 900; 1 play end 5000; "
+        "1 play tracked 1 mark 1 interval 2000 started 1 first 900", "0.1 begin 1 play 1000: 0 2 1060 was 0 1 1060", time=1000)
+    day("the earlier one is tracked, the switch on", "1 key | 1 play tracked 1 interval 500 started 1 first 900; 1 play end 5000; "
+        "1 play tracked 1 mark 1 interval 2000 started 1 first 900", "0.1 begin 1 play 1000: 0 0 1060 was 0 1 1060",
+        "0.2 stop 1030: 0 0 1030 -> 1 1 30", time=1000, switch=1)
+
+
+def running_images():
+    """From an image with intervals that have started."""
+    day("two running alike, started one after the other", "1 key | 1 play interval 500 started 1 first 950; "
+        "1 play interval 500 started 1 first 900", "0.1 begin 1 play 1000: 0 1 1060 was 0 0 1060", "1.1 begin 1 play 1400: 0 0 1450",
+        time=1000)
+    day("the interval that started later is over earlier", "1 key | 1 play interval 600 started 1 first 900; "
+        "1 play interval 400 started 1 first 950", "0.1 begin 1 play 1000: 0 1 1060 was 0 0 1060", "1.1 begin 1 play 1350: 0 0 1410",
+        time=1000)
+    day("the interval that started later is over later", "1 key | 1 play interval 500 started 1 first 950; "
+        "1 play interval 600 started 1 first 800", "0.1 begin 1 play 1000: 0 1 1060 was 0 0 1060", "1.1 begin 1 play 1400: 0 0 1450",
+        time=1000)
+    day("an interval over at the book's time", "1 key | 1 play end 5000; 1 play interval 100 started 1 first 900; 1 play count 1",
+        "0.1 begin 1 play 1000: 0 0 1060", time=1000)
+    opened = Player(1, rights.BEGIN, 1, rights.PLAY, 0, 1, 1050, 1, 1, 990, 1050)
+    for version in rights.VERSIONS:
+        day(f"an interval that runs in the image, version {version}", "1 key | 1 play end 5000; 1 play interval 500 started 1 first 900",
+            "0.2 continue 1010: 0 1 1070", "1.1 begin 1 play 1010: 0 1 1070 was 0 0 1070", "2.1 begin 1 play 1399: 0 1 1400",
+            "3.1 begin 1 play 1400: 0 0 1460", time=1000, players=[(0, opened)], version=version)
+
+
+def latest_seconds():
+    """An end in the latest second, 4,000,000,000, and intervals that are over at that time or later."""
+    for swapped in (False, True):
+        place = "the interval at 0" if swapped else "the end at 0"
+        for length, ends_first in ((1000, False), (1001, not swapped), (1002, True), (100_000_000, True)):
+            entries, end, interval = two("1 play start 3999999001 end 4000000000", f"1 play interval {length}", swapped)
+            chosen = f"0 {end} 3999999061" if ends_first else f"0 {interval} 3999999061 was 0 {end} 3999999061"
+            last = interval if swapped and length == 1001 else end
+            day(f"an end of 4000000000, an interval of {length} from 3999999000, {place}", f"1 key | {entries}",
+                f"0.1 begin 1 play 3999999000: 0 {interval} 3999999060", f"1.1 begin 1 play 3999999001: {chosen}",
+                f"2.1 begin 1 play 4000000000: 0 {last} 4000000001")
+    day("two intervals over behind the latest second", "1 key | 1 play interval 90000000 started 1 first 3999999000; "
+        "1 play interval 89999999 started 1 first 3999999000; 1 play count 5",
+        "0.1 begin 1 play 4000000000: 0 1 4000000060 was 0 0 4000000060", time=3_999_999_000)
+
+
 GROUPS = [base, alone, beside, with_dates, from_the_middle, switched_off, none_left, recorded, contents, continued, boot_numbers,
-          last_counters, resent_numbers, record_lengths, older_images]
+          last_counters, resent_numbers, record_lengths, older_images, end_and_interval, both_limits, ties, neither, not_started,
+          not_grantable, running_images, latest_seconds]
 
 
 def written():

@@ -558,7 +558,7 @@ def wild_player(rng, book, player):
 
 def played_book(rng, seed):
     """A book in the middle of a random day of the second program."""
-    kind = rng.choice(("crowd", "wide", "cabins", "going on", "old"))
+    kind = rng.choice(("crowd", "wide", "cabins", "rivals", "going on", "old"))
     image, events, _ = days.make_day(seed, rng.choice((1, 20, 60)), kind)
     _, book = rights.read(image)
     play(book, events)
@@ -660,16 +660,33 @@ def test_numbers(folder):
           and done.err.startswith("note: ") and "`book.py widen` makes the longer ones" in done.err, done)
 
 
-def test_next_number(folder):
-    """The requests in docs/ANSWERS.md, "Which number comes next", get the answers that stand behind them."""
-    page = (ROOT / "docs" / "ANSWERS.md").read_text().split("## Which number comes next\n")[1].split("\n## ")[0]
-    book = "\n".join(re.search("on a book with `(asset .*)` and `(entry .*)`;", page).groups())
-    lines = [line.strip() for line in page.splitlines() if line.startswith("    ")]
+def page_section(title):
+    """A section of docs/ANSWERS.md, and its indented lines."""
+    page = (ROOT / "docs" / "ANSWERS.md").read_text().split(f"## {title}\n")[1].split("\n## ")[0]
+    return page, [line.strip() for line in page.splitlines() if line.startswith("    ")]
+
+
+def check_page_day(folder, name, book, lines):
+    """The requests in these lines, on this book, get the answers that stand behind them."""
     told = "".join(re.search("# ([0-9]+ [0-9]+ [0-9]+)(  |$)", line)[1] + "\n" for line in lines)
     (folder / "rights.rbk").write_bytes(call("make", "-", "-", stdin=book.encode()).out)
     made = call("events", "-", "-", stdin="\n".join(lines).encode())
     done = subprocess.run([RUN], input=made.out, cwd=folder, capture_output=True, timeout=60)
-    check("the page's example of numbers", len(lines) == 11 and made.status == 0 and done.stdout.decode() == told, f"{made} {done}")
+    check(f"the page's example of {name}", made.status == 0 and done.stdout.decode() == told, f"{made} {done}")
+
+
+def test_next_number(folder):
+    page, lines = page_section("Which number comes next")
+    book = "\n".join(re.search("on a book with `(asset .*)` and `(entry .*)`;", page).groups())
+    check("the page's example of numbers has 11 requests", len(lines) == 11, lines)
+    check_page_day(folder, "numbers", book, lines)
+
+
+def test_which_right(folder):
+    _, lines = page_section("Which right a begin uses")
+    book = [line for line in lines if line.startswith(("asset ", "entry "))]
+    check("the page's example of the choice has 5 lines of a book and 7 requests", (len(book), len(lines)) == (5, 12), lines)
+    check_page_day(folder, "the choice", "\n".join(book), lines[5:])
 
 
 def shortened(events):
@@ -1027,6 +1044,7 @@ def test_why_words(folder):
 asset 1 key, inherits 9
 asset 2 key
 asset 3 key
+asset 4 key
 asset 7 inherits 9
 asset 9 parent
 entry 0: object 1, asset 9, play, count 2, used count 2
@@ -1043,6 +1061,10 @@ entry 10: object 3, asset 1, execute, interval 0
 entry 11: object 3, asset 1, execute, interval 0, first 1000, count 5, used count 5
 entry 12: object 4, asset 2, display, tracked, count 1, used count 1
 entry 13: object 4, asset 2, display, tracked, timed value 30
+entry 14: object 5, asset 4, play, end 9000
+entry 15: object 5, asset 4, play, interval 1h, first 1000
+entry 16: object 5, asset 4, play, end 20000, interval 1h, first 999
+entry 17: object 5, asset 4, play, interval 1min
 player 0: number 1, begin 1 play, granted 6 1060, open 6 1000 1060
 player 1: number 18446744073709551615, stop, refused 14
 """)
@@ -1078,6 +1100,27 @@ Player 3 asks to display asset 2 at 1970-01-01 00:17:39 (1059), UTC, as asked.
 The answer would be 43, refused: metering is off, and what is left for it is tracked and has no mark.
   entry 12 (its own, rights object 4): count: 1 of 1 used; metering is off, and it is tracked without a mark
   entry 13 (its own, rights object 4): metering is off, and it is tracked without a mark
+"""), ((3, 4, "play", "--at=1059"), """\
+Player 3 asks to play asset 4 at 1970-01-01 00:17:39 (1059), UTC, as asked.
+The answer would be 0, granted by entry 16 until 1970-01-01 00:18:39 (1119).
+  entry 14 (its own, rights object 5): can be granted; entry 16 goes first
+  entry 15 (its own, rights object 5): can be granted; entry 16 goes first
+  entry 16 (its own, rights object 5): can be granted; would be chosen
+  entry 17 (its own, rights object 5): can be granted; entry 16 goes first
+"""), ((3, 4, "play", "--at=4599"), """\
+Player 3 asks to play asset 4 at 1970-01-01 01:16:39 (4599), UTC, as asked.
+The answer would be 0, granted by entry 15 until 1970-01-01 01:16:40 (4600).
+  entry 14 (its own, rights object 5): can be granted; entry 15 goes first
+  entry 15 (its own, rights object 5): can be granted; would be chosen
+  entry 16 (its own, rights object 5): interval over since 1970-01-01 01:16:39
+  entry 17 (its own, rights object 5): can be granted; entry 15 goes first
+"""), ((3, 4, "play", "--at=9000"), """\
+Player 3 asks to play asset 4 at 1970-01-01 02:30:00 (9000), UTC, as asked.
+The answer would be 0, granted by entry 14 until 1970-01-01 02:30:01 (9001).
+  entry 14 (its own, rights object 5): can be granted; would be chosen
+  entry 15 (its own, rights object 5): interval over since 1970-01-01 01:16:40
+  entry 16 (its own, rights object 5): interval over since 1970-01-01 01:16:39
+  entry 17 (its own, rights object 5): can be granted; entry 14 goes first
 """), ((3, 3, "play", "--at=1059"), """\
 Player 3 asks to play asset 3 at 1970-01-01 00:17:39 (1059), UTC, as asked.
 The answer would be 12, refused: the book has no entry of this kind for the asset: it has none of any kind.
@@ -1616,7 +1659,7 @@ def main():
     if not RUN.exists():
         sys.exit(f"there is no {RUN}: `rt check run` makes it")
     parts = [(test_lines,), (test_inputs,), (test_forgiving,), (test_times,), (test_files,), (test_streams,),
-             (test_round_trips, how_many), (test_older,), (test_numbers,), (test_next_number,), (test_widen,),
+             (test_round_trips, how_many), (test_older,), (test_numbers,), (test_next_number,), (test_which_right,), (test_widen,),
              (test_diff, how_many),
              (test_left, how_many), (test_left_words,),
              (test_why, how_many // 3), (test_why_words,),

@@ -224,8 +224,7 @@ pub fn answer_block(
                                     at: 64,
                                     rank: Rank {
                                         flags: 2,
-                                        end: 0,
-                                        fresh: 0,
+                                        last: 0,
                                         inherited: 0,
                                     },
                                 };

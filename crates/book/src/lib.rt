@@ -171,8 +171,7 @@ pub enum Gate {
 // What entries are ordered by, field by field: the smaller number comes first.
 pub struct Rank {
     pub flags: u8,
-    pub end: u64,
-    pub fresh: u8,
+    pub last: u64,
     pub inherited: u8,
 }
 

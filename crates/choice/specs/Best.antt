@@ -25,7 +25,7 @@ position (chosen i) = i
 
 -- a rank after that of every entry
 abbrev pub lastRank : Rank
-lastRank = record { flags = 2; end = 0; fresh = 0; inherited = 0 }
+lastRank = record { flags = 2; last = 0; inherited = 0 }
 
 abbrev pub rankChosen : List Entry → ℕ → Choice → Rank
 rankChosen es asset nobody = lastRank

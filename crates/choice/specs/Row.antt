@@ -1,7 +1,7 @@
 -- What the choice needs to know of an entry, as a row: a turn of the choice on a row is a turn on its entry.
 use Prim.Native.Nat.{ℕ, _+_, _<_, min}
 use mathlib.Core.Path.{_≡_, refl, sym, ap, _∙_}
-use mathlib.Core.Bool.{Bool, true, false, not, _&&_, _||_, cond, Bool·not-not, and-true, and-false}
+use mathlib.Core.Bool.{Bool, true, false, not, _&&_, _||_, cond, Bool·not-not, and-true, and-false, false≢true}
 use mathlib.Core.List.{List, [], _∷_, _++_}
 use native.Mathlib.Omega.{arith}
 use native.Mathlib.Nat.{add-zero}
@@ -15,7 +15,7 @@ use Rattle.book.specs.declared.Meters.{Meters}
 use Rattle.model.specs.Book.{flagged}
 use Rattle.model.specs.Book.{countFlag, timedFlag, startFlag, endFlag, intervalFlag, accumulatedFlag}
 use Rattle.model.specs.Meters.{where-flagged, isStarted}
-use Rattle.model.specs.Choice.{noEnd, own, suitable, fails, groundsOf, grantable, switchOnly, rankOf, ranksBefore}
+use Rattle.model.specs.Choice.{noEnd, own, suitable, fails, groundsOf, grantable, switchOnly, lastMoment, rankOf, ranksBefore}
 use Rattle.model.proofs.Ledger.Facts.{not-positive}
 use Rattle.numbers.proofs.Tests.{on-test, on-same, none-row}
 use Rattle.book.specs.declared.Rank.{Rank}
@@ -33,9 +33,7 @@ spent l m =
 
 -- the time from which an entry is no longer grantable; `noEnd` if there is none, 0 if it is spent
 unfoldable pub windowOf : Limits → Meters → ℕ
-windowOf l m =
-    cond (spent l m) 0
-    (min (cond (flagged endFlag l) (l .end + 1) noEnd) (cond (flagged intervalFlag l && isStarted m) (m .first + l .interval) noEnd))
+windowOf l m = cond (spent l m) 0 (lastMoment l m)
 
 -- the time from which an entry is grantable
 unfoldable pub startOf : Limits → ℕ
@@ -46,10 +44,8 @@ rowOf l m = record {
   asset = l .asset;
   kind = l .kind;
   flags = one (not (eqb (l .flags) 0));
-  fresh = one (not (isStarted m));
   start = startOf l;
   window = windowOf l m;
-  end = cond (flagged endFlag l) (l .end) noEnd;
   guarded = eqb (l .tracked) 1 && not (eqb (l .mark) 1);
 }
 
@@ -59,10 +55,8 @@ refreshedRow l m row = record {
   asset = row .asset;
   kind = row .kind;
   flags = row .flags;
-  fresh = one (not (isStarted m));
   start = row .start;
   window = windowOf l m;
-  end = row .end;
   guarded = row .guarded;
 }
 
@@ -70,12 +64,11 @@ pub row-refreshed : (l : Limits) (m n : Meters) → refreshedRow l n (rowOf l m)
 unfolding rowOf
 row-refreshed l m n = refl
 
--- the rank of the row's entry, as the code holds it
+-- the rank of the row's entry, if the row is open
 abbrev pub rowRank : ℕ → Row → Rank
 rowRank asset row = record {
   flags = row .flags;
-  end = row .end;
-  fresh = row .fresh;
+  last = row .window;
   inherited = one (not (eqb (row .asset) asset));
 }
 
@@ -211,7 +204,7 @@ barred-is ask l m = go (eqb (l .tracked) 1) (eqb (l .mark) 1) (eqb (ask .switch)
 -- from the start until before the window ends, no other ground stands
 pub window-open : (ask : Ask) (l : Limits) (m : Meters) → ask .time < noEnd
     → (leb (startOf l) (ask .time) && ltb (ask .time) (windowOf l m)) ≡ eqb (howMany (others (groundsOf ask l m))) 0
-unfolding startOf windowOf spent groundsOf
+unfolding startOf windowOf lastMoment spent groundsOf
 window-open ask l m h =
     let g = groundsOf ask l m in
     rw (
@@ -228,6 +221,20 @@ window-open ask l m h =
     (ordered (g .countspent) (g .timedspent) (g .beforestart) (g .afterend) (g .intervalover) (g .secondsspent) (g .intervalzero)
     ∙ none-row true (others g))
 
+-- the window of a row that is open is the entry's last moment
+open-last : (ask : Ask) (l : Limits) (m : Meters) → rowOpen ask (rowOf l m) ≡ true → windowOf l m ≡ lastMoment l m
+unfolding rowOf windowOf
+open-last ask l m e =
+    on-test (spent l m)
+    (λ q. absurd (false≢true (sym (rw (q, le-ltb (ask .time) 0 (omega arith), and-false (leb (startOf l) (ask .time)))) ∙ e)))
+    (λ q. rw q refl)
+
+-- only an open row is taken, so what its rank is otherwise does not matter
+open-rank : (o z : Bool) (r s held : Rank) (f : Rank → Best) (x : Best) → (o ≡ true → r ≡ s)
+    → cond (ranksBefore r held && (o && z)) (f r) x ≡ cond (ranksBefore s held && (o && z)) (f s) x
+open-rank true z r s held f x h = ap (λ (y : Rank). cond (ranksBefore y held && z) (f y) x) (h refl)
+open-rank false z r s held f x h = rw (and-false (ranksBefore r held), and-false (ranksBefore s held)) refl
+
 pub row-considered :
     (asset parent kind : ℕ) (ask : Ask) (i : ℕ) (l : Limits) (m : Meters) (best : Best) →
     ask .time < noEnd →
@@ -235,4 +242,10 @@ pub row-considered :
 unfolding rowConsidered rowOf considered rankOf suitable own grantable switchOnly
 row-considered asset parent kind ask i l m best h =
     let g = groundsOf ask l m in
-    rw (window-open ask l m h, barred-is ask l m, none-last (others g) (g .switchoff), only-last (others g) (g .switchoff)) refl
+    let row = rowOf l m in
+    ap (λ (x : Best). cond (rowSuits asset parent kind row) x best)
+    (open-rank (rowOpen ask row) (not (rowBarred ask row)) (rowRank asset row) (rankOf asset l m) (best .rank)
+    (λ r. record { suits = true; switched = best .switched; at = i; rank = r })
+    (record { suits = true; switched = best .switched || (rowOpen ask row && rowBarred ask row); at = best .at; rank = best .rank })
+    (λ e. λ k. record { flags = row .flags; last = open-last ask l m e k; inherited = one (not (eqb (l .asset) asset)) }))
+    ∙ rw (window-open ask l m h, barred-is ask l m, none-last (others g) (g .switchoff), only-last (others g) (g .switchoff)) refl

@@ -4,10 +4,8 @@
 // A loop over the entries keeps the best so far. It considers one entry per turn, through a row that holds what the choice needs to
 // know of it.
 ghost use mathlib.Core.Path.{_≡_};
-ghost use mathlib.Core.Bool.{cond};
 ghost use Rattle.choice.specs.Reach.{tableOf, foundIn, reachIn};
 ghost use Prim.Native.Nat.{min};
-ghost use Rattle.model.specs.Choice.{noEnd};
 ghost use Rattle.choice.specs.Best.{bestAfter};
 ghost use Rattle.choice.specs.Row.{windowOf, rowOf, refreshedRow, rowOpen, rowConsidered};
 use book::Ask;
@@ -15,14 +13,13 @@ use book::Asset;
 use book::Entry;
 use book::Limits;
 use book::Meters;
-use book::NO_END;
 use book::Rank;
 use book::at_most_64;
-use numbers::min_wide;
 use numbers::one;
 use numbers::pick16;
+use numbers::pick64;
 use rules::flags_of;
-use rules::rank_of;
+use rules::last_moment;
 use rules::ranks_before;
 use rules::when;
 
@@ -95,61 +92,43 @@ pub struct Best {
     pub rank: Rank,
 }
 
-// Flags, end and fresh are from the entry's rank; whether it is inherited depends on the asset asked for.
-// The entry is grantable from start (0 if none is flagged) until before window (0 if a count or the seconds are spent, or the interval
-// is 0); if it is guarded, only with the switch on.
+// The entry is grantable from start (0 if none is flagged) until before window (its last moment, or 0 if a count or the seconds are
+// spent, or the interval is 0); if it is guarded, only with the switch on. Flags and window are the rank of an entry that is grantable;
+// whether it is inherited depends on the asset asked for.
 pub struct Row {
     pub asset: u16,
     pub kind: u8,
     pub flags: u8,
-    pub fresh: u8,
     pub guarded: bool,
     pub start: u32,
     pub window: u64,
-    pub end: u64,
 }
 
-// The bound if it applies, otherwise one later than any time.
-fn bound(w: bool, v: u64) -> u64
-    ensures { λ r. ⌜ r ≡ cond w v noEnd ⌝ }
-{
-    if w { v } else { NO_END }
-}
-
-// Rules out: end taken as excluded, a limit tested without its flag, an interval that has not started, an interval of 0 left open.
+// Rules out: a limit tested without its flag, a limit that is used up left open, an interval of 0 left open.
 fn window_of(l: Limits, m: Meters) -> u64
     ensures { λ r. ⌜ r ≡ windowOf l m ⌝ }
 {
     let f = flags_of(l);
-    let first = m.first as u64;
-    let interval = l.interval as u64;
-    let due = first + interval;
-    let last = l.end as u64;
-    let end = last + 1;
     let spent = (f.count & (l.count <= m.count))
         | (f.timed & (l.timed <= m.timed))
         | (f.accumulated & (l.accumulated <= m.seconds))
         | (f.interval & (l.interval == 0));
-    let w = min_wide(bound(f.end, end), bound(f.interval & (m.started == 1), due));
-    if spent { 0 } else { w }
+    pick64(spent, 0, last_moment(l, m))
 }
 
 // Rules out: a window that closes at end, an open row where a count is spent.
 pub fn row_of(l: Limits, m: Meters) -> Row
     ensures { λ r. ⌜ r ≡ rowOf l m ⌝ }
 {
-    let r = rank_of(l, m, l.asset);
     let f = flags_of(l);
     let start = when(f.start, l.start);
     let window = window_of(l, m);
     Row {
         asset: l.asset,
         kind: l.kind,
-        flags: r.flags,
-        fresh: r.fresh,
+        flags: one(!(l.flags == 0)),
         start: start,
         window: window,
-        end: r.end,
         guarded: (l.tracked == 1) & !(l.mark == 1),
     }
 }
@@ -160,7 +139,6 @@ pub fn refreshed(row: Row, l: Limits, m: Meters) -> Row
     ensures { λ r. ⌜ r ≡ refreshedRow l m row ⌝ }
 {
     let mut r = row;
-    r.fresh = one(!(m.started == 1));
     r.window = window_of(l, m);
     r
 }
@@ -213,8 +191,7 @@ pub fn consider_row(
     }
     let rank = Rank {
         flags: row.flags,
-        end: row.end,
-        fresh: row.fresh,
+        last: row.window,
         inherited: one(!(row.asset == asset)),
     };
     if !ranks_before(rank, held) {
@@ -244,8 +221,7 @@ pub fn chosen(es: [Entry; 64], count: u8, asset: u16, parent: u16, kind: u8, ask
         at: 64,
         rank: Rank {
             flags: 2,
-            end: 0,
-            fresh: 0,
+            last: 0,
             inherited: 0,
         },
     };

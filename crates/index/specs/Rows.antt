@@ -16,7 +16,7 @@ rowOfEntry e = rowOf (e .limits) (e .meters)
 
 -- what a position without a row reads as
 abbrev pub noRow : Row
-noRow = record { asset = 0; kind = 0; flags = 0; fresh = 0; start = 0; window = 0; end = 0; guarded = false }
+noRow = record { asset = 0; kind = 0; flags = 0; start = 0; window = 0; guarded = false }
 
 pub row-at : (es : List Entry) (k : ℕ) → k < length es → getD (map rowOfEntry es) k noRow ≡ rowOf (limitsAt es k) (metersAt es k)
 row-at es k h = mapped-at rowOfEntry es k noEntry noRow h

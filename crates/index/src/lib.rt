@@ -30,10 +30,8 @@ pub fn rows_of(es: [Entry; 64]) -> [Row; 64]
         asset: 0,
         kind: 0,
         flags: 0,
-        fresh: 0,
         start: 0,
         window: 0,
-        end: 0,
         guarded: false,
     }; 64];
     let mut i: usize = 0;

@@ -5,6 +5,7 @@ pub mod Cases
 pub mod BetweenRules
 pub mod BeginCodes
 pub mod ZeroLimits
+pub mod LastMoments
 pub mod Report
 pub mod AnswerCodes
 pub mod Printed

@@ -102,18 +102,23 @@ switchOnly ask l m = groundsOf ask l m .switchoff && eqb (howMany (groundList (g
 
 -- ## The choice
 
--- later than any end
+-- later than any last moment
 abbrev pub noEnd : ℕ
 noEnd = 4294967296
 
--- "first by: (i) no flags; (ii) earlier end, none last; (iii) interval already started; (iv) own before inherited":
--- numbers in that order, the smaller goes first
+-- Order 6 of document 02: "last moment, which is the least of end + 1 and, if started, first + interval; an entry with neither comes
+-- last"
+unfoldable pub lastMoment : Limits → Meters → ℕ
+lastMoment l m =
+    min (cond (flagged endFlag l) (l .end + 1) noEnd) (cond (flagged intervalFlag l && isStarted m) (m .first + l .interval) noEnd)
+
+-- "first by: (i) no flags; (ii) earlier end, none last; (iii) interval already started; (iv) own before inherited", where by order 6
+-- "(ii) and (iii) give way to one: earlier last moment": numbers in that order, the smaller goes first
 -- the rank of an entry when `asset` is asked for
 unfoldable pub rankOf : ℕ → Limits → Meters → Rank
 rankOf asset l m = record {
   flags = one (not (eqb (l .flags) 0));
-  end = cond (flagged endFlag l) (l .end) noEnd;
-  fresh = one (not (isStarted m));
+  last = lastMoment l m;
   inherited = one (not (own asset l));
 }
 
@@ -122,11 +127,9 @@ unfoldable pub ranksBefore : Rank → Rank → Bool
 ranksBefore a b =
     ltb (a .flags) (b .flags)
     || eqb (a .flags) (b .flags)
-    && (ltb (a .end) (b .end)
-    || eqb (a .end) (b .end)
-    && (ltb (a .fresh) (b .fresh)
-    || eqb (a .fresh) (b .fresh)
-    && ltb (a .inherited) (b .inherited)))
+    && (ltb (a .last) (b .last)
+    || eqb (a .last) (b .last)
+    && ltb (a .inherited) (b .inherited))
 
 -- the entry chosen, or nobody
 pub data Choice : Type 0 where

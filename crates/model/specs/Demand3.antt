@@ -223,29 +223,41 @@ isSome (some c) = true
 abbrev pub running : List Use → ℕ → Limits → Bool
 running us i l = flagged intervalFlag l && isSome (earliest i us)
 
--- (i) and (ii) for two entries
+-- (i) for two entries
 abbrev pub SameFlags : Limits → Limits → Type 0
 SameFlags x y = x .flags ≡ 0 ↔ y .flags ≡ 0
 
-abbrev pub EarlierEnd : Limits → Limits → Type 0
-EarlierEnd x y = (flagged endFlag x ≡ true) × ((flagged endFlag y ≡ false) ⊎ (x .end < y .end))
+-- Order 6 of document 02: "end + 1 and, if started, first + interval", for entry i by the ledger
+pub data Moment (us : List Use) (i : ℕ) (l : Limits) (x : ℕ) : Type 0 where
+  at-end : flagged endFlag l ≡ true → x ≡ l .end + 1 → Moment us i l x
+  at-interval : (c : ℕ) → flagged intervalFlag l ≡ true → earliest i us ≡ some c → x ≡ c + l .interval → Moment us i l x
 
-abbrev pub SameEnd : Limits → Limits → Type 0
-SameEnd x y = ((flagged endFlag x ≡ false) × (flagged endFlag y ≡ false))
-    ⊎ ((flagged endFlag x ≡ true) × (flagged endFlag y ≡ true) × (x .end ≡ y .end))
+-- "last moment, which is the least of" these
+pub record LastMoment (us : List Use) (i : ℕ) (l : Limits) (x : ℕ) : Type 0 where
+  pub listed : Moment us i l x
+  pub least : (y : ℕ) → Moment us i l y → x ≤ y
 
--- Entry i goes before entry j "by: (i) no flags; (ii) earlier end, none last; (iii) interval already started; (iv) own before inherited;
--- (v) lower position"
+-- "an entry with neither"
+abbrev pub NoMoment : List Use → ℕ → Limits → Type 0
+NoMoment us i l = (x : ℕ) → Moment us i l x → ⊥
+
+-- "earlier last moment ...; an entry with neither comes last"
+pub data EarlierMoment (us : List Use) (i j : ℕ) (x y : Limits) : Type 0 where
+  only-first : (a : ℕ) → LastMoment us i x a → NoMoment us j y → EarlierMoment us i j x y
+  both-sooner : (a b : ℕ) → LastMoment us i x a → LastMoment us j y b → a < b → EarlierMoment us i j x y
+
+pub data SameMoment (us : List Use) (i j : ℕ) (x y : Limits) : Type 0 where
+  neither : NoMoment us i x → NoMoment us j y → SameMoment us i j x y
+  both-same : (a : ℕ) → LastMoment us i x a → LastMoment us j y a → SameMoment us i j x y
+
+-- Entry i goes before entry j "by: (i) no flags; ... (iv) own before inherited; (v) lower position", with "earlier last moment" after (i)
 pub data Precedes (es : List Entry) (us : List Use) (asset i j : ℕ) : Type 0 where
   by-flags : limitsAt es i .flags ≡ 0 → (limitsAt es j .flags ≡ 0 → ⊥) → Precedes es us asset i j
-  by-end : SameFlags (limitsAt es i) (limitsAt es j) → EarlierEnd (limitsAt es i) (limitsAt es j) → Precedes es us asset i j
-  by-start : SameFlags (limitsAt es i) (limitsAt es j) → SameEnd (limitsAt es i) (limitsAt es j)
-      → running us i (limitsAt es i) ≡ true → running us j (limitsAt es j) ≡ false → Precedes es us asset i j
-  by-owner : SameFlags (limitsAt es i) (limitsAt es j) → SameEnd (limitsAt es i) (limitsAt es j)
-      → running us i (limitsAt es i) ≡ running us j (limitsAt es j)
+  by-moment : SameFlags (limitsAt es i) (limitsAt es j) → EarlierMoment us i j (limitsAt es i) (limitsAt es j)
+      → Precedes es us asset i j
+  by-owner : SameFlags (limitsAt es i) (limitsAt es j) → SameMoment us i j (limitsAt es i) (limitsAt es j)
       → limitsAt es i .asset ≡ asset → (limitsAt es j .asset ≡ asset → ⊥) → Precedes es us asset i j
-  by-position : SameFlags (limitsAt es i) (limitsAt es j) → SameEnd (limitsAt es i) (limitsAt es j)
-      → running us i (limitsAt es i) ≡ running us j (limitsAt es j)
+  by-position : SameFlags (limitsAt es i) (limitsAt es j) → SameMoment us i j (limitsAt es i) (limitsAt es j)
       → (limitsAt es i .asset ≡ asset ↔ limitsAt es j .asset ≡ asset) → i < j → Precedes es us asset i j
 
 -- the times of which until is the least: "t + 60, end + 1, first + interval (first is t if not started), t + unused seconds",

@@ -9,7 +9,7 @@ ghost use Rattle.model.specs.Book.{grantLength, momentary};
 ghost use Rattle.model.specs.Record.{kindNumber};
 ghost use Rattle.model.specs.Gate.{sameRequest, inLine, gate};
 ghost use Rattle.model.specs.Step.{noted};
-ghost use Rattle.model.specs.Choice.{groundsOf, grantable, rankOf, ranksBefore, cap, leastUntil};
+ghost use Rattle.model.specs.Choice.{groundsOf, grantable, lastMoment, ranksBefore, cap, leastUntil};
 ghost use Rattle.model.specs.Meters.{where-flagged};
 ghost use Rattle.rules.specs.Codes.{beginCode};
 ghost use Rattle.rules.specs.Line.{outOfLine};
@@ -28,7 +28,6 @@ use book::NO_END;
 use book::Rank;
 use book::Request;
 use numbers::min_wide;
-use numbers::one;
 use numbers::pick32;
 use numbers::pick64;
 use numbers::saturating_sub;
@@ -240,32 +239,32 @@ pub fn grantable(l: Limits, m: Meters, ask: Ask) -> bool
         & !g.switchoff
 }
 
-// Rules out: an end that is not flagged, fresh and inherited swapped.
-pub fn rank_of(l: Limits, m: Meters, asset: u16) -> Rank
-    ensures { λ r. ⌜ r ≡ rankOf asset l m ⌝ }
+// The smaller of end + 1 and, if the interval has started, first + interval; NO_END if there is neither.
+// Rules out: end for end + 1, an end that is not flagged, an interval that has not started, the larger of the two.
+pub fn last_moment(l: Limits, m: Meters) -> u64
+    ensures { λ r. ⌜ r ≡ lastMoment l m ⌝ }
 {
     let f = flags_of(l);
+    let first = m.first as u64;
+    let interval = l.interval as u64;
+    let due = first + interval;
     let end = l.end as u64;
-    Rank {
-        flags: one(!(l.flags == 0)),
-        end: pick64(f.end, end, NO_END),
-        fresh: one(!(m.started == 1)),
-        inherited: one(!(l.asset == asset)),
-    }
+    let over = end + 1;
+    min_wide(
+        pick64(f.end, over, NO_END),
+        pick64(f.interval & (m.started == 1), due, NO_END),
+    )
 }
 
-// Rules out: own after inherited, a later end first, fields compared in another order.
+// Rules out: own after inherited, a later last moment first, fields compared in another order.
 pub fn ranks_before(a: Rank, b: Rank) -> bool
     ensures { λ r. ⌜ r ≡ ranksBefore a b ⌝ }
 {
     if !(a.flags == b.flags) {
         return a.flags < b.flags;
     }
-    if !(a.end == b.end) {
-        return a.end < b.end;
-    }
-    if !(a.fresh == b.fresh) {
-        return a.fresh < b.fresh;
+    if !(a.last == b.last) {
+        return a.last < b.last;
     }
     a.inherited < b.inherited
 }

@@ -17,10 +17,10 @@ use Rattle.choice.proofs.consider_row.Tie as tie
 ranks-so :
     (asset : ℕ) (row : Row) (held : Rank) (inherited : ℕ) (w : Bool) →
     inherited ≡ one (not (eqb (row .asset) asset)) →
-    w ≡ ranksBefore (record { flags = row .flags; end = row .end; fresh = row .fresh; inherited = inherited }) held →
+    w ≡ ranksBefore (record { flags = row .flags; last = row .window; inherited = inherited }) held →
     ranksBefore (rowRank asset row) held ≡ w
 ranks-so asset row held inherited w e r =
-    ap (λ (x : ℕ). ranksBefore (record { flags = row .flags; end = row .end; fresh = row .fresh; inherited = x }) held) (sym e) ∙ sym r
+    ap (λ (x : ℕ). ranksBefore (record { flags = row .flags; last = row .window; inherited = x }) held) (sym e) ∙ sym r
 
 returns : tie.Need-returns
 unfolding rowConsidered

@@ -6,13 +6,9 @@ use lib.Dec.{eqb}
 use Rattle.model.specs.Meters.{where-flagged}
 use Rattle.rules.specs.declared.Flags.{Flags}
 use Rattle.rules.specs.Rules.{flagsOf}
-use Rattle.model.specs.Choice.{rankOf}
 use borrow.Author.Needs.{needs}
 use Rattle.choice.proofs.row_of.Statement.{statement}
 use Rattle.choice.proofs.row_of.Tie as tie
-
-rank-of-requires : tie.Need-rank-of-requires
-rank-of-requires c κs = search needs
 
 flags-of-requires : tie.Need-flags-of-requires
 flags-of-requires c κs = search needs
@@ -23,24 +19,24 @@ when-requires c κs = search needs
 window-of-requires : tie.Need-window-of-requires
 window-of-requires c κs = search needs
 
+one-requires : tie.Need-one-requires
+one-requires c κs = search needs
+
 returns : tie.Need-returns
-unfolding rowOf startOf rankOf flagsOf
+unfolding rowOf startOf flagsOf
 returns c =
-    let l = c .before .before .before .before .before .before .args .l in
-    let r = c .before .before .before .before .before .rank-of .ensures in
+    let l = c .before .before .before .before .before .before .before .args .l in
     λ i. record {
       asset = l .asset;
       kind = l .kind;
-      flags = r i .flags;
-      fresh = r i .fresh;
-      start = (c .before .before .before .when .ensures ∙ ap (λ (f : Flags). where-flagged (f .start) (l .start))
-          (c .before .before .before .before .flags-of .ensures)) i;
-      window = c .before .before .window-of .ensures i;
-      end = r i .end;
+      flags = c .before .before .one .ensures i;
+      start = (c .before .before .before .before .before .when .ensures ∙ ap (λ (f : Flags). where-flagged (f .start) (l .start))
+          (c .before .before .before .before .before .before .flags-of .ensures)) i;
+      window = c .before .before .before .before .window-of .ensures i;
       guarded = eqb (l .tracked) 1 && not (eqb (l .mark) 1);
     }
 
 pub row-of-spec : {M : Type 1} → statement M
 row-of-spec =
     tie.close
-    (tie.spec rank-of-requires flags-of-requires when-requires window-of-requires returns)
+    (tie.spec flags-of-requires when-requires window-of-requires one-requires returns)

@@ -1,10 +1,11 @@
 -- The order of the choice: the entry chosen goes before every other that is allowed, by the statement's words.
 -- Each rank becomes one number, and the choice takes the least; the statement's words are read off two such numbers.
-use mathlib.Core.Path.{_≡_, refl, sym, _∙_}
-use mathlib.Core.Logic.{_↔_, _⊎_, inl, inr}
-use Prim.Native.Nat.{ℕ, zero, suc, _+_, _*_, _≤_, _<_}
-use mathlib.Core.Bool.{Bool, true, false, not, cond}
+use mathlib.Core.Path.{_≡_, refl, sym, ap, subst, _∙_}
+use mathlib.Core.Logic.{_↔_}
+use Prim.Native.Nat.{ℕ, zero, suc, _+_, _*_, _≤_, _<_, min}
+use mathlib.Core.Bool.{Bool, true, false, not, _&&_, cond}
 use mathlib.Core.List.{List}
+use mathlib.Core.Option.{Option, none, some}
 use lib.Dec.{ltb, eqb}
 use native.Mathlib.Omega.{arith}
 use borrow.Author.Tests.{eqb-true, eqb-false, eq-eqb, ltb-true, ltb-false, lt-ltb, le-ltb}
@@ -12,11 +13,14 @@ use Rattle.numbers.specs.Count.{one}
 use Rattle.book.specs.declared.Limits.{Limits}
 use Rattle.book.specs.declared.Entry.{Entry}
 use Rattle.book.specs.declared.Rank.{Rank}
-use Rattle.model.specs.Book.{limitsAt, flagged}
-use Rattle.model.specs.Choice.{own, noEnd, rankOf, ranksBefore, Choice, nobody, chosen, prefer, chooseOf}
-use Rattle.model.specs.Ledger.{Use}
-use Rattle.model.specs.Demand3.{running, figures, SameFlags, SameEnd, Precedes, by-flags, by-end, by-start, by-owner, by-position}
-use Rattle.model.proofs.Ledger.Facts.{on-test, on-same, clash, one-is}
+use Rattle.model.specs.Book.{limitsAt, latestTime, flagged}
+use Rattle.model.specs.Meters.{where-flagged}
+use Rattle.model.specs.Choice.{own, noEnd, lastMoment, rankOf, ranksBefore, Choice, nobody, chosen, prefer, chooseOf}
+use Rattle.model.specs.Ledger.{Use, earliest}
+use Rattle.model.specs.Demand3.{startOr, isSome, running, figures, SameFlags, Moment, at-end, at-interval, LastMoment, NoMoment}
+use Rattle.model.specs.Demand3.{EarlierMoment, only-first, both-sooner, SameMoment, neither, both-same}
+use Rattle.model.specs.Demand3.{Precedes, by-flags, by-moment, by-owner, by-position}
+use Rattle.model.proofs.Ledger.Facts.{on-test, on-same, clash, and-left, and-right, one-is}
 use Rattle.model.proofs.Ledger.Invariant.{Lawful}
 use Rattle.model.proofs.Ledger.Concrete.{choose-sound, choose-none}
 
@@ -61,118 +65,117 @@ module _ (ok : ℕ → Bool) (first : ℕ → ℕ → Bool) (w : ℕ → ℕ) (b
 
 record Bounded (r : Rank) : Type 0 where
   flags : r .flags ≤ 1
-  end : r .end ≤ noEnd
-  fresh : r .fresh ≤ 1
+  last : r .last ≤ noEnd
   inherited : r .inherited ≤ 1
 
 abbrev weight : Rank → ℕ
-weight r = 17179869188 * r .flags + 4 * r .end + 2 * r .fresh + r .inherited
+weight r = 8589934594 * r .flags + 2 * r .last + r .inherited
 
 ranks-weight : (a b : Rank) → Bounded a → Bounded b → ranksBefore a b ≡ ltb (weight a) (weight b)
 unfolding ranksBefore
 ranks-weight a b x y =
     on-test (ltb (a .flags) (b .flags))
-    (λ q. rw q (sym (lt-ltb (weight a) (weight b) (omega (arith, ltb-true (a .flags) (b .flags) q, x .end, x .fresh, x .inherited)))))
+    (λ q. rw q (sym (lt-ltb (weight a) (weight b) (omega (arith, ltb-true (a .flags) (b .flags) q, x .last, x .inherited)))))
     (λ q. on-test (eqb (a .flags) (b .flags))
-    (λ r. on-test (ltb (a .end) (b .end))
+    (λ r. on-test (ltb (a .last) (b .last))
     (λ s. rw (q, r, s) (sym (lt-ltb (weight a) (weight b) (omega
-    (arith, eqb-true (a .flags) (b .flags) r, ltb-true (a .end) (b .end) s, x .fresh, x .inherited)))))
-    (λ s. on-test (eqb (a .end) (b .end))
-    (λ t. on-test (ltb (a .fresh) (b .fresh))
-    (λ u. rw (q, r, s, t, u) (sym (lt-ltb (weight a) (weight b)
-    (omega (arith, eqb-true (a .flags) (b .flags) r, eqb-true (a .end) (b .end) t, ltb-true (a .fresh) (b .fresh) u, x .inherited)))))
-    (λ u. on-test (eqb (a .fresh) (b .fresh))
-    (λ v. rw (q, r, s, t, u, v)
+    (arith, eqb-true (a .flags) (b .flags) r, ltb-true (a .last) (b .last) s, x .inherited)))))
+    (λ s. on-test (eqb (a .last) (b .last))
+    (λ t. rw (q, r, s, t)
     (on-test (ltb (a .inherited) (b .inherited))
-    (λ z. rw z (sym (lt-ltb (weight a) (weight b) (omega (
-      arith,
-      eqb-true (a .flags) (b .flags) r,
-      eqb-true (a .end) (b .end) t,
-      eqb-true (a .fresh) (b .fresh) v,
-      ltb-true (a .inherited) (b .inherited) z,
-    )))))
-    (λ z. rw z (sym (le-ltb (weight a) (weight b) (omega (
-      arith,
-      eqb-true (a .flags) (b .flags) r,
-      eqb-true (a .end) (b .end) t,
-      eqb-true (a .fresh) (b .fresh) v,
-      ltb-false (a .inherited) (b .inherited) z,
-    )))))))
-    (λ v. rw (q, r, s, t, u, v)
-    (sym (le-ltb (weight a) (weight b) (omega (
-      arith,
-      eqb-true (a .flags) (b .flags) r,
-      eqb-true (a .end) (b .end) t,
-      ltb-false
-          (a .fresh) (b .fresh) u,
-      eqb-false (a .fresh) (b .fresh) v,
-      y .inherited,
-    )))))))
+    (λ z. rw z (sym (lt-ltb (weight a) (weight b) (omega
+    (arith, eqb-true (a .flags) (b .flags) r, eqb-true (a .last) (b .last) t, ltb-true (a .inherited) (b .inherited) z)))))
+    (λ z. rw z (sym (le-ltb (weight a) (weight b) (omega
+    (arith, eqb-true (a .flags) (b .flags) r, eqb-true (a .last) (b .last) t, ltb-false (a .inherited) (b .inherited) z)))))))
     (λ t. rw (q, r, s, t)
     (sym (le-ltb (weight a) (weight b) (omega (
       arith,
       eqb-true (a .flags) (b .flags) r,
-      ltb-false (a .end) (b .end) s,
-      eqb-false
-          (a .end) (b .end) t,
-      y .fresh,
+      ltb-false (a .last) (b .last) s,
+      eqb-false (a .last) (b .last) t,
       y .inherited,
     )))))))
     (λ r. rw (q, r) (sym (le-ltb (weight a) (weight b) (omega
-    (arith, ltb-false (a .flags) (b .flags) q, eqb-false (a .flags) (b .flags) r, y .end, y .fresh, y .inherited))))))
+    (arith, ltb-false (a .flags) (b .flags) q, eqb-false (a .flags) (b .flags) r, y .last, y .inherited))))))
 
 -- the first difference between two ranks, where a's weight is not the larger
 by-rank : {P : Type 0} (a b : Rank) → Bounded a → Bounded b → weight a ≤ weight b → (a .flags < b .flags → P)
-    → (a .flags ≡ b .flags → a .end < b .end → P) → (a .flags ≡ b .flags → a .end ≡ b .end → a .fresh < b .fresh → P)
-    → (a .flags ≡ b .flags → a .end ≡ b .end → a .fresh ≡ b .fresh → a .inherited < b .inherited → P)
-    → (a .flags ≡ b .flags → a .end ≡ b .end → a .fresh ≡ b .fresh → a .inherited ≡ b .inherited → P) → P
-by-rank a b x y h f g k m n =
+    → (a .flags ≡ b .flags → a .last < b .last → P)
+    → (a .flags ≡ b .flags → a .last ≡ b .last → a .inherited < b .inherited → P)
+    → (a .flags ≡ b .flags → a .last ≡ b .last → a .inherited ≡ b .inherited → P) → P
+by-rank a b x y h f g m n =
     on-test (ltb (a .flags) (b .flags))
     (λ q. f (ltb-true (a .flags) (b .flags) q))
     (λ q.
-    let e : a .flags ≡ b .flags = omega (arith, ltb-false (a .flags) (b .flags) q, y .end, y .fresh, y .inherited) in
-    on-test (ltb (a .end) (b .end))
-    (λ r. g e (ltb-true (a .end) (b .end) r))
+    let e : a .flags ≡ b .flags = omega (arith, ltb-false (a .flags) (b .flags) q, y .last, y .inherited) in
+    on-test (ltb (a .last) (b .last))
+    (λ r. g e (ltb-true (a .last) (b .last) r))
     (λ r.
-    let i : a .end ≡ b .end = omega (arith, ltb-false (a .end) (b .end) r, y .fresh, y .inherited) in
-    on-test (ltb (a .fresh) (b .fresh))
-    (λ s. k e i (ltb-true (a .fresh) (b .fresh) s))
-    (λ s.
-    let j : a .fresh ≡ b .fresh = omega (arith, ltb-false (a .fresh) (b .fresh) s, y .inherited) in
+    let i : a .last ≡ b .last = omega (arith, ltb-false (a .last) (b .last) r, y .inherited) in
     on-test (ltb (a .inherited) (b .inherited))
-    (λ t. m e i j (ltb-true (a .inherited) (b .inherited) t))
-    (λ t. n e i j (omega (arith, ltb-false (a .inherited) (b .inherited) t))))))
+    (λ t. m e i (ltb-true (a .inherited) (b .inherited) t))
+    (λ t. n e i (omega (arith, ltb-false (a .inherited) (b .inherited) t)))))
+
+-- ## The last moment
+
+-- the smaller of two moments is one of them
+picked : {P : Type 0} (f g : Bool) (a b : ℕ) → min (cond f a noEnd) (cond g b noEnd) < noEnd
+    → (f ≡ true → min (cond f a noEnd) (cond g b noEnd) ≡ a → P) → (g ≡ true → min (cond f a noEnd) (cond g b noEnd) ≡ b → P) → P
+picked true true a b h x y =
+    on-test (ltb b a) (λ q. y refl (omega (arith, ltb-true b a q))) (λ q. x refl (omega (arith, ltb-false b a q)))
+picked true false a b h x y = x refl (omega arith)
+picked false true a b h x y = y refl (omega arith)
+picked false false a b h x y = absurd (omega arith)
+
+module _ (us : List Use) (i : ℕ) (l : Limits) (lawful : Lawful l) (soon : (c : ℕ) → earliest i us ≡ some c → c ≤ latestTime) where
+  -- the interval's start, by the ledger's figures
+  abbrev begins : ℕ
+  begins = where-flagged (flagged 16 l) (startOr 0 (earliest i us))
+
+  -- the rules' last moment, on the ledger's figures
+  abbrev momentOf : ℕ
+  momentOf = min (cond (flagged 8 l) (l .end + 1) noEnd) (cond (flagged 16 l && running us i l) (begins + l .interval) noEnd)
+
+  moment-early : (x : ℕ) → Moment us i l x → x < noEnd
+  moment-early x (at-end f e) = omega (arith, lawful .end f)
+  moment-early x (at-interval c f s e) = omega (arith, lawful .span f, soon c s)
+
+  moment-least : (x : ℕ) → Moment us i l x → momentOf ≤ x
+  moment-least x (at-end f e) = rw (f, e) (omega arith)
+  moment-least x (at-interval c f s e) = rw (f, s, e) (omega arith)
+
+  moment-most : momentOf ≤ noEnd
+  moment-most = on-test (flagged 8 l) (λ f. rw f (omega (arith, lawful .end f))) (λ f. rw f (omega arith))
+
+  in-interval : (s : Option ℕ) → earliest i us ≡ s → (flagged 16 l && running us i l) ≡ true → momentOf ≡ begins + l .interval
+      → Moment us i l momentOf
+  in-interval none q g e = clash (and-right (flagged 16 l) _ (and-right (flagged 16 l) _ g)) (ap isSome q)
+  in-interval (some c) q g e = let f = and-left (flagged 16 l) _ g in at-interval c f q (e ∙ rw (f, q) refl)
+
+  last-moment : momentOf < noEnd → LastMoment us i l momentOf
+  last-moment h = record {
+    listed =
+        picked (flagged 8 l) (flagged 16 l && running us i l) (l .end + 1) (begins + l .interval) h (λ f e. at-end f e)
+        (λ g e. in-interval (earliest i us) refl g e);
+    least = moment-least;
+  }
+
+  no-moment : noEnd ≤ momentOf → NoMoment us i l
+  no-moment h x m = omega (arith, moment-early x m, moment-least x m)
 
 -- ## From ranks to words
 
--- an entry's rank, where r says whether its interval has started
-abbrev rank : ℕ → Limits → Bool → Rank
-rank asset l r = record {
+-- an entry's rank, with its last moment
+abbrev rank : ℕ → Limits → ℕ → Rank
+rank asset l last = record {
   flags = one (not (eqb (l .flags) 0));
-  end = cond (flagged 8 l) (l .end) noEnd;
-  fresh = one (not r);
+  last = last;
   inherited = one (not (eqb (l .asset) asset));
 }
-
-pub rank-is : (asset T : ℕ) (us : List Use) (i : ℕ) (l : Limits) → rankOf asset l (figures (λ p. T) us i l) ≡ rank asset l (running us i l)
-unfolding rankOf figures own
-rank-is asset T us i l = rw (one-is (running us i l))
 
 one-le : (b : Bool) → one b ≤ 1
 one-le true = omega arith
 one-le false = omega arith
-
-end-le : (f : Bool) (x : ℕ) → (f ≡ true → x < noEnd) → cond f x noEnd ≤ noEnd
-end-le true x h = let z : x < noEnd = h refl in omega arith
-end-le false x h = omega arith
-
-rank-bounded : (asset : ℕ) (l : Limits) (r : Bool) → Lawful l → Bounded (rank asset l r)
-rank-bounded asset l r h = record {
-  flags = one-le (not (eqb (l .flags) 0));
-  end = end-le (flagged 8 l) (l .end) (h .end);
-  fresh = one-le (not r);
-  inherited = one-le (not (eqb (l .asset) asset));
-}
 
 less-on : (a b : Bool) → one (not a) < one (not b) → a ≡ true
 less-on true b h = refl
@@ -190,36 +193,37 @@ one-same true false h = absurd (omega arith)
 one-same false true h = absurd (omega arith)
 one-same false false h = refl
 
-end-less : (f g : Bool) (x y : ℕ) → (g ≡ true → y < noEnd) → cond f x noEnd < cond g y noEnd → (f ≡ true) × ((g ≡ false) ⊎ (x < y))
-end-less true true x y k h = (refl, inr h)
-end-less true false x y k h = (refl, inl refl)
-end-less false true x y k h = let z : y < noEnd = k refl in absurd (omega arith)
-end-less false false x y k h = absurd (omega arith)
-
-end-same : (f g : Bool) (x y : ℕ) → (f ≡ true → x < noEnd) → (g ≡ true → y < noEnd) → cond f x noEnd ≡ cond g y noEnd
-    → ((f ≡ false) × (g ≡ false)) ⊎ ((f ≡ true) × (g ≡ true) × (x ≡ y))
-end-same true true x y j k h = inr (refl, refl, h)
-end-same true false x y j k h = let z : x < noEnd = j refl in absurd (omega arith)
-end-same false true x y j k h = let z : y < noEnd = k refl in absurd (omega arith)
-end-same false false x y j k h = inl (refl, refl)
-
 both-zero : (x y z : ℕ) → eqb x z ≡ eqb y z → (x ≡ z) ↔ (y ≡ z)
 both-zero x y z e = (λ h. eqb-true y z (sym e ∙ eq-eqb x z h), λ h. eqb-true x z (e ∙ eq-eqb y z h))
 
-module _ (es : List Entry) (us : List Use) (asset : ℕ) (lawful : (i : ℕ) → Lawful (limitsAt es i)) where
+module _ (es : List Entry) (us : List Use) (asset : ℕ) (lawful : (i : ℕ) → Lawful (limitsAt es i))
+    (soon : (i c : ℕ) → earliest i us ≡ some c → c ≤ latestTime) where
+  abbrev momentAt : ℕ → ℕ
+  momentAt i = momentOf us i (limitsAt es i) (lawful i) (soon i)
+
+  abbrev rankAt : ℕ → Rank
+  rankAt i = rank asset (limitsAt es i) (momentAt i)
+
   -- the weight of entry i
   abbrev pub weightAt : ℕ → ℕ
-  weightAt i = weight (rank asset (limitsAt es i) (running us i (limitsAt es i)))
+  weightAt i = weight (rankAt i)
 
-  bounded : (i : ℕ) → Bounded (rank asset (limitsAt es i) (running us i (limitsAt es i)))
-  bounded i = rank-bounded asset (limitsAt es i) (running us i (limitsAt es i)) (lawful i)
+  bounded : (i : ℕ) → Bounded (rankAt i)
+  bounded i = record {
+    flags = one-le (not (eqb (limitsAt es i .flags) 0));
+    last = moment-most us i (limitsAt es i) (lawful i) (soon i);
+    inherited = one-le (not (eqb (limitsAt es i .asset) asset));
+  }
+
+  rank-is : (T i : ℕ) → rankOf asset (limitsAt es i) (figures (λ p. T) us i (limitsAt es i)) ≡ rankAt i
+  unfolding rankOf lastMoment figures own
+  rank-is T i = rw (one-is (running us i (limitsAt es i)))
 
   pub before-weight : (T i j : ℕ)
       → ranksBefore (rankOf asset (limitsAt es i) (figures (λ p. T) us i (limitsAt es i)))
       (rankOf asset (limitsAt es j) (figures (λ p. T) us j (limitsAt es j)))
       ≡ ltb (weightAt i) (weightAt j)
-  before-weight T i j = rw (rank-is asset T us i (limitsAt es i), rank-is asset T us j (limitsAt es j))
-      (ranks-weight _ _ (bounded i) (bounded j))
+  before-weight T i j = rw (rank-is T i, rank-is T j) (ranks-weight _ _ (bounded i) (bounded j))
 
   module _ (i j : ℕ) where
     abbrev li : Limits
@@ -231,21 +235,36 @@ module _ (es : List Entry) (us : List Use) (asset : ℕ) (lawful : (i : ℕ) →
     same-flags : one (not (eqb (li .flags) 0)) ≡ one (not (eqb (lj .flags) 0)) → SameFlags li lj
     same-flags e = both-zero (li .flags) (lj .flags) 0 (one-same _ _ e)
 
-    same-end : cond (flagged 8 li) (li .end) noEnd ≡ cond (flagged 8 lj) (lj .end) noEnd → SameEnd li lj
-    same-end e = end-same (flagged 8 li) (flagged 8 lj) (li .end) (lj .end) (lawful i .end) (lawful j .end) e
+    earlier : momentAt i < momentAt j → EarlierMoment us i j li lj
+    earlier h =
+        let near : LastMoment us i li (momentAt i) =
+        last-moment us i li (lawful i) (soon i) (omega (arith, moment-most us j lj (lawful j) (soon j))) in
+        on-test (ltb (momentAt j) noEnd)
+        (λ q. both-sooner (momentAt i) (momentAt j) near
+        (last-moment us j lj (lawful j) (soon j) (ltb-true (momentAt j) noEnd q)) h)
+        (λ q. only-first (momentAt i) near (no-moment us j lj (lawful j) (soon j) (ltb-false (momentAt j) noEnd q)))
+
+    same-moment : momentAt i ≡ momentAt j → SameMoment us i j li lj
+    same-moment e =
+        on-test (ltb (momentAt j) noEnd)
+        (λ q.
+        let k = ltb-true (momentAt j) noEnd q in
+        both-same (momentAt j) (subst (LastMoment us i li) e (last-moment us i li (lawful i) (soon i) (omega arith)))
+        (last-moment us j lj (lawful j) (soon j) k))
+        (λ q.
+        let k = ltb-false (momentAt j) noEnd q in
+        neither (no-moment us i li (lawful i) (soon i) (omega arith)) (no-moment us j lj (lawful j) (soon j) k))
 
     pub precedes : (j ≡ i → ⊥) → Ahead weightAt i j → Precedes es us asset i j
     precedes n h =
-        by-rank (rank asset li (running us i li)) (rank asset lj (running us j lj)) (bounded i) (bounded j) (h .least)
+        by-rank (rankAt i) (rankAt j) (bounded i) (bounded j) (h .least)
         (λ a. by-flags (eqb-true (li .flags) 0 (less-on (eqb (li .flags) 0) (eqb (lj .flags) 0) a))
         (eqb-false (lj .flags) 0 (less-off (eqb (li .flags) 0) (eqb (lj .flags) 0) a)))
-        (λ a b. by-end (same-flags a) (end-less (flagged 8 li) (flagged 8 lj) (li .end) (lj .end) (lawful j .end) b))
-        (λ a b c. by-start (same-flags a) (same-end b) (less-on (running us i li) (running us j lj) c)
-        (less-off (running us i li) (running us j lj) c))
-        (λ a b c d. by-owner (same-flags a) (same-end b) (one-same (running us i li) (running us j lj) c)
+        (λ a b. by-moment (same-flags a) (earlier b))
+        (λ a b d. by-owner (same-flags a) (same-moment b)
         (eqb-true (li .asset) asset (less-on (eqb (li .asset) asset) (eqb (lj .asset) asset) d))
         (eqb-false (lj .asset) asset (less-off (eqb (li .asset) asset) (eqb (lj .asset) asset) d)))
-        (λ a b c d. by-position (same-flags a) (same-end b) (one-same (running us i li) (running us j lj) c)
+        (λ a b d. by-position (same-flags a) (same-moment b)
         (both-zero (li .asset) (lj .asset) asset (one-same (eqb (li .asset) asset) (eqb (lj .asset) asset) d))
         (on-test (ltb j i)
         (λ q. absurd (omega (arith, h .sooner (ltb-true j i q))))

@@ -81,7 +81,7 @@ module _ (s : State) (e : Event) (h : Inv (s .book) (s .account)) (t : Takes s e
   abbrev Idle : Type 0
   Idle = NothingOpen (e .time) (e .player) (s .account .uses)
 
-  taking : gate (B .time) (lastAt (B .players) (e .player)) e ≡ Take
+  pub taking : gate (B .time) (lastAt (B .players) (e .player)) e ≡ Take
   taking = takes-gate B (s .account) e h (t .new) (t .taken)
 
   pub answer-is : (q : Request) → e .request ≡ q → step B e .answer ≡ done q (catalogOf B) F O (asks B e) .answer

@@ -1,7 +1,7 @@
 -- Demand 3 holds of every legal fresh book.
 -- What is left for this file is begins: which of 10 to 13 each is answered, or else which entry and until.
 use mathlib.Core.Path.{_≡_, refl, sym, ap, _∙_, subst, fun-ext}
-use Prim.Native.Nat.{ℕ, _+_}
+use Prim.Native.Nat.{ℕ, _+_, _≤_}
 use mathlib.Core.Bool.{Bool, true, false, not, _&&_, _||_}
 use mathlib.Core.List.{List, [], _∷_, map}
 use mathlib.Core.Option.{Option, none, some}
@@ -23,7 +23,7 @@ use Rattle.book.specs.declared.Kind.{Kind}
 use Rattle.book.specs.declared.Request.the-variants.{Begin}
 use Rattle.book.specs.declared.Decoded.{Decoded}
 use Rattle.model.specs.Report.{Arrival}
-use Rattle.model.specs.Book.{limitsAt, entriesIn, flagged, Legal, Fresh}
+use Rattle.model.specs.Book.{limitsAt, entriesIn, latestTime, flagged, Legal, Fresh}
 use Rattle.model.specs.Record.{kindNumber}
 use Rattle.model.specs.Meters.{where-flagged, isOn}
 use Rattle.model.specs.Choice.{Catalog, catalogOf, usable, parentOf, suitable, fails, groundsOf, groundList, grantable, asks, suits}
@@ -37,14 +37,15 @@ use Rattle.model.specs.Demand3.{ZeroLimit, zero-count, zero-timed, zero-
 use Rattle.model.specs.Demand3.{ForSwitch}
 use Rattle.model.proofs.Ledger.Facts.{on-test, clash, and-left, and-right, and-both, not-positive}
 use Rattle.model.proofs.Ledger.Sums.{all-map}
+use Rattle.model.proofs.Ledger.Figures.{earliest-le}
 use Rattle.model.proofs.Ledger.Concrete.{held-ext, choose-sound, choose-none, none-choose}
 use Rattle.model.proofs.Ledger.WellFormed.{legal-formed, static-self}
 use Rattle.model.proofs.Demand3.Checks.{checked}
-use Rattle.model.proofs.Ledger.Steps.{Inv}
+use Rattle.model.proofs.Ledger.Steps.{Inv, gate-take}
 use Rattle.model.proofs.Demand3.Suitable.{any-sure, sure-any, usable-in, in-usable, suits-to, to-suits}
 use Rattle.model.proofs.Demand3.Choice.{choose-first, weightAt, before-weight, precedes}
 use Rattle.model.proofs.Demand3.Until.{grant-until}
-use Rattle.model.proofs.Demand3.Current.{answer-is, idle-on, on-idle, some-on, on-some, continues, stops}
+use Rattle.model.proofs.Demand3.Current.{taking, answer-is, idle-on, on-idle, some-on, on-some, continues, stops}
 use Rattle.model.proofs.Demand3.History.{fresh-inv, after-inv, after-static, limited, struck-answers, struck-book, filled-limits}
 use Rattle.model.proofs.Demand3.History.{filled-meters, answers-predicted, record-answers, record-final, record-lines}
 use Rattle.model.proofs.Demand3.Gains.{lent-of, gains-of, reported-of}
@@ -290,8 +291,22 @@ module _ (s : State) (e : Event) (h : Inv (s .book) (s .account)) (kind : Kind) 
   out-unable : (j : ℕ) → OutOrSpent e s j → ableAt j ≡ false
   out-unable j o = on-test (ableAt j) (λ q. clash (o .holds) (left-at j q (o .ground))) (λ q. q)
 
-  goes-is : (i j : ℕ) → goesBefore F asset i j ≡ ltb (weightAt (B .entries) (s .account .uses) asset (h .formed .limits) i)
-      (weightAt (B .entries) (s .account .uses) asset (h .formed .limits) j)
+  -- an interval started at a time that an event can have
+  soon : (i c : ℕ) → earliest i (s .account .uses) ≡ some c → c ≤ latestTime
+  soon i c z =
+      let k = gate-take _ _ e (taking s e h t) in
+      omega (
+        arith,
+        k .later,
+        k .early,
+        earliest-le (B .time) i (s .account .uses) c (all-map (λ u w. w .begun) (s .account .uses) (h .held .sound)) z,
+      )
+
+  -- the weight of entry j by the ledger
+  abbrev weighs : ℕ → ℕ
+  weighs j = weightAt (B .entries) (s .account .uses) asset (h .formed .limits) soon j
+
+  goes-is : (i j : ℕ) → goesBefore F asset i j ≡ ltb (weighs i) (weighs j)
   goes-is i j =
       rw (
         filled-limits (e .time) (s .account .uses) 0 (B .entries) i,
@@ -299,7 +314,7 @@ module _ (s : State) (e : Event) (h : Inv (s .book) (s .account)) (kind : Kind) 
         filled-limits (e .time) (s .account .uses) 0 (B .entries) j,
         filled-meters (e .time) (s .account .uses) (B .entries) j,
       )
-      (before-weight (B .entries) (s .account .uses) asset (h .formed .limits) (e .time) i j)
+      (before-weight (B .entries) (s .account .uses) asset (h .formed .limits) soon (e .time) i j)
 
   -- ## None grantable
 
@@ -389,8 +404,8 @@ module _ (s : State) (e : Event) (h : Inv (s .book) (s .account)) (kind : Kind) 
           suits = v;
           left = left-at i (and-right (suits (catalogOf B) (B .entries) asset (kindNumber kind) i) _ z);
           first = λ j w l d.
-              precedes (B .entries) (s .account .uses) asset (h .formed .limits) i j d
-              (choose-first _ _ (weightAt (B .entries) (s .account .uses) asset (h .formed .limits)) goes-is (entriesIn B) i q j (w .below)
+              precedes (B .entries) (s .account .uses) asset (h .formed .limits) soon i j d
+              (choose-first _ _ weighs goes-is (entriesIn B) i q j (w .below)
               (allowed-is j ∙ and-both (to-suits B (h .formed) asset (kindNumber kind) j w) (left-able j l)));
           until =
               rw (filled-limits (e .time) (s .account .uses) 0 (B .entries) i, filled-meters (e .time) (s .account .uses) (B .entries) i)

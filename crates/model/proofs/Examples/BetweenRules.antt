@@ -32,11 +32,11 @@ book entries count = record {
 abbrev timed : ℕ → ℕ → ℕ → ℕ → Entry
 timed asset kind count timer = entry asset kind 2 0 count timer 0 0 0 0
 
--- "(ii) earlier end, none last; (iii) interval already started": the print at 10 starts the interval of
--- entry 0; the dates of entry 1 begin at 100. From then on entry 1 goes first, since its end is earlier, though it is inherited and its
--- position is higher.
+-- "(iv) own before inherited; (v) lower position", after order 6's "earlier last moment": the print at 10 starts the interval of
+-- entry 0, which ends at 5000; the dates of entry 1 begin at 100. From then on entry 1 goes first, since its end is earlier than the end of
+-- that interval, though it is inherited and its position is higher.
 abbrev ending : List Entry
-ending = entry 2 4 24 0 0 0 0 5000 1000 0 ∷ entry 9 4 12 0 0 0 100 4000 0 0 ∷ []
+ending = entry 2 4 24 0 0 0 0 5000 4500 0 ∷ entry 9 4 12 0 0 0 100 4000 0 0 ∷ []
 
 pub end-before-interval :
     run (book ending 2) (event 0 1 (Begin Print 2) 10 ∷ event 0 2 (Begin Print 2) 99 ∷ event 0 3 (Begin Print 2) 100 ∷ [])

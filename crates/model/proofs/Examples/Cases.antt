@@ -87,8 +87,8 @@ pub one-level :
 unfolding events-run
 one-level = refl
 
--- "first by: (i) no flags; (ii) earlier end, none last; (iii) interval already started; (iv) own before inherited; (v) lower position":
--- play by (i), display by (ii), print of 2 starts an interval that print of 1 then finds, by (iii), execute by (iv), export by (v)
+-- "first by: (i) no flags; ... (iv) own before inherited; (v) lower position", with order 6's "earlier last moment" after (i):
+-- play by (i), display by its end, print of 2 starts an interval that print of 1 then finds, execute by (iv), export by (v)
 abbrev ordered : List Entry
 ordered =
     ending 1 1 50

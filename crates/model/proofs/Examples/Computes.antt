@@ -5,7 +5,7 @@ use Rattle.model.specs.Book.{entriesLegal, playerBlank, playerLegal, pla
 use Rattle.model.specs.Book.{rangesLegal, limitsLegal, takenCode, answerLegal, insideDates, insideInterval, useLegal, openLegal}
 use Rattle.model.specs.Book.{trackLegal, switchLegal, contentLegal, meterLegal, startLegal, opens, openUses, openSeconds}
 use Rattle.model.specs.Book.{metersCover, entryMetersLegal}
-use Rattle.model.specs.Choice.{catalogOf, holds, assetNamed, usable, parentOf, own, suitable, groundsOf, grantable, rankOf}
+use Rattle.model.specs.Choice.{catalogOf, holds, assetNamed, usable, parentOf, own, suitable, groundsOf, grantable, rankOf, lastMoment}
 use Rattle.model.specs.Choice.{ranksBefore, chooseOf, anyOf, choose, switchOnly, noneGrantable, leastUntil, grantUntil, moreUntil}
 use Rattle.model.specs.Gate.{sameRequest, sameNumber, inLine, timely, gate}
 use Rattle.model.specs.History.{answers, handed, handedLines, recordAnswers, recordFinal, recordLines}
@@ -27,7 +27,7 @@ unfolding all inBook lineSmall good sum64 raised counted recorded recordedAll ov
     linesLeft handed handedLines recordLines zeroLines switchOnly noneGrantable first listed assetPosition assetsIn entriesIn flagged
     grantLength isParent momentary requestLegal sameRequest sameNumber
     inLine timely gate amend begun continued ended expired shut released settled catalogOf holds assetNamed usable parentOf own suitable
-    groundsOf grantable rankOf ranksBefore chooseOf anyOf choose leastUntil grantUntil moreUntil doBegin doContinue doStop done
+    groundsOf grantable lastMoment rankOf ranksBefore chooseOf anyOf choose leastUntil grantUntil moreUntil doBegin doContinue doStop done
     takenStep stepBy step arrive answers kindOf requestOf eventIn decoded recordAnswers recordFinal
 events-run = tt
 

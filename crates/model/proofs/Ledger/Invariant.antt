@@ -14,8 +14,8 @@ use Rattle.book.specs.declared.Meters.{Meters}
 use Rattle.book.specs.declared.Open.{Open}
 use Rattle.book.specs.declared.Ask.{Ask}
 use Rattle.book.specs.Blank.{closed}
-use Rattle.model.specs.Book.{flagged, momentary, grantLength}
-use Rattle.model.specs.Choice.{cap, groundsOf, groundList, grantable, leastUntil, grantUntil, moreUntil, noEnd}
+use Rattle.model.specs.Book.{latestTime, mostSeconds, flagged, momentary, grantLength}
+use Rattle.model.specs.Choice.{cap, groundsOf, groundList, grantable, leastUntil, grantUntil, moreUntil}
 use Rattle.model.specs.Meters.{begun, continued, ended, isStarted, intervalFrom, expired}
 use Rattle.model.proofs.Ledger.Facts.{on-test, on-same, clash, and-left, and-both, passes, eqb-self, cap-le, cap-at}
 use Rattle.model.proofs.Ledger.Facts.{cap-ge, upd, upd-same, upd-other, one-is}
@@ -57,10 +57,11 @@ pub record Within (l : Limits) (m : Meters) : Type 0 where
   pub timed : flagged 2 l ≡ true → m .timed ≤ l .timed
   pub seconds : flagged 32 l ≡ true → m .seconds ≤ l .accumulated
 
--- what is needed about an entry's limits: a momentary entry has timer 0, an end is a time
+-- what is needed about an entry's limits: a momentary entry has timer 0, an end is a time, an interval is in its range
 pub record Lawful (l : Limits) : Type 0 where
   pub timer : momentary (l .kind) ≡ true → l .timer ≡ 0
-  pub end : flagged 8 l ≡ true → l .end < noEnd
+  pub end : flagged 8 l ≡ true → l .end ≤ latestTime
+  pub span : flagged 16 l ≡ true → l .interval ≤ mostSeconds
 
 pub record Invariant (T k n : ℕ) (lim : ℕ → Limits) (met : ℕ → Meters) (opn : ℕ → Open) (us : List Use) : Type 0 where
   pub opens : (p : ℕ) → opn p ≡ heldIn T p us

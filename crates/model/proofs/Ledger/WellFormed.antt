@@ -75,12 +75,13 @@ limits-lawful known l e =
     let later = ranges-tests l (behind .0) .1 .1 .1 .1 in
     record {
       timer = λ m. eqb-true (l .timer) 0 (and-right (not (flagged 32 l)) (eqb (l .timer) 0) (rw m at (behind .1 .1 .0)));
-      end = λ f. omega (arith, limit-most (flagged 8 l) latestTime (l .end) (later .0));
+      end = λ f. limit-most (flagged 8 l) latestTime (l .end) (later .0);
+      span = λ f. limit-most (flagged 16 l) mostSeconds (l .interval) (later .1 .0);
     }
 
 blank-lawful : Lawful noLimits
 unfolding flagged momentary
-blank-lawful = record { timer = λ m. refl; end = λ f. absurd (false≢true f) }
+blank-lawful = record { timer = λ m. refl; end = λ f. absurd (false≢true f); span = λ f. absurd (false≢true f) }
 
 broken-24 : (b : Book) → ruleBroken b ≡ 0 → assetsLegal b ≡ true
 unfolding ruleBroken

@@ -26,14 +26,10 @@ module _ (a b : Rank) where
   unfolding ranksBefore
   flags-differ h = differ (a .flags) (b .flags) _ h
 
-  ends-differ : not (eqb (a .flags) (b .flags)) ≡ false → not (eqb (a .end) (b .end)) ≡ true → ltb (a .end) (b .end) ≡ ranksBefore a b
+  later-fields : not (eqb (a .flags) (b .flags)) ≡ false
+      → (ltb (a .last) (b .last) || eqb (a .last) (b .last) && ltb (a .inherited) (b .inherited)) ≡ ranksBefore a b
   unfolding ranksBefore
-  ends-differ f h = differ (a .end) (b .end) _ h ∙ alike (a .flags) (b .flags) _ f
-
-  later-fields : not (eqb (a .flags) (b .flags)) ≡ false → not (eqb (a .end) (b .end)) ≡ false
-      → (ltb (a .fresh) (b .fresh) || eqb (a .fresh) (b .fresh) && ltb (a .inherited) (b .inherited)) ≡ ranksBefore a b
-  unfolding ranksBefore
-  later-fields f e = alike (a .end) (b .end) _ e ∙ alike (a .flags) (b .flags) _ f
+  later-fields f = alike (a .flags) (b .flags) _ f
 
 returns : tie.Need-returns
 returns c =
@@ -43,21 +39,14 @@ returns c =
 returns-2 : tie.Need-returns-2
 returns-2 c =
     let x = c .before .before .before .before .before .before .before .before .args in
-    ends-differ (x .a) (x .b) (c .before .before .before .before .before .if1 .left) (c .before .before .if2 .taken)
+    let f = c .before .before .before .before .before .if1 .left in
+    differ (x .a .last) (x .b .last) _ (c .before .before .if2 .taken) ∙ later-fields (x .a) (x .b) f
 
 returns-3 : tie.Need-returns-3
 returns-3 c =
-    let x = c .before .before .before .before .before .before .before .before .before .before .before .args in
-    let f = c .before .before .before .before .before .before .before .before .if1 .left in
-    let e = c .before .before .before .before .before .if2 .left in
-    differ (x .a .fresh) (x .b .fresh) _ (c .before .before .if3 .taken) ∙ later-fields (x .a) (x .b) f e
-
-returns-4 : tie.Need-returns-4
-returns-4 c =
-    let x = c .before .before .before .before .before .before .before .before .before .before .before .args in
-    let f = c .before .before .before .before .before .before .before .before .if1 .left in
-    let e = c .before .before .before .before .before .if2 .left in
-    alike (x .a .fresh) (x .b .fresh) _ (c .before .before .if3 .left) ∙ later-fields (x .a) (x .b) f e
+    let x = c .before .before .before .before .before .before .before .before .args in
+    let f = c .before .before .before .before .before .if1 .left in
+    alike (x .a .last) (x .b .last) _ (c .before .before .if2 .left) ∙ later-fields (x .a) (x .b) f
 
 pub ranks-before-spec : {M : Type 1} → statement M
-ranks-before-spec = tie.close (tie.spec returns returns-2 returns-3 returns-4)
+ranks-before-spec = tie.close (tie.spec returns returns-2 returns-3)
