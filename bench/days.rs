@@ -1,6 +1,6 @@
 //! Makes a day for the bench: a fresh book and any number of events.
 //!
-//!     days KIND EVENTS SEED FOLDER [ENTRIES [METERING]]
+//!     days KIND EVENTS SEED FOLDER [ENTRIES [METERING [THRESHOLD]]]
 //!
 //! writes FOLDER/rights.rbk and FOLDER/events.bin, and as FOLDER/short.bin the same events in records of 13 bytes, for programs that
 //! know no others (before order 4 of document 02). The same arguments give the same bytes. No player has a boot number. The kinds of
@@ -13,9 +13,11 @@
 //!
 //! METERING says how the book is metered:
 //!
-//!   none     nothing is tracked and the switch is off; the image is of version 1, for programs that know no other
+//!   none     nothing is tracked and the switch is off; without a THRESHOLD the image is of version 1, for programs that know no other
 //!   off      every entry is tracked, every other one has the mark, and the switch is off: some begins get 43, nothing is recorded
 //!   on       every entry is tracked, a time from 30 seconds on, and the switch is on: every use is recorded
+//!
+//! THRESHOLD, 0 for none, is how many players may have each entry open together; with few, a begin passes over entries that are full.
 
 use std::fs::File;
 use std::io::{BufWriter, Result, Write};
@@ -139,11 +141,12 @@ fn worst_book(entries: u32) -> Book {
     Book { assets: vec![(9, 0, 0), (1, 9, 1)], entries: (0..entries).map(entry).collect() }
 }
 
-fn image_of(book: &Book, metering: Metering) -> Vec<u8> {
+fn image_of(book: &Book, metering: Metering, threshold: u32) -> Vec<u8> {
     let metered = metering != Metering::None;
+    let newest = metered || threshold != 0;
     let mut data = b"RBK\0".to_vec();
-    data.extend([if metered { 3 } else { 1 }, book.assets.len() as u8, book.entries.len() as u8, 0, 0, 0, 0]);
-    if metered {
+    data.extend([if newest { 4 } else { 1 }, book.assets.len() as u8, book.entries.len() as u8, 0, 0, 0, 0]);
+    if newest {
         data.extend(((metering == Metering::On) as u32).to_be_bytes());
     }
     for &(number, inherit, key) in &book.assets {
@@ -158,12 +161,13 @@ fn image_of(book: &Book, metering: Metering) -> Vec<u8> {
         let limits = [entry.count, entry.timed, entry.timer, entry.start, entry.end, entry.interval, entry.accumulated];
         data.extend(limits.iter().flat_map(|limit| limit.to_be_bytes()));
         data.extend([0; 17]); // nothing used
-        if metered {
+        if newest {
             let mark = metering == Metering::Off && position % 2 == 1;
-            data.extend([1, 30, mark as u32].iter().flat_map(|field: &u32| field.to_be_bytes()));
+            let [tracked, timed_value] = if metered { [1, 30] } else { [0, 0] };
+            data.extend([tracked, timed_value, mark as u32, threshold, 0].iter().flat_map(|field: &u32| field.to_be_bytes()));
         }
     }
-    data.extend(vec![0; 16 * if metered { 32 } else { 24 }]);
+    data.extend(vec![0; 16 * if newest { 32 } else { 24 }]);
     data
 }
 
@@ -286,7 +290,8 @@ impl Day {
 fn main() -> Result<()> {
     let words: Vec<String> = std::env::args().collect();
     if words.len() < 5 {
-        eprintln!("days KIND EVENTS SEED FOLDER [ENTRIES [METERING]], KIND one of small, full, worst, expire; METERING of none, off, on");
+        eprintln!("days KIND EVENTS SEED FOLDER [ENTRIES [METERING [THRESHOLD]]]");
+        eprintln!("KIND is one of small, full, worst, expire; METERING of none, off, on");
         std::process::exit(2);
     }
     let number = |word: &String| word.parse::<u64>().expect("a number");
@@ -304,8 +309,9 @@ fn main() -> Result<()> {
         Some("on") => Metering::On,
         Some(other) => panic!("no such metering: {other}"),
     };
+    let threshold = words.get(7).map_or(0, |word| number(word) as u32);
     std::fs::create_dir_all(folder)?;
-    std::fs::write(folder.join("rights.rbk"), image_of(&book, metering))?;
+    std::fs::write(folder.join("rights.rbk"), image_of(&book, metering, threshold))?;
     let mut out = BufWriter::new(File::create(folder.join("events.bin"))?);
     let mut older = BufWriter::new(File::create(folder.join("short.bin"))?);
     for _ in 0..events {

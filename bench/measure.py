@@ -1,6 +1,6 @@
 """Makes the days, compares the answers of the programs byte for byte, then times them: see bench/run.sh.
 
-    python3 bench/measure.py FOLDER [--more] [--metered] [--short] NAME=PROGRAM ...
+    python3 bench/measure.py FOLDER [--more] [--metered] [--groups] [--short] NAME=PROGRAM ...
 
 FOLDER holds the program `days`. With --short the program named `before` gets the events in records of 13 bytes. Ratios are of the first
 program's median to each other's. Two times are given, of the clock and of the processor (user and system); on a busy machine the second
@@ -18,6 +18,7 @@ from statistics import median
 EVENTS = int(os.environ.get("EVENTS", 2_000_000))
 RUNS = int(os.environ.get("RUNS", 7))
 SEED = os.environ.get("SEED", "1")
+TOGETHER = 2                # players, in the books of group packs
 
 
 def events_of(name):
@@ -51,9 +52,9 @@ def compare(programs, folder):
         output.unlink()
 
 
-def measure(programs, bench, label, kind, events, entries=64, metering="none"):
+def measure(programs, bench, label, kind, events, entries=64, metering="none", threshold=0):
     folder = bench / kind
-    subprocess.run([bench / "days", kind, str(events), SEED, folder, str(entries), metering], check=True)
+    subprocess.run([bench / "days", kind, str(events), SEED, folder, str(entries), metering, str(threshold)], check=True)
     compare(programs, folder)
     times = [[] for _ in programs]
     for _ in range(RUNS):
@@ -87,13 +88,17 @@ def main():
         heading(programs, "More entries, all suitable for every begin (worst)")
         for entries in (4, 8, 16, 32, 64):
             measure(programs, bench, f"{entries} entries", "worst", EVENTS // 4, entries)
-
+    able = [each for each in programs if each[0] != "before"]
     if "--metered" in sys.argv:
-        able = [each for each in programs if each[0] != "before"]
         for metering in ("off", "on"):
             heading(able, f"Every entry tracked, the switch {metering}")
             for kind in ("small", "full", "worst", "expire"):
                 measure(able, bench, kind, kind, EVENTS, metering=metering)
+    if "--groups" in sys.argv:
+        heading(able, f"Every entry open to {TOGETHER} players together")
+        for kind in ("small", "full", "expire"):
+            measure(able, bench, kind, kind, EVENTS, threshold=TOGETHER)
+
 
 if __name__ == "__main__":
     main()

@@ -8,6 +8,8 @@
 //! - one book, changed in place; a limit that is not flagged is a number that never binds, so no flag is tested;
 //! - an entry's end and its started interval are one number, its last moment;
 //! - for each asset and kind the suitable entries, sorted in the order of the choice; an entry that is over leaves its lists;
+//! - of a group pack one number is kept, how many more players may open it: who has it open stands with the players. An entry
+//!   without a threshold has one that never runs out;
 //! - the rank of an entry in one word; the lists are sorted again only when the start of an interval changes a last moment;
 //! - uses are settled only when the earliest until has come;
 //! - the usage report is kept by the positions of the assets, from zeros; it is not printed, as by the run program;
@@ -47,11 +49,13 @@ struct Widths {
     number: usize,
 }
 
-const VERSIONS: [Widths; 3] = [
+const VERSIONS: [Widths; 4] = [
     Widths { header: HEADER, entry: 51, player: 24, number: 4 },
     Widths { header: HEADER + 4, entry: 51 + 12, player: 24 + 4, number: 4 },
     Widths { header: HEADER + 4, entry: 51 + 12, player: 24 + 4 + 4, number: 8 },
+    Widths { header: HEADER + 4, entry: 51 + 12 + 8, player: 24 + 4 + 4, number: 8 },
 ];
+const MARKED: usize = 4; // the version from which on entries have marks
 
 /// An event record's numbers. Operation, asset and kind stay together as they are: the *request*.
 struct Event {
@@ -129,6 +133,8 @@ struct Stored {
     tracked: u32,
     timed_value: u32,
     mark: u32,
+    threshold: u32,
+    marks: u32, // bit p for player p
 }
 
 struct StoredPlayer {
@@ -179,6 +185,8 @@ fn entry_of(data: &[u8]) -> Stored {
         tracked: f.added(),
         timed_value: f.added(),
         mark: f.added(),
+        threshold: f.added(),
+        marks: f.added(),
     }
 }
 
@@ -206,7 +214,8 @@ fn read_image(data: &[u8]) -> Result<Image, u8> {
         return Err(21);
     }
     let mut f = Fields(&data[3..]);
-    let Some(widths) = VERSIONS.get((f.u16() as usize).wrapping_sub(1)) else {
+    let version = f.u16() as usize;
+    let Some(widths) = VERSIONS.get(version.wrapping_sub(1)) else {
         return Err(22);
     };
     let (assets, entries, time) = (f.u8() as usize, f.u8() as usize, f.u32());
@@ -218,13 +227,16 @@ fn read_image(data: &[u8]) -> Result<Image, u8> {
     if data.len() != players_at + widths.player * PLAYERS {
         return Err(20);
     }
-    let image = Image {
+    let mut image = Image {
         time,
         switch: Fields(&data[HEADER..widths.header]).added(),
         assets: data[widths.header..entries_at].chunks(ASSET).map(asset_of).collect(),
         entries: data[entries_at..players_at].chunks(widths.entry).map(entry_of).collect(),
         players: data[players_at..].chunks(widths.player).map(|data| player_of(data, widths.number)).collect(),
     };
+    if version < MARKED {
+        (0..entries).for_each(|position| image.entries[position].marks = image.users(position));
+    }
     match image.refusal() {
         Some(number) => Err(number),
         None => Ok(image),
@@ -354,6 +366,7 @@ impl Image {
             && entry.tracked <= 1
             && entry.mark <= entry.tracked
             && (entry.tracked == 1 || entry.timed_value == 0)
+            && entry.threshold <= PLAYERS as u32
     }
 
     fn player_is_good(&self, player: &StoredPlayer) -> bool {
@@ -395,10 +408,18 @@ impl Image {
         self.assets.iter().position(|asset| asset.number as u32 == number)
     }
 
+    /// The players that have this entry open, one bit for each.
+    fn users(&self, position: usize) -> u32 {
+        let has_open = |player: &StoredPlayer| player.open == 1 && player.open_entry as usize == position;
+        self.players.iter().enumerate().fold(0, |users, (p, player)| users | (has_open(player) as u32) << p)
+    }
+
     fn meters_are_good(&self, position: usize) -> bool {
         let entry = &self.entries[position];
-        let opened = self.players.iter().filter(|player| player.open == 1 && player.open_entry as usize == position);
-        let (uses, seconds) = opened.fold((0, 0u64), |(n, s), player| (n + 1, s + (player.until - player.begin) as u64));
+        let users = self.users(position);
+        let opened = self.players.iter().enumerate().filter(|(p, _)| users >> p & 1 == 1);
+        let seconds: u64 = opened.map(|(_, player)| (player.until - player.begin) as u64).sum();
+        let uses = users.count_ones();
         within(entry.has(COUNT), entry.used_count, uses, entry.count)
             && within(entry.has(TIMED), entry.used_timed, uses, entry.timed)
             && within(entry.has(ACCUMULATED), entry.used_seconds, 0, entry.accumulated)
@@ -406,6 +427,8 @@ impl Image {
             && entry.started <= entry.has(INTERVAL) as u8
             && (entry.started == 1 || entry.first == 0)
             && entry.first <= self.time
+            && entry.marks == users
+            && (entry.threshold == 0 || uses <= entry.threshold)
     }
 
     /// The number of the asset's parent, if it has one.
@@ -486,6 +509,7 @@ struct Entry {
     last: u32, // the last moment: the first second after its end and its started interval
     used_seconds: u32,
     accumulated: u32,
+    room: u32, // how many more players may open it
     timer: u32,
     interval: u32,
     timed_value: u32,
@@ -506,6 +530,7 @@ impl Entry {
         last: 0,
         used_seconds: 0,
         accumulated: 0,
+        room: 0,
         timer: 0,
         interval: 0,
         timed_value: 0,
@@ -518,6 +543,7 @@ impl Entry {
 
     fn new(from: &Stored, switch: u32) -> Entry {
         let or = |flag: u8, limit: u32, without: u32| if from.has(flag) { limit } else { without };
+        let most = if from.threshold == 0 { NEVER } else { from.threshold };
         Entry {
             used_count: from.used_count,
             count: or(COUNT, from.count, NEVER),
@@ -527,6 +553,7 @@ impl Entry {
             last: or(END, from.end + 1, NEVER).min(if from.started == 1 { from.first + from.interval } else { NEVER }),
             used_seconds: from.used_seconds,
             accumulated: or(ACCUMULATED, from.accumulated, NEVER),
+            room: most - from.marks.count_ones(),
             timer: from.timer,
             interval: from.interval,
             timed_value: from.timed_value,
@@ -545,10 +572,11 @@ impl Entry {
             & (self.start <= t)
             & (t < self.last)
             & (self.used_seconds < self.accumulated)
+            & (self.room != 0)
     }
 
-    /// Whether nothing can be granted from t on: dates, interval or count are over. (Once an order gives a count back, its entry has
-    /// to be listed again.)
+    /// Whether nothing can be granted from t on: dates, interval or count are over. A full threshold is not over: it has room again
+    /// when a use ends. (Once an order gives a count back, its entry has to be listed again.)
     #[inline(always)]
     fn is_over(&self, t: u32) -> bool {
         (self.last <= t) | (self.used_count >= self.count)
@@ -776,6 +804,7 @@ impl Server {
         let entry = &mut self.entries[player.open_entry as usize % MOST];
         let ran = end - player.begin;
         entry.end(ran);
+        entry.room += 1;
         if entry.recorded {
             let line = &mut self.report[player.content as usize % MOST];
             line.seconds += ran as u64;
@@ -817,6 +846,7 @@ impl Server {
         if !is_momentary(kind) {
             until = entry.least_until(t, t);
             entry.add_seconds(until - t);
+            entry.room -= 1;
             let player = &mut self.players[p];
             player.open_entry = position;
             player.content = i;

@@ -32,12 +32,12 @@ enum {
     RIGHTS_OK = 0,
     RIGHTS_IMAGE_LENGTH = 20,  /* the image is too short, its length is not what its header says, or it is more than the room */
     RIGHTS_IMAGE_MARK = 21,    /* it does not begin with RBK */
-    RIGHTS_IMAGE_VERSION = 22, /* its version is not 1, 2 or 3 */
+    RIGHTS_IMAGE_VERSION = 22, /* its version is none of 1 to 4 */
     RIGHTS_IMAGE_HEADER = 23,  /* more than 64 assets or entries, or a time that is too late */
     RIGHTS_IMAGE_ASSETS = 24,  /* a rule on assets is broken */
     RIGHTS_IMAGE_ENTRIES = 25, /* a rule on entries is broken */
     RIGHTS_IMAGE_PLAYERS = 26, /* a rule on players is broken */
-    RIGHTS_IMAGE_METERS = 27,  /* a rule on what has been used is broken */
+    RIGHTS_IMAGE_METERS = 27,  /* a rule on what has been used, or on the marks, is broken */
     RIGHTS_SHORT_OUT = 30,     /* the buffer for a result is too short: the text, the numbers or the next image */
     RIGHTS_NOT_THERE = 31,     /* the book has no asset, entry or player at that position */
     RIGHTS_XML_FORM = 40,      /* the XML text is not well formed */
@@ -60,7 +60,7 @@ enum {
     RIGHTS_NO_ASSET = 10,      /* the asset is not in the book, or has key 0 */
     RIGHTS_ALREADY_OPEN = 11,  /* a begin while the player has a use open */
     RIGHTS_NONE_SUITABLE = 12, /* no entry of that kind for the asset */
-    RIGHTS_NONE_GRANTABLE = 13, /* there are some, but none can be used now */
+    RIGHTS_NONE_GRANTABLE = 13, /* there are some, but none can be used now: rights_grounds has why */
     RIGHTS_NOTHING_OPEN = 14,  /* a continue or stop while nothing is open */
     RIGHTS_NO_MORE_TIME = 15,  /* a continue that would add no second */
     RIGHTS_SWITCHED_OFF = 43   /* none can be used now, but one could with the book's switch on */
@@ -84,7 +84,7 @@ enum {
     RIGHTS_RECORD = 17,          /* bytes of an event record */
     RIGHTS_LINE = 19,            /* the longest line of an answer, including its line feed */
     RIGHTS_NO_ENTRY = 255,       /* the entry in an answer that is no grant */
-    RIGHTS_LONGEST_IMAGE = 4879, /* bytes of an image with 64 assets and 64 entries: room for any next image */
+    RIGHTS_LONGEST_IMAGE = 5391, /* bytes of an image with 64 assets and 64 entries: room for any next image */
     RIGHTS_LINES = 64,           /* the most lines of a list */
     RIGHTS_PLAYERS = 16,
     RIGHTS_STACK = 524288,       /* bytes of stack that are enough for any call but rights_from_xml (docs/EMBEDDING.md) */
@@ -198,7 +198,7 @@ uint8_t rights_asset(const uint8_t *image, size_t image_length, uint32_t positio
 
 /* The entry at a position, from 0: its limits, and what the image says has been used. A limit whose flag is missing is
  * 0, and so is its meter. A count, timed count, interval or accumulated that is flagged and 0 is never granted. The seconds of an
- * open use are counted as used up to its until. */
+ * open use are counted as used up to its until. The marks say which players have it open, in the image as it is. */
 enum {
     RIGHTS_ENTRY_OBJECT,      /* number of the rights object */
     RIGHTS_ENTRY_ASSET,
@@ -219,6 +219,8 @@ enum {
     RIGHTS_ENTRY_TRACKED,     /* 1: its uses are recorded */
     RIGHTS_ENTRY_TIMED_VALUE, /* a recorded use of at least so many seconds counts as a time */
     RIGHTS_ENTRY_MARK,        /* 1: tracked, and granted with the switch off too */
+    RIGHTS_ENTRY_THRESHOLD,   /* so many players may have it open together, 1 to 16; 0: any number */
+    RIGHTS_ENTRY_MARKS,       /* bit p (1 << p) is set: player p has it open */
     RIGHTS_ENTRY_NUMBERS
 };
 
@@ -226,8 +228,8 @@ uint8_t rights_entry(const uint8_t *image, size_t image_length, uint32_t positio
 
 /* What is left of the entry at a position, as an event at that time would find it: uses that are over by then have
  * ended, and any timed count that this gives back is back. A time before the book's counts as the book's, so 0 asks for
- * what is left in the image as it is. Grantable is 1 if the entry's own limits and the book's switch allow a grant at that time; whether
- * an asset can use the entry is not judged. */
+ * what is left in the image as it is. Grantable is 1 if the entry's own limits, its threshold and the book's switch allow a grant at that
+ * time; whether an asset can use the entry is not judged. */
 enum {
     RIGHTS_LEFT_GRANTABLE,
     RIGHTS_LEFT_COUNT,
@@ -253,8 +255,9 @@ enum {
     RIGHTS_GROUNDS_AFTER_END,
     RIGHTS_GROUNDS_INTERVAL_OVER,
     RIGHTS_GROUNDS_SECONDS_SPENT,
-    RIGHTS_GROUNDS_INTERVAL_ZERO, /* the interval is 0: never granted */
-    RIGHTS_GROUNDS_SWITCH_OFF,    /* the entry is tracked and has no mark, and the book's switch is off */
+    RIGHTS_GROUNDS_INTERVAL_ZERO,  /* the interval is 0: never granted */
+    RIGHTS_GROUNDS_SWITCH_OFF,     /* the entry is tracked and has no mark, and the book's switch is off */
+    RIGHTS_GROUNDS_THRESHOLD_FULL, /* as many players have it open as may; the end of one of these uses makes room */
     RIGHTS_GROUNDS_NUMBERS
 };
 

@@ -42,6 +42,7 @@ def fresh_book(rng, around):
     for _ in range(rng.choice((0, 1, 2, 4, 6, 8, 8))):
         book.entries.append(fresh_entry(rng, rng.choice(book.assets).number, around))
     track(rng, book)
+    set_thresholds(rng, book)
     return book
 
 
@@ -55,6 +56,14 @@ def track(rng, book):
             entry.timed_value = rng.choice((0, 0, 1, 2, 5, 20, 59, 60, 61, 90, 120, TOP))
 
 
+def set_thresholds(rng, book):
+    """Mostly small ones, so that they are often full: on some days no entry has one, on some all have."""
+    share = rng.choice((0, 0.3, 0.7, 1))
+    for entry in book.entries:
+        if rng.random() < share:
+            entry.threshold = rng.choice((1, 1, 1, 2, 2, 3, 4, 16))
+
+
 def limit(rng, number):
     """A limit, or 0: an entry with that is never granted."""
     return 0 if rng.random() < ZERO else number
@@ -63,6 +72,10 @@ def limit(rng, number):
 def fresh_entry(rng, asset, around):
     kind = rng.choice((1, 1, 1, 2, 3, 4, 5))
     flags = sum(flag for flag in (COUNT, TIMED, START, END, INTERVAL, ACCUMULATED) if rng.random() < 0.3)
+    return entry_with(rng, asset, kind, flags, around)
+
+
+def entry_with(rng, asset, kind, flags, around):
     if kind >= 4:
         flags &= ~ACCUMULATED
     entry = Entry(rng.randint(1, 3), asset, kind, flags)
@@ -104,6 +117,7 @@ def wide_book(rng, around):
         entry.object = rng.choice((1, 2, 65_535))
         book.entries.append(entry)
     track(rng, book)
+    set_thresholds(rng, book)
     return book
 
 
@@ -120,6 +134,8 @@ def greatest_limits(rng, book):
             entry.accumulated = 100_000_000
         if entry.has(END) and rng.random() < 0.5:
             entry.end = LATEST
+        if rng.random() < 0.2:
+            entry.threshold = rights.PLAYERS
 
 
 def stretch(rng, book, around, times):
@@ -142,14 +158,40 @@ def subscription_book(rng, around):
     for _ in range(rng.randint(1, 4)):
         entry = fresh_entry(rng, rng.choice((9, 9, 9, 1)), around)
         entry.kind, entry.flags = 1, entry.flags | rng.choice((COUNT, TIMED, ACCUMULATED))
-        if entry.has(COUNT):
-            entry.count = limit(rng, rng.randint(1, 40))
-        if entry.has(TIMED):
-            entry.timed, entry.timer = limit(rng, rng.randint(1, 8)), rng.choice((0, 10, 30, 60, 120))
-        if entry.has(ACCUMULATED):
-            entry.accumulated = limit(rng, rng.choice((100, 500, 3000)))
+        limits_for_many(rng, entry)
         book.entries.append(entry)
     track(rng, book)
+    set_thresholds(rng, book)
+    return book
+
+
+def limits_for_many(rng, entry):
+    """Limits that last for several players."""
+    if entry.has(COUNT):
+        entry.count = limit(rng, rng.randint(1, 40))
+    if entry.has(TIMED):
+        entry.timed, entry.timer = limit(rng, rng.randint(1, 8)), 0 if entry.is_momentary() else rng.choice((0, 10, 30, 60, 120))
+    if entry.has(ACCUMULATED):
+        entry.accumulated = limit(rng, rng.choice((100, 500, 3000)))
+
+
+def group_book(rng, around):
+    """A few group packs that several contents inherit, some of a content's own. Most thresholds are small; on some days one or two packs
+    are for nearly all players."""
+    contents = list(range(1, rng.randint(2, 5)))
+    book = Book(assets=[Asset(9, 0, 0)] + [Asset(number, 9, 1) for number in contents])
+    for_all = rng.random() < 0.2
+    kinds = rng.choice(((1,), (2,), (3,)) if for_all else ((1,), (1,), (2,), (3,), (1, 2), (1, 4), (5,)))
+    for _ in range(rng.randint(1, 2) if for_all else rng.randint(1, 4)):
+        flags = rng.choice((0, 0, 0, 0, COUNT, COUNT, COUNT, COUNT | TIMED, ACCUMULATED, INTERVAL | END))
+        entry = entry_with(rng, rng.choice((9, 9, 9, *contents)), rng.choice(kinds), flags, around)
+        limits_for_many(rng, entry)
+        entry.threshold = rng.choice((1, 1, 1, 1, 2, 2, 2, 3, 3, 4, 16, 0))
+        if for_all:
+            entry.asset, entry.threshold = 9, rng.choice((13, 14, 15, 15, 16, 16))
+        book.entries.append(entry)
+    if rng.random() < 0.4:
+        track(rng, book)
     return book
 
 
@@ -170,6 +212,8 @@ def rival_book(rng, around, length):
         book.entries.append(entry)
     if rng.random() < 0.3:
         track(rng, book)
+    if rng.random() < 0.2:
+        set_thresholds(rng, book)
     return book
 
 
@@ -184,7 +228,8 @@ def rival_limits(rng, entry, around, over):
     if entry.has(END):
         entry.end = min(LATEST, around + over - rng.choice((0, 1, 1, 1, 2)))
     if entry.has(INTERVAL):
-        entry.interval = limit(rng, rng.choice((over, over, over - 1, over - 2, over - 5, 100_000_000)))
+        shorter = (over - 5, over - 8, over - 12, over - 15) if entry.has(END) else ()     # some are over before the entry's own end
+        entry.interval = limit(rng, rng.choice((over, over, over - 1, over - 2, over - 5, 100_000_000, *shorter)))
     if entry.has(ACCUMULATED):
         entry.accumulated = limit(rng, rng.choice((50, 1000)))
 
@@ -201,6 +246,16 @@ def nothing_more(rng, book):
             entry.accumulated = 0
         if not book.users(position) and rng.random() < 2 * ZERO:
             entry.interval = 0
+
+
+def just_full(rng, book):
+    """Makes some thresholds in the middle of a day the number of the entry's open uses, where the image still meets the rules, and now and
+    then turns the switch, so that a tracked entry may be full and switched off."""
+    for position, entry in enumerate(book.entries):
+        if rng.random() < 0.2:
+            entry.threshold = len(book.users(position))
+    if rng.random() < 0.3:
+        book.switch = 1 - book.switch
 
 
 def make_old(rng, book):
@@ -346,6 +401,37 @@ class Rivals:
                     yield from ((content, t), (content, t), (content, t + 1))
 
 
+class Group:
+    """Players on a book of group_book. They stop or let their uses run out, and ask again, some with a lost answer's request. Now and then
+    one asks in the second in which another's use ends, or in the one before."""
+
+    def __init__(self, rng, book):
+        self.rng = rng
+        self.count, self.steps = rng.choice((3, 4, 6, 10, 16)), rng.choice(((0, 0, 0, 1), (0, 0, 0, 0, 1, 1, 2, 5, 15)))
+        self.stops, self.ends = rng.choice((0.1, 0.3, 0.6)), rng.choice((0.03, 0.1, 0.2))
+        if min(entry.threshold for entry in book.entries) > 10:
+            self.count, self.stops, self.ends = 16, rng.choice((0.02, 0.05)), rng.choice((0.01, 0.02))
+        self.kinds = [entry.kind for entry in book.entries]
+        self.contents = [asset.number for asset in book.assets if asset.key]
+
+    def next_event(self, book, around):
+        rng, now = self.rng, max(book.time, around)
+        index, chance = rng.randrange(self.count), rng.random()
+        player = book.players[index]
+        if chance < 0.03:
+            return next_event(rng, book, around)
+        if chance < 0.12 and player.number:
+            return Event(index, player.number, player.operation, player.asset, player.kind, now)
+        number = (other_number if rng.random() < 0.05 else next_number)(rng, player.number)
+        t = now + rng.choice(self.steps)
+        ends = [each.until for each in book.players if each.open]
+        if ends and rng.random() < self.ends:
+            t = max(now, min(ends) - rng.choice((0, 0, 1)))
+        if player.open and t < player.until:
+            return Event(index, number, STOP if rng.random() < self.stops else CONTINUE, 0, 0, min(t, LATEST))
+        return Event(index, number, BEGIN, rng.choice(self.contents), rng.choice(self.kinds), min(t, LATEST))
+
+
 def damaged(rng, record):
     """Now and then a record with a byte changed, or one of random bytes."""
     chance = rng.random()
@@ -359,7 +445,8 @@ def damaged(rng, record):
 
 # ---- Days
 
-KINDS = ("crowd", "crowd", "wide", "cabins", "rivals", "rivals", "greatest", "going on", "old", "damaged image")
+KINDS = ("crowd", "crowd", "wide", "cabins", "rivals", "rivals", "groups", "groups", "greatest", "going on", "old", "damaged image")
+PLAYED = {"cabins": Cabins, "rivals": Rivals, "groups": Group}     # sorts of days whose players have a way of their own
 
 
 def make_day(seed, length, kind=None, around=None):
@@ -376,6 +463,8 @@ def make_day(seed, length, kind=None, around=None):
         book = subscription_book(rng, around)
     elif kind == "rivals":
         book = rival_book(rng, around, length)
+    elif kind == "groups":
+        book = group_book(rng, around)
     else:
         book = fresh_book(rng, around)
     if kind != "rivals":
@@ -385,12 +474,15 @@ def make_day(seed, length, kind=None, around=None):
     if kind in ("going on", "old"):
         play(rng, book, around, None, rng.randint(1, 60))
         nothing_more(rng, book)
-    if kind == "rivals" and rng.random() < 0.3:
-        play(rng, book, around, Rivals(rng, book), rng.randint(1, 30))
+        just_full(rng, book)
+    if kind in ("rivals", "groups") and rng.random() < 0.3:
+        play(rng, book, around, PLAYED[kind](rng, book), rng.randint(1, 30))
+        if kind == "groups":
+            just_full(rng, book)
     if kind == "old":
         make_old(rng, book)
     image, book = stored(rng, book)
-    cabins = Cabins(rng, book) if kind == "cabins" else Rivals(rng, book) if kind == "rivals" else None
+    cabins = PLAYED[kind](rng, book) if kind in PLAYED else None
     records, lines = play(rng, book, around, cabins, length)
     if rng.random() < 0.3:
         records.append(rng.randbytes(rng.randint(1, rights.RECORD.size - 1)))
@@ -410,7 +502,8 @@ def with_short_numbers(book):
 def stored(rng, book):
     """An image of the book and the book that it is read as. An older version has lost what it has no field for."""
     if rng.random() < OLD:
-        image = rights.write(with_short_numbers(book), rng.choice((1, 2)))
+        version = rng.choice((1, 2, 3))
+        image = rights.write(book if version == 3 else with_short_numbers(book), version)
     else:
         image = rights.write(book)
     code, book = rights.read(image)
@@ -446,11 +539,27 @@ def damaged_track(rng, book):
     return rights.write(book)
 
 
+def damaged_marks(rng, book):
+    """The image of the book with another threshold, close to the number of open uses or to 16, or with other marks, whether or not that
+    meets the rules."""
+    position = rng.randrange(len(book.entries))
+    if rng.random() < 0.5:              # the one that most players have open
+        position = max(range(len(book.entries)), key=lambda other: len(book.users(other)))
+    entry, bit = book.entries[position], 1 << rng.randrange(32)
+    if rng.random() < 0.5:
+        users = len(book.users(position))
+        entry.threshold = rng.choice((0, users, users + 1, max(users - 1, 0), 15, 16, 17, 32, 256, bit, TOP))
+    else:
+        marks = rng.choice(book.entries).marks
+        entry.marks = rng.choice((entry.marks ^ bit, entry.marks | bit, entry.marks & ~bit, marks, 0, bit, 65_535, TOP))
+    return rights.write(book)
+
+
 def damaged_bytes(rng, book):
     """The image of the book with a few bytes changed, cut off or added; None for a missing file."""
     image = bytearray(stored(rng, book)[0])
     if rng.random() < 0.05:
-        image[4] = rng.choice((0, 1, 2, 3, 4, 255))        # another version, the length as it was
+        image[4] = rng.choice((0, 1, 2, 3, 4, 5, 255))     # another version, the length as it was
     for _ in range(rng.randint(1, 2)):
         image[rng.randrange(len(image))] = rng.choice((0, 1, 2, 255, rng.randrange(256)))
     chance = rng.random()
@@ -468,8 +577,8 @@ def damaged_day(rng, around):
     book = fresh_book(rng, around)
     play(rng, book, around, None, rng.randint(1, 40))
     records, _ = play(rng, copy.deepcopy(book), around, None, 5)
-    damage = rng.choice((damaged_limit, damaged_track, damaged_bytes, damaged_bytes)) if book.entries else damaged_bytes
-    image = damage(rng, book)
+    damages = (damaged_limit, damaged_track, damaged_marks, damaged_marks, damaged_bytes, damaged_bytes)
+    image = (rng.choice(damages) if book.entries else damaged_bytes)(rng, book)
     return image, b"".join(records), rights.run(image or b"", b"".join(records))
 
 
@@ -486,6 +595,8 @@ def stored_days():
         yield image or b"", events, text
     for number in range(60, 72):
         yield make_day(1 + number, 150, "rivals", arounds[number % 5])
+    for number in range(72, 90):
+        yield make_day(1 + number, 150, "groups", arounds[number % 5])
     yield from written_days.days()
 
 

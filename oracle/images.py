@@ -2,7 +2,8 @@
 
 Each case is a base book or its image with a few small edits, and the answer that documents 01 and 02 give, which is
 written here by hand. The reader of rights.py must agree with every one of them, or nothing is written. A case is made of each version
-that can say it; an older image that is accepted is written back as the newest, widened with zeros. The script writes
+that can say it; an older image that is accepted is written back as the newest, widened with zeros and with the marks of its open uses.
+The script writes
 
   crates/test_images/data/cases.bin   for each case its length in 16 bits, big-endian, then its bytes, to the end of file
   crates/test_images/stdout           for each case one line: the number of a refusal, or 0, a space, and the bytes that
@@ -12,7 +13,8 @@ that can say it; an older image that is accepted is written back as the newest, 
 
 Edits are words: `time N`; `switch N`; `asset I FIELD N`, `entry I FIELD N` and `player I FIELD N` set a field of a record;
 `entry I limits ..` and `use ..` set several (see below); `drop asset I` removes an asset; `byte I N` and `length N`
-(cut, or padded with 0) change the image made so far.
+(cut, or padded with 0) change the image made so far. An entry's marks are those of the players that have it open; `entry I marks N`
+makes them others.
 """
 
 from pathlib import Path
@@ -134,38 +136,74 @@ def full_and_long():
     return book
 
 
+def sharing():
+    """The bare book with the entry open by players 0, 7 and 15: marks 1 + 128 + 32,768."""
+    book = bare()
+    for i in (0, 7, 15):
+        book.players[i] = Player(1, 1, 1, 1, 0, 0, 130, 1, 0, 90, 130, 1)
+    return book
+
+
+def full_and_shared():
+    """The book `full_and_long` with the greatest thresholds."""
+    book = full_and_long()
+    for entry in book.entries:
+        entry.threshold = 16
+    return book
+
+
 # ---- Edits
 
 ENTRY_LIMITS = ("count", "timed", "timer", "start", "end", "interval", "accumulated")
 
 
 def image(version, base, edits):
-    """The image of a base book after its edits; edits of bytes come last."""
-    book, data = base(), None
-    for edit in filter(None, (part.strip() for part in edits.split(";"))):
-        word, *rest = edit.split()
-        if word in ("byte", "length"):
-            data = rights.write(book, version) if data is None else data
-            data = edited_bytes(data, word, [int(n) for n in rest])
-        else:
-            assert data is None, "edits of bytes come last"
-            edit_book(book, word, rest)
-    return rights.write(book, version) if data is None else data
+    """The image of a base book after its edits."""
+    told = [part.split() for part in edits.split(";") if part.strip()]
+    assert told == sorted(told, key=stage), "edits of marks come behind the others of the book, edits of bytes last"
+    book = base()
+    for words in told:
+        if stage(words) == 0:
+            edit_book(book, words[0], words[1:])
+    mark(book)
+    for words in told:
+        if stage(words) == 1:
+            edit_book(book, words[0], words[1:])
+    data = rights.write(book, version)
+    for words in told:
+        if stage(words) == 2:
+            data = edited_bytes(data, words[0], [int(n) for n in words[1:]])
+    return data
 
 
-WIDTHS = {1: (0, 51, 24), 2: (4, 63, 28)}       # of an older version: the header behind its first 11 bytes, an entry, a player
+def stage(words):
+    """Of an edit: 0 for one of the book, 1 for one of marks, 2 for one of bytes."""
+    return 2 if words[0] in ("byte", "length") else 1 if words[2:3] == ["marks"] else 0
+
+
+def mark(book):
+    """Sets the mark of each open use."""
+    for p, player in enumerate(book.players):
+        if player.open and player.open_entry < len(book.entries):
+            book.entries[player.open_entry].marks |= 1 << p
+
+
+WIDTHS = {1: (0, 51, 24), 2: (4, 63, 28), 3: (4, 63, 32)}   # of an older version: the header behind its first 11 bytes, an entry, a player
 
 
 def widened(data):
-    """An image of an older version as one of version 3, without a look at the book: the added fields are 0, and 32 zero bits stand in
-    front of each player's number."""
+    """An image of an older version as one of version 4, without a look at the book: the added fields are 0 but an entry's last one, which
+    has a bit for each player that has the entry open; and 32 zero bits stand in front of each player's number before version 3."""
     header, entry, player = WIDTHS[data[4]]
-    at, parts = 11 + header, [data[:4] + b"\3" + data[5:11] + data[11:11 + header].ljust(4, b"\0")]
-    for how_many, size, front, full_size in ((data[5], 5, 0, 5), (data[6], entry, 0, 63), (16, player, 4, 32)):
-        for _ in range(how_many):
-            parts.append((bytes(front) + data[at:at + size]).ljust(full_size, b"\0"))
-            at += size
-    return b"".join(parts)
+    assets, front = 11 + header, bytes(0 if data[4] == 3 else 4)
+    entries = assets + 5 * data[5]
+    players = entries + entry * data[6]
+    records = [(front + data[at:at + player]).ljust(32, b"\0") for at in range(players, len(data), player)]
+    parts = [data[:4] + b"\4" + data[5:11] + data[11:assets].ljust(4, b"\0") + data[assets:entries]]
+    for place in range(data[6]):
+        at, marks = entries + entry * place, sum(1 << p for p, record in enumerate(records) if record[18] and record[19] == place)
+        parts.append(data[at:at + entry].ljust(67, b"\0") + marks.to_bytes(4, "big"))
+    return b"".join(parts + records)
 
 
 def edited_bytes(data, word, numbers):
@@ -203,7 +241,9 @@ def edit_book(book, word, rest):
 # ---- The cases: answer, name, version, base, edits; GROUPS below has all of them
 
 CASES = []
-ALL, TRACKS, LONG = (3, 2, 1), (3, 2), (3,)     # versions that have what a case speaks of: any, those with tracks, with long numbers
+# Versions that have what a case speaks of: any, those with tracks, with long numbers, with thresholds and marks.
+ALL, TRACKS, LONG, SHARED = (4, 3, 2, 1), (4, 3, 2), (4, 3), (4,)
+APART = (4, 2, 1)           # without entries, images of versions 3 and 4 differ in the version alone
 
 
 def case(answer, name, base, edits="", versions=ALL):
@@ -223,12 +263,12 @@ def good_books():
 
 
 # The length of an image of `empty`, of `busy` and of the greatest size; with 65 assets alone, with 65 entries alone.
-SIZES = {1: (395, 619, 3979, 720, 3710), 2: (463, 735, 4815, 788, 4558), 3: (527, 799, 4879, 852, 4622)}
+SIZES = {1: (395, 619, 3979, 720, 3710), 2: (463, 735, 4815, 788, 4558), 3: (527, 799, 4879, 852, 4622), 4: (527, 831, 5391, 852, 5142)}
 
 
 def header():
     for length in (0, 1):
-        case(20, f"{length} bytes", empty, f"length {length}", LONG)
+        case(20, f"{length} bytes", empty, f"length {length}", SHARED)
     case(20, "10 bytes", empty, "length 10")
     case(20, "the header's first 11 bytes alone", empty, "length 11")
     case(20, "the header's first 11 bytes alone, with counts", busy, "length 11")
@@ -238,8 +278,8 @@ def header():
             case(20, f"{base.__name__}, one byte short", base, f"length {size - 1}", (version,))
             case(20, f"{base.__name__}, one byte long", base, f"length {size + 1}", (version,))
             case(20, f"{base.__name__}, 10,000 bytes", base, "length 10000", (version,))
-            for other in SIZES:
-                if other != version:
+            for other, sizes in SIZES.items():
+                if size not in sizes[:3] and (base is not empty or version in APART):
                     case(20, f"{base.__name__}, the length of version {version}", base, f"byte 4 {other}", (version,))
     case(20, "an asset too few for its count", bare, "byte 5 2")
     case(20, "an asset too many for its count", bare, "byte 5 0")
@@ -250,13 +290,13 @@ def header():
     case(21, "third mark byte", empty, "byte 2 76")
     case(21, "mark of an image of 11 bytes", empty, "byte 0 0; length 11")
     case(21, "mark of 10,000 bytes", empty, "byte 2 0; length 10000")
-    case(22, "version 0", empty, "byte 4 0")
-    case(22, "version 4", empty, "byte 4 4")
-    case(22, "version 255", empty, "byte 4 255")
+    case(22, "version 0", empty, "byte 4 0", APART)
+    case(22, "version 5", empty, "byte 4 5", APART)
+    case(22, "version 255", empty, "byte 4 255", APART)
     case(22, "256 more than its version", empty, "byte 3 1")
-    case(22, "version 256", empty, "byte 3 1; byte 4 0")
-    for high in (2, 3):
-        case(22, f"version {256 * high}", empty, f"byte 3 {high}; byte 4 0", LONG)
+    case(22, "version 256", empty, "byte 3 1; byte 4 0", APART)
+    for high in (2, 3, 4):
+        case(22, f"version {256 * high}", empty, f"byte 3 {high}; byte 4 0", SHARED)
     case(23, "65 assets, header alone", empty, "byte 5 65; length 11")
     for version, (_, _, _, many_assets, many_entries) in SIZES.items():
         case(23, "65 assets, of the fitting length", empty, f"byte 5 65; length {many_assets}", (version,))
@@ -582,9 +622,9 @@ def open_uses_and_meters():
 def two_stages():
     """Two rules broken: the number that comes first in the order wins."""
     case(20, "short and mark", empty, "byte 0 0; length 10")
-    case(21, "mark and version", empty, "byte 2 0; byte 4 0")
-    case(22, "version and counts", empty, "byte 4 9; byte 5 65")
-    case(22, "version and time", empty, "time 4000000001; byte 4 9")
+    case(21, "mark and version", empty, "byte 2 0; byte 4 0", APART)
+    case(22, "version and counts", empty, "byte 4 9; byte 5 65", APART)
+    case(22, "version and time", empty, "time 4000000001; byte 4 9", APART)
     case(23, "counts and length", busy, "byte 6 65")
     case(23, "time and length", busy, "time 4000000001; length 1000")
     case(23, "time and asset", busy, "time 4000000001; asset 0 number 0")
@@ -712,7 +752,7 @@ def numbers():
     case(0, "64 tracked entries, 16 open uses, the greatest numbers", full_and_long, "", LONG)
     case(26, "the last player's operation, behind a number of 64 bits", full_and_long, "player 15 operation 0", LONG)
     case(26, "the last player's number 0", full_and_long, "player 15 number 0", LONG)
-    for version, (at, size, width) in {1: (11, 24, 4), 2: (15, 28, 4), 3: (15, 32, 8)}.items():
+    for version, (at, size, width) in {1: (11, 24, 4), 2: (15, 28, 4), 3: (15, 32, 8), 4: (15, 32, 8)}.items():
         for player in (0, 15):
             for byte in range(width):
                 case(26, f"byte {byte} of player {player}'s number 1 and nothing behind it", empty, f"byte {at + size * player + byte} 1",
@@ -722,8 +762,125 @@ def numbers():
     case(27, "a meter behind a number of 64 bits", busy, f"entry 0 used_count 6; player 0 number {2 ** 32}", LONG)
 
 
+# Order 7 of document 02: thresholds, and the marks of those that have an entry open.
+ALL_OPEN = "".join(f"use {i} 0 91 130; " for i in range(16))       # edits of the book `bare`
+
+
+def thresholds():
+    for number in range(1, 17):
+        case(0, f"threshold {number}", bare, f"entry 0 threshold {number}", SHARED)
+    for number in (17, 18, 31, 32, 255, 256, 257, 272, 65_536, 65_537, 65_552, 16_777_216, 16_777_217, 2_147_483_648, 2_147_483_664,
+                   4_294_967_295):
+        case(25, f"threshold {number}", bare, f"entry 0 threshold {number}", SHARED)
+    for kind in (2, 3, 4, 5):
+        case(0, f"threshold 16, kind {kind}", bare, f"entry 0 kind {kind}; entry 0 threshold 16", SHARED)
+        case(25, f"threshold 17, kind {kind}", bare, f"entry 0 kind {kind}; entry 0 threshold 17", SHARED)
+    for base in (limited, printing):
+        case(0, f"threshold 16, the flags of {base.__name__}", base, "entry 0 threshold 16", SHARED)
+        case(25, f"threshold 17, the flags of {base.__name__}", base, "entry 0 threshold 17", SHARED)
+    case(0, "threshold 1, every limit 0", bare, "entry 0 flags 63; entry 0 threshold 1", SHARED)
+    case(25, "threshold 16, and a limit without its flag", bare, "entry 0 count 1; entry 0 threshold 16", SHARED)
+    case(0, "threshold 16, tracked", bare, "entry 0 tracked 1; entry 0 timed_value 9; entry 0 mark 1; entry 0 threshold 16", SHARED)
+    case(25, "threshold 17, tracked", bare, "entry 0 tracked 1; entry 0 timed_value 9; entry 0 mark 1; entry 0 threshold 17", SHARED)
+    case(25, "threshold 16, untracked with a mark", bare, "entry 0 mark 1; entry 0 threshold 16", SHARED)
+    case(0, "threshold 1 of a parent", uneven, "entry 0 asset 9; entry 0 threshold 1", SHARED)
+    case(0, "the second entry's threshold 16", crowded, "entry 1 threshold 16", SHARED)
+    case(25, "the second entry's threshold 17", crowded, "entry 1 threshold 17", SHARED)
+    case(25, "the second entry's threshold 17, the first one's 16", crowded, "entry 0 threshold 16; entry 1 threshold 17", SHARED)
+    case(0, "64 tracked entries of threshold 16, 16 open uses, the greatest numbers", full_and_shared, "", SHARED)
+    case(0, "the last of 64 entries without its threshold", full_and_shared, "entry 63 threshold 0", SHARED)
+    case(25, "the last of 64 entries with threshold 17", full_and_shared, "entry 63 threshold 17", SHARED)
+
+
+def kept_marks():
+    """A mark for each player that has the entry open, and no other, whatever the threshold."""
+    for threshold in ("", "entry 0 threshold 1; ", "entry 0 threshold 16; "):
+        told = ", " + threshold.strip("; ").replace("entry 0 ", "") if threshold else ""
+        for marks in (1, 2, 128, 256, 32_768, 65_535, 65_536, 16_777_216, 2_147_483_648, 4_294_967_295):
+            case(27, f"nobody has it open, marks {marks}{told}", bare, threshold + f"entry 0 marks {marks}", SHARED)
+        for marks, how in ((0, "missing"), (2, "player 1's"), (3, "player 1's too"), (32_768, "player 15's"), (32_769, "player 15's too"),
+                           (65_534, "all but its own"), (65_535, "every player's"), (256, "bit 8"), (257, "bit 8 too"), (65_536, "bit 16"),
+                           (65_537, "bit 16 too"), (16_777_217, "bit 24 too"), (2_147_483_648, "bit 31"), (2_147_483_649, "bit 31 too"),
+                           (4_294_967_295, "every bit")):
+            case(27, f"player 0 has it open, its mark: {how}{told}", showing, threshold + f"entry 0 marks {marks}", SHARED)
+    for kind in (2, 3, 4, 5):
+        case(27, f"nobody has it open, marks 1, kind {kind}", bare, f"entry 0 kind {kind}; entry 0 marks 1", SHARED)
+    for base in (limited, printing):
+        case(27, f"nobody has it open, marks 1, the flags of {base.__name__}", base, "entry 0 marks 1", SHARED)
+    for player in range(16):
+        alone = f"use {player} 0 91 130"
+        case(0, f"player {player} alone has it open", bare, alone)
+        case(27, f"player {player} alone has it open, its mark missing", bare, alone + "; entry 0 marks 0", SHARED)
+        case(27, f"player {player} alone has it open, the bit of the next set", bare, alone + f"; entry 0 marks {2 << player}", SHARED)
+    for marks, how in ((0, "both missing"), (2, "player 2's missing"), (4, "player 1's missing"), (5, "player 0's for player 1's"),
+                       (7, "that of player 0, which has stopped, too"), (14, "that of player 3, which was refused, too"),
+                       (22, "that of player 4, which has another entry open, too"), (38, "that of player 5, which never asked, too"),
+                       (32_774, "that of player 15, which never asked, too")):
+        case(27, f"players 1 and 2 have it open, their marks: {how}", busy, f"entry 0 marks {marks}", SHARED)
+    case(27, "the marks of two entries exchanged", busy, "entry 0 marks 16; entry 1 marks 6", SHARED)
+    case(27, "a mark at the next entry", busy, "entry 0 marks 2; entry 1 marks 20", SHARED)
+    case(27, "the second entry's mark missing", busy, "entry 1 marks 0", SHARED)
+    case(27, "a mark of a print", busy, "entry 2 marks 1", SHARED)
+    case(27, "a mark of the last entry, which nobody has open", busy, "entry 3 marks 1", SHARED)
+    case(0, "three players have it open", sharing)
+    for marks in (0, 129, 32_769, 32_896, 32_899, 98_433, 2_147_516_545):
+        case(27, f"players 0, 7 and 15 have it open, marks {marks}", sharing, f"entry 0 marks {marks}", SHARED)
+    case(0, "all 16 have it open", bare, ALL_OPEN)
+    for marks in (0, 32_767, 65_534, 65_279, 131_071, 4_294_967_295):
+        case(27, f"all 16 have it open, marks {marks}", bare, ALL_OPEN + f"entry 0 marks {marks}", SHARED)
+    case(0, "two entries, two players each", crowded, "use 0 0 91 130; use 15 0 92 131; use 7 1 93 132; use 8 1 94 133")
+    case(27, "a mark too many at the last of 64 entries", full_and_shared, "entry 63 marks 3", SHARED)
+    case(27, "the last player's mark missing", full_and_shared, "entry 48 marks 0", SHARED)
+
+
+def full_thresholds():
+    """As many open uses as the threshold are accepted, more are not."""
+    case(0, "one open use, threshold 1", showing, "entry 0 threshold 1", SHARED)
+    for base, edits, uses in ((showing, "use 9 0 95 140; ", 2), (sharing, "", 3), (bare, ALL_OPEN, 16)):
+        for threshold in (1, 2, 3, 4, 8, 15, 16):
+            case(27 if threshold < uses else 0, f"{uses} open uses, threshold {threshold}", base, edits + f"entry 0 threshold {threshold}",
+                 SHARED)
+    for entry, threshold, answer in ((0, 1, 27), (0, 2, 0), (1, 1, 0), (2, 1, 0), (3, 1, 0)):
+        case(answer, f"several entries open, entry {entry} of threshold {threshold}", busy, f"entry {entry} threshold {threshold}", SHARED)
+    case(0, "each entry at its threshold", busy, "entry 0 threshold 2; entry 1 threshold 1; entry 2 threshold 1; entry 3 threshold 1",
+         SHARED)
+    two = "use 9 0 95 140; "
+    case(27, "2 open uses, threshold 1, one mark missing", showing, two + "entry 0 threshold 1; entry 0 marks 1", SHARED)
+    case(27, "2 open uses, threshold 2, a third mark", showing, two + "entry 0 threshold 2; entry 0 marks 515", SHARED)
+    case(27, "2 open uses, threshold 3, a third mark", showing, two + "entry 0 threshold 3; entry 0 marks 515", SHARED)
+    last = "player 1 open_entry 63; entry 63 threshold "
+    case(27, "the last of 64 entries with 2 open uses, threshold 1", full_and_shared, last + "1", SHARED)
+    case(0, "the last of 64 entries with 2 open uses, threshold 2", full_and_shared, last + "2", SHARED)
+
+
+def marks_in_stages():
+    """The number of a threshold and of marks against others."""
+    case(20, "threshold and length", bare, "entry 0 threshold 17; length 602", SHARED)
+    case(20, "marks and length", bare, "entry 0 marks 1; length 604", SHARED)
+    case(23, "threshold and time", bare, "time 4000000001; entry 0 threshold 17", SHARED)
+    case(24, "asset and threshold", bare, "asset 0 key 2; entry 0 threshold 17", SHARED)
+    case(24, "asset and marks", bare, "asset 0 key 2; entry 0 marks 1", SHARED)
+    case(25, "threshold and switch", bare, "switch 2; entry 0 threshold 17", SHARED)
+    case(25, "last entry's threshold and first player", busy, "entry 3 threshold 17; player 0 operation 0", SHARED)
+    case(25, "threshold and meter", limited, "entry 0 threshold 17; entry 0 used_count 11", SHARED)
+    case(25, "threshold and marks", bare, "entry 0 threshold 17; entry 0 marks 1", SHARED)
+    case(25, "threshold 17 and 16 open uses", bare, ALL_OPEN + "entry 0 threshold 17", SHARED)
+    case(25, "the second entry's threshold and the first one's marks", crowded, "entry 1 threshold 17; entry 0 marks 1", SHARED)
+    case(25, "object and marks", bare, "entry 0 object 0; entry 0 marks 1", SHARED)
+    case(26, "switch and marks", bare, "switch 2; entry 0 marks 1", SHARED)
+    case(26, "switch and more open uses than the threshold", sharing, "switch 2; entry 0 threshold 2", SHARED)
+    case(26, "last player and first marks", busy, "player 15 operation 1; entry 0 marks 0", SHARED)
+    case(26, "player and more open uses than the threshold", busy, "player 15 operation 1; entry 0 threshold 1", SHARED)
+    case(26, "content and marks", showing, "player 0 content 2; entry 0 marks 0", SHARED)
+    case(26, "an open use that is over, its mark missing", showing, "player 0 until 100; entry 0 marks 0", SHARED)
+    case(26, "number 0 with a use open, its mark missing", busy, "player 4 number 0; entry 1 marks 0", SHARED)
+    case(26, "number 0 and open 1, no mark", busy, "player 5 open 1; entry 0 marks 6", SHARED)
+    case(26, "closed with its fields left, its mark set", busy, "player 1 open 0; entry 0 marks 6", SHARED)
+    case(26, "open entry one past the last, its mark left", busy, "player 4 open_entry 4; entry 1 marks 16", SHARED)
+
+
 GROUPS = [good_books, header, assets, entries, limits_of_zero, players, meters, two_stages, switches, tracks, kept_contents,
-          added_fields_in_stages, numbers]
+          added_fields_in_stages, numbers, thresholds, kept_marks, full_thresholds, marks_in_stages]
 
 
 def cases():
@@ -757,7 +914,7 @@ def main():
         listing.append(f"{number:4} {answer:2} {len(bytes_in):5} {version} {name} [{base.__name__}{': ' + told if told else ''}]\n")
     write_file(CRATES / "test_images" / "data" / "cases.bin", data)
     write_file(CRATES / "test_images" / "stdout", "".join(lines).encode())
-    greatest = rights.write(full_and_long())
+    greatest = image(rights.NEWEST, full_and_shared, "")
     write_file(CRATES / "bench_image" / "data" / "full.rbk", greatest)
     write_file(CRATES / "bench_image" / "stdout", f"0 {len(greatest)}\n".encode())
     write_file(HERE / "images.txt", ("case, answer, length, version, name [base: edits]\n" + "".join(listing)).encode())

@@ -1,8 +1,8 @@
 """The ledger of document 01 with the orders of document 02, and demand 3 judged by it.
 
 A ledger is built from events and answers alone. From the book it reads only what no event changes: assets, kinds, flags,
-limits, tracks and the switch. It is written separately from the rules of events in rights.py, even where the two look alike, so that a
-fault in one of them shows up as a difference. It imports nothing.
+limits, tracks, thresholds and the switch. It is written separately from the rules of events in rights.py, even where the two look
+alike, so that a fault in one of them shows up as a difference. It imports nothing.
 """
 
 
@@ -100,6 +100,13 @@ class Ledger:
     def out_of_dates(self, entry, T):
         limits = self.entries[entry]
         return (limits.flags & 4 and T < limits.start) or (limits.flags & 8 and T > limits.end)
+
+    def open_uses(self, entry, T):
+        return [u for u in self.of_entry(entry) if u.open_at(T)]
+
+    def is_full(self, entry, T):
+        """Order 7: the entry has a threshold, and its open uses have reached it."""
+        return 0 < self.entries[entry].threshold <= len(self.open_uses(entry, T))
 
     def is_switched_off(self, entry):
         """Order 3: with the switch off a tracked entry is grantable only with mark 1."""
@@ -225,14 +232,15 @@ class Ledger:
         demand(reaches == (code not in (10, 11, 12)), "10, 11 and 12 exactly when the choice is not reached")
         if not reaches:
             return
-        left = [p for p in suitable if not self.out_of_dates(p, t) and not self.is_spent(p, t)]
+        left = [p for p in suitable if not self.out_of_dates(p, t) and not self.is_spent(p, t) and not self.is_full(p, t)]
         able = [p for p in left if not self.is_switched_off(p)]
-        demand((code in (13, 43)) == (able == []), "13 or 43 exactly when every suitable entry is out of its dates, spent or switched off")
+        demand((code in (13, 43)) == (able == []),
+               "13 or 43 exactly when every suitable entry is out of its dates, spent, full or switched off")
         demand((code == 43) == (able == [] and left != []), "43 exactly when of these one is only switched off")
         if code in (13, 43):
             return
         demand(code == 0, "else the begin is granted")
-        demand(entry in able, "the entry granted is suitable, in its dates, not spent and not switched off")
+        demand(entry in able, "the entry granted is suitable, in its dates, not spent, not full and not switched off")
         demand(all(self.comes_before(entry, p, event.asset) for p in able if p != entry), "the first entry is chosen")
         if self.entries[entry].kind >= 4:
             demand(until == t, "a momentary use ends where it begins")
@@ -297,6 +305,8 @@ class Ledger:
                 demand(self.spent_timed(p, self.T) <= limits.timed, "spent timed within its limit")
             if limits.flags & 32:
                 demand(self.spent_seconds(p) <= limits.accumulated, "spent seconds within their limit")
+            if limits.threshold:
+                demand(len(self.open_uses(p, self.T)) <= limits.threshold, "no more open uses together than the threshold")
         for use in self.uses:
             self.check_dates(use)
 

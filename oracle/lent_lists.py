@@ -34,8 +34,10 @@ def lines_of(words):
 # ---- Cases
 
 def watching(switch=1):
-    """Assets 1, 2 and 9 at time 1000; player 0 shows 2 under the tracked entry 0 since 990, player 1 shows 1 under entry 1."""
-    book = book_of("1 inherits 9 key; 2 inherits 9 key; 9 | 9 play tracked 1 timed_value 30 mark 1; 1 display; 2 print tracked 1 mark 1")
+    """Assets 1, 2 and 9 at time 1000; player 0 shows 2 under the tracked entry 0 since 990, player 1 shows 1 under entry 1, which is full
+    with that."""
+    book = book_of("1 inherits 9 key; 2 inherits 9 key; 9 | 9 play tracked 1 timed_value 30 mark 1 marks 1; 1 display threshold 1 marks 2; "
+                   "2 print tracked 1 mark 1")
     book.time, book.switch = 1000, switch
     book.players[0] = Player(1, rights.BEGIN, 2, rights.PLAY, 0, 0, 1050, 1, 0, 990, 1050, 2)
     book.players[1] = Player(4, rights.BEGIN, 1, rights.DISPLAY, 0, 1, 1055, 1, 1, 995, 1055, 1)
@@ -67,6 +69,8 @@ EVENTS = [
     ("no such asset", "2.1 begin 3 play 1001: 10", {}),
     ("something open", "0.2 begin 1 play 1001: 11", {}),
     ("nothing suitable", "2.1 begin 1 execute 1001: 12", {}),
+    ("a full entry", "2.1 begin 1 display 1001: 13", {}),
+    ("a full entry as its use ends", "2.1 begin 1 display 1055: 0 1 1115", {2: (1, 60)}),
     ("a continue of an untracked entry", "1.5 continue 1000: 0 1 1060", {}),
     ("a resend", "0.1 begin 2 play 2000: 0 0 1050", {}),
     ("a number used for something else", "0.1 stop 2000: 4", {}),

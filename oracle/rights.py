@@ -57,6 +57,8 @@ class Entry:
     tracked: int = 0
     timed_value: int = 0
     mark: int = 0           # contentAccessGranted
+    threshold: int = 0      # how many players may have the entry open together (order 7); 0 for any number
+    marks: int = 0          # bit p: player p has it open
 
     def has(self, flag):
         return self.flags & flag != 0
@@ -222,7 +224,13 @@ def end_use(book, player, end, lines):
     if entry.has(TIMED) and end - player.begin < entry.timer:
         entry.used_timed -= 1
     record_use(book, entry, player.content, end - player.begin, lines)
+    entry.marks &= ~mark_of(book, player)
     player.open = player.open_entry = player.begin = player.until = player.content = 0
+
+
+def mark_of(book, player):
+    """Order 7: "bit p for player p"."""
+    return next(1 << p for p, each in enumerate(book.players) if each is player)
 
 
 def begin(book, player, number, kind, t, lines):
@@ -256,6 +264,7 @@ def begin(book, player, number, kind, t, lines):
         record_use(book, entry, number, 0, lines)
     else:
         player.open, player.open_entry, player.begin, player.until, player.content = 1, position, t, until, number
+        entry.marks |= mark_of(book, player)
     return (0, position, until)
 
 
@@ -298,7 +307,12 @@ def limits_allow(entry, t):
         return False
     if entry.has(ACCUMULATED) and entry.used_seconds >= entry.accumulated:
         return False
-    return True
+    return not is_full(entry)
+
+
+def is_full(entry):
+    """Order 7: of the marks, "how many are set is compared with the threshold". A momentary use never opens, so it sets none."""
+    return entry.threshold != 0 and entry.marks.bit_count() >= entry.threshold
 
 
 def rank(entry, position, asked):
@@ -359,7 +373,7 @@ ASSET_FIELDS = [("number", 2), ("inherit", 2), ("key", 1)]
 ENTRY_FIELDS = [
     ("object", 2), ("asset", 2), ("kind", 1), ("flags", 1), ("count", 4), ("timed", 4), ("timer", 4), ("start", 4),
     ("end", 4), ("interval", 4), ("accumulated", 4), ("used_count", 4), ("used_timed", 4), ("first", 4),
-    ("used_seconds", 4), ("started", 1), ("tracked", 4), ("timed_value", 4), ("mark", 4)]
+    ("used_seconds", 4), ("started", 1), ("tracked", 4), ("timed_value", 4), ("mark", 4), ("threshold", 4), ("marks", 4)]
 PLAYER_FIELDS = [
     ("number", 8), ("operation", 1), ("asset", 2), ("kind", 1), ("code", 1), ("entry", 1), ("answer_until", 4),
     ("open", 1), ("open_entry", 1), ("begin", 4), ("until", 4), ("content", 4)]
@@ -398,13 +412,15 @@ def before(fields, name):
 
 
 SHORT_NUMBER = [("number", 4)] + PLAYER_FIELDS[1:]      # a player before order 4
+NO_THRESHOLD = before(ENTRY_FIELDS, "threshold")        # an entry before order 7
 
 
 HEADER = 11                 # bytes that every version begins with: mark, version, numbers, time
-VERSIONS = {                # 2 adds fields behind those that were there, 3 widens a player's number in its place
+VERSIONS = {                # 2 and 4 add fields behind those that were there, 3 widens a player's number in its place
     1: Version([], before(ENTRY_FIELDS, "tracked"), before(SHORT_NUMBER, "content")),
-    2: Version([("switch", 4)], ENTRY_FIELDS, SHORT_NUMBER),
-    3: Version([("switch", 4)], ENTRY_FIELDS, PLAYER_FIELDS)}
+    2: Version([("switch", 4)], NO_THRESHOLD, SHORT_NUMBER),
+    3: Version([("switch", 4)], NO_THRESHOLD, PLAYER_FIELDS),
+    4: Version([("switch", 4)], ENTRY_FIELDS, PLAYER_FIELDS)}
 NEWEST = max(VERSIONS)
 
 
@@ -501,6 +517,8 @@ def read(data):
         return 25, None
     if not header_is_good(book) or not all(player_is_good(book, player) for player in book.players):
         return 26, None
+    if "marks" not in layouts.entry.names:
+        set_marks(book)
     if not all(meters_are_good(book, position) for position in range(entries)):
         return 27, None
     return 0, book
@@ -509,6 +527,17 @@ def read(data):
 def take(data, at, layout, how_many):
     end = at + layout.size * how_many
     return [layout.read(data, each) for each in range(at, end, layout.size)], end
+
+
+def set_marks(book):
+    """Order 7: "Older images get marks set from their open uses"."""
+    for position, entry in enumerate(book.entries):
+        entry.marks = open_marks(book, position)
+
+
+def open_marks(book, position):
+    """A mark for each player that has the entry at this position open."""
+    return sum(mark_of(book, player) for player in book.users(position))
 
 
 def assets_are_good(book):
@@ -537,13 +566,17 @@ def entry_is_good(book, entry):
         return False
     if entry.is_momentary() and (entry.has(ACCUMULATED) or entry.timer != 0):
         return False
-    return track_is_good(entry)
+    return track_is_good(entry) and threshold_is_good(entry)
 
 
 def track_is_good(entry):
     if entry.tracked == 0:
         return (entry.timed_value, entry.mark) == (0, 0)
     return entry.tracked == 1 and entry.mark in (0, 1)
+
+
+def threshold_is_good(entry):
+    return entry.threshold <= PLAYERS
 
 
 def header_is_good(book):
@@ -599,4 +632,14 @@ def meters_are_good(book, position):
         return False
     if entry.started > 1 or (entry.started == 0 and entry.first != 0) or entry.first > book.time:
         return False
-    return entry.has(INTERVAL) or entry.started == 0
+    if not entry.has(INTERVAL) and entry.started:
+        return False
+    return marks_are_good(book, position)
+
+
+def marks_are_good(book, position):
+    """Order 7: 27 "where marks and open uses differ or exceed a threshold"."""
+    entry = book.entries[position]
+    if entry.marks != open_marks(book, position):
+        return False
+    return entry.threshold == 0 or entry.marks.bit_count() <= entry.threshold

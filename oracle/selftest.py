@@ -1,12 +1,12 @@
 """The second program tests itself: python3 oracle/selftest.py [events]
 
 The afternoon of document 01, then random days. On each day, demand 3 is judged by the ledger; every book along
-the way is written and read back; events turned away and resends must leave the book unchanged; and the day without its
-resends is run again. On every other day the lines of the usage report are handed on from zeros and must be the ledger's sums; on the
-others each event is lent any list, the same in both runs. The days written by hand are judged by the ledger too, the rules of the choice
-before order 6 answer those otherwise that say so, and the lists lent by hand get their answers. Then servers with one planted fault each
-must be caught, by the ledger on random days, and by the stored days, images or lists. Last, the stored texts get their answers from the
-reader of XML texts, and readers with one planted fault each must be caught by them.
+the way is written and read back, and its marks are those of the ledger's open uses; events turned away and resends must leave the book
+unchanged; and the day without its resends is run again. On every other day the lines of the usage report are handed on from zeros and
+must be the ledger's sums; on the others each event is lent any list, the same in both runs. The days written by hand are judged by the
+ledger too, the rules of the choice before order 6 answer those otherwise that say so, and the lists lent by hand get their answers. Then
+servers with one planted fault each must be caught, by the ledger on random days, and by the stored days, images or lists. Last, the
+stored texts get their answers from the reader of XML texts, and readers with one planted fault each must be caught by them.
 """
 
 import copy
@@ -101,6 +101,20 @@ def check_records():
     demand(rights.decode(record) == begin(15, 0x0123456789ABCDEF, 0x0102, 5, 0x03040506), "the fields of a record")
 
 
+def check_image():
+    """The bytes of an image of version 4, field by field."""
+    book = Book(0x00010203, [Asset(0x0405, 0x0607, 1)], [Entry(
+        0x0809, 0x0405, 1, 63, 0x0A0B, 0x0C0D, 0x0E0F, 0x00000010, 0x01111213, 0x00141516, 0x00171819, 0x1A, 0x1B, 0x00010200, 0x1C, 1,
+        1, 0x1D1E1F20, 1, 2, 0x8000)], switch=1)
+    book.players[15] = rights.Player(
+        0x2122232425262728, 1, 0x292A, 1, 0, 0, 0x2B2C2D2E, 1, 0, 0x00010201, 0x00010210, 0x0405)
+    told = """52424b 0004 01 01 00010203 00000001  0405 0607 01  0809 0405 01 3f
+        00000a0b 00000c0d 00000e0f 00000010 01111213 00141516 00171819 0000001a 0000001b 00010200 0000001c 01 00000001 1d1e1f20 00000001
+        00000002 00008000""" + "00" * 32 * 15 + """2122232425262728 01 292a 01 00 00 2b2c2d2e 01 00 00010201 00010210 00000405"""
+    demand(rights.write(book) == bytes.fromhex(told), "the fields of an image")
+    demand(rights.read(bytes.fromhex(told)) == (0, book), "an image read field by field")
+
+
 def check_in_line():
     """The rules and the ledger agree on which number follows which, around the ends of boot numbers and counters, which no day from a
     fresh book comes to."""
@@ -132,6 +146,27 @@ def check_order():
         demand(ledger.comes_before(0, 1, 1) == first != ledger.comes_before(1, 0, 1), f"which of {pair} goes first")
 
 
+def check_thresholds():
+    """The rules and the ledger agree on which entries are full, and on how many may be open together, for many sets of players."""
+    players = range(16)
+    sets = [set(players[:size]) for size in range(17)] + [set(players[size:]) for size in range(17)]
+    sets += [set(pair) for pair in itertools.combinations(players, 2)] + [set(players) - {each} for each in players]
+    for users, threshold in itertools.product(sets, range(17)):
+        book = Book(100, [Asset(1, 0, 1)], [Entry(1, 1, PLAY, threshold=threshold, marks=sum(1 << each for each in users))])
+        ledger = Ledger(book.assets, book.entries, 0)
+        for each in users:
+            book.players[each] = rights.Player(1, rights.BEGIN, 1, PLAY, 0, 0, 160, 1, 0, 100, 160, 1)
+            ledger.uses.append(Use(0, each, 100, 160, 1))
+        demand(rights.is_full(book.entries[0]) == ledger.is_full(0, 100), f"whether {users} fill threshold {threshold}")
+        ledger.T = 100
+        try:
+            ledger.check_limits()
+        except Broken:
+            demand(rights.read(rights.write(book)) == (27, None), f"{users} are too many for threshold {threshold}")
+        else:
+            demand(rights.read(rights.write(book)) == (0, book), f"{users} may have threshold {threshold} open")
+
+
 def check_written_days():
     """Those that start from a fresh book by the ledger, and the reports of all. Returns how many are fresh."""
     fresh = 0
@@ -145,6 +180,18 @@ def check_written_days():
             rights.step(book, event, lines)
             demand(plain(lines) == report, f"the report of {name}, after {event}: {report} by hand, not {plain(lines)}")
     return fresh
+
+
+def check_written_back():
+    """Uses open in an older image count for a threshold that the book is given after it was read."""
+    _, _, book, steps, _ = next(day for day in written_days.written() if day[0] == "three open in the image, threshold 3")
+    for version in (1, 2, 3):
+        code, older = rights.read(rights.write(book, version))
+        demand(code == 0 and older.entries[0].threshold == 0, f"version {version} has no threshold")
+        older.entries[0].threshold = 3
+        demand(older == book and rights.read(rights.write(older)) == (0, book), f"the marks of an image of version {version}")
+        for event, answer, _ in steps:
+            demand(rights.step(older, event, rights.zeros(older)) == answer, f"{event} is answered {answer}")
 
 
 def check_choice_before():
@@ -161,16 +208,20 @@ def check_choice_before():
 
 
 def is_fresh(book):
-    entries = [dataclasses.replace(each, used_count=0, used_timed=0, first=0, used_seconds=0, started=0) for each in book.entries]
+    entries = [dataclasses.replace(each, used_count=0, used_timed=0, first=0, used_seconds=0, started=0, marks=0) for each in book.entries]
     return book == Book(assets=book.assets, entries=entries, switch=book.switch)
 
 
-def run_day(rng, length):
-    """One random day, checked. Returns how often each code was answered."""
+def run_day(rng, length, books=True):
+    """One random day, checked: the answers, and the books on the way unless they are left out. Returns how often each code was
+    answered."""
     around = rng.choice((0, 1000, 1000, 1_700_000_000, rights.LATEST - 500, rights.LATEST - 60))
-    rivals = rng.random() < 0.4
-    fresh = days.rival_book(rng, around, length) if rivals else days.fresh_book(rng, around)
-    cabins = days.Rivals(rng, fresh) if rivals else None
+    sort = rng.choices(("rivals", "groups", "crowd"), (4, 3, 3))[0]
+    if sort == "rivals":
+        fresh = days.rival_book(rng, around, length)
+    else:
+        fresh = days.group_book(rng, around) if sort == "groups" else days.fresh_book(rng, around)
+    cabins = days.PLAYED[sort](rng, fresh) if sort in days.PLAYED else None
     book, ledger = copy.deepcopy(fresh), Ledger(fresh.assets, fresh.entries, fresh.switch)
     lines, handed = rights.zeros(book), rng.random() < 0.5
     lines += [rights.Line(*rng.choices((0, 5, 900), k=3)) for _ in range(rng.randint(0, 2))]
@@ -182,21 +233,31 @@ def run_day(rng, length):
         told, before = [dataclasses.replace(line) for line in lent], after
         answer = rights.step(book, event, lent)
         after, resend = rights.write(book), ledger.is_resend(event, answer[0])
-        if resend or answer[0] in (*range(1, 7), 30):
-            demand(after == before and lent == told, "a resend and what is turned away leave the book and the lines")
-        code, again = rights.read(after)
-        demand(code == 0 and again == book, "each book on the way reads back as itself")
-        book = again
         ledger.follow(event, answer, plain(told), plain(lent))
-        demand(ledger.T == book.time, "T is the book's time")
+        if books:
+            if resend or answer[0] in (*range(1, 7), 30):
+                demand(after == before and lent == told, "a resend and what is turned away leave the book and the lines")
+            code, again = rights.read(after)
+            demand(code == 0 and again == book, "each book on the way reads back as itself")
+            demand(ledger.T == book.time, "T is the book's time")
+            check_marks(book, ledger)
+            book = again
         demand(not handed or plain(lines) == ledger.report() + further, "from zeros, the lines are the ledger's sums")
         if not resend:
             kept.append((event, told, answer, lent if not handed else None))
         name = "resend" if resend else answer[0]
         seen[name] = seen.get(name, 0) + 1
-    check_without_resends(fresh, kept, book)
-    check_older(book)
+    if books:
+        check_without_resends(fresh, kept, book)
+        check_older(book)
     return seen
+
+
+def check_marks(book, ledger):
+    """An entry has a mark for each player that has a use of it open by the ledger, and no other."""
+    for position, entry in enumerate(book.entries):
+        users = {use.player for use in ledger.open_uses(position, ledger.T)}
+        demand(entry.marks == sum(1 << player for player in users), f"the marks of entry {position}")
 
 
 def check_without_resends(fresh, kept, book):
@@ -209,18 +270,21 @@ def check_without_resends(fresh, kept, book):
 
 
 def check_older(book):
-    """What an older version can say of the book is read back as that, and written as the newest version."""
-    counted = days.with_short_numbers(book)
+    """What an older version can say of the book is read back as that, with the marks of its open uses, and written as the newest
+    version."""
+    shared, counted = copy.deepcopy(book), days.with_short_numbers(book)
+    for entry in shared.entries + counted.entries:
+        entry.threshold = 0
     plain_book = copy.deepcopy(counted)
     plain_book.switch = 0
     for thing in plain_book.entries + plain_book.players:
         for name in ("tracked", "timed_value", "mark", "content"):
             if hasattr(thing, name):
                 setattr(thing, name, 0)
-    for version, told in ((1, plain_book), (2, counted)):
-        image = rights.write(counted, version)
+    for version, told in ((1, plain_book), (2, counted), (3, shared)):
+        image = rights.write(book if version == 3 else days.with_short_numbers(book), version)
         demand(rights.read(image) == (0, told), f"an image of version {version} is the book, without what it has no field for")
-        demand(rights.write(rights.read(image)[1]) == images.widened(image), f"an image of version {version} is written back as version 3")
+        demand(rights.write(rights.read(image)[1]) == images.widened(image), f"an image of version {version} is written back as version 4")
 
 
 # ---- Planted faults: each must be caught, or the tests above are too weak
@@ -921,6 +985,394 @@ def no_flags_are_like_neither(flags, last, inherited, position, entry):
     return last, inherited, position
 
 
+# Order 7: thresholds and marks. A fault of which entries are full is told by threshold, marks and the entry.
+
+def full_if(rule):
+    def fault(real):
+        return lambda entry: bool(rule(entry.threshold, entry.marks, entry))
+    fault.__name__ = rule.__name__
+    return fault
+
+
+def never_full(threshold, marks, entry):
+    return False
+
+
+def full_from_one_more_on(threshold, marks, entry):
+    return threshold and marks.bit_count() > threshold
+
+
+def full_from_one_less_on(threshold, marks, entry):
+    return threshold and marks.bit_count() + 1 >= threshold
+
+
+def full_from_one_on(threshold, marks, entry):
+    return threshold and marks.bit_count() >= 1
+
+
+def a_threshold_of_0_is_full(threshold, marks, entry):
+    return marks.bit_count() >= threshold
+
+
+def a_threshold_of_1_is_none(threshold, marks, entry):
+    return threshold > 1 and marks.bit_count() >= threshold
+
+
+def player_15_is_not_counted(threshold, marks, entry):
+    return threshold and (marks & 0x7FFF).bit_count() >= threshold
+
+
+def player_0_is_not_counted(threshold, marks, entry):
+    return threshold and (marks >> 1).bit_count() >= threshold
+
+
+def eight_players_are_counted(threshold, marks, entry):
+    return threshold and (marks & 0xFF).bit_count() >= threshold
+
+
+def the_last_marked_player_decides(threshold, marks, entry):
+    return threshold and marks.bit_length() >= threshold
+
+
+def the_marks_are_taken_for_a_number(threshold, marks, entry):
+    return threshold and marks >= threshold
+
+
+def the_used_count_is_compared(threshold, marks, entry):
+    return threshold and entry.used_count >= threshold
+
+
+def only_entries_without_flags_are_full(threshold, marks, entry):
+    return threshold and entry.flags == 0 and marks.bit_count() >= threshold
+
+
+def only_entries_with_a_count_are_full(threshold, marks, entry):
+    return threshold and entry.has(rights.COUNT) and marks.bit_count() >= threshold
+
+
+def counted_by_the_book(rule):
+    """A fault of how many players are compared with a threshold, told by the open use, its entry, the entry and the asset asked for."""
+    def fault(real):
+        def begin(book, player, number, kind, t, lines):
+            def is_full(entry):
+                uses = [each for each in book.players if each.open and rule(each, book.entries[each.open_entry], entry, number)]
+                return entry.threshold != 0 and len(uses) >= entry.threshold
+            with planted("is_full", lambda real: is_full):
+                return real(book, player, number, kind, t, lines)
+        return begin
+    fault.__name__ = rule.__name__
+    return fault
+
+
+def every_open_use_counts(use, used, entry, number):
+    return True
+
+
+def uses_of_the_rights_object_count(use, used, entry, number):
+    return used.object == entry.object
+
+
+def uses_of_the_entrys_asset_count(use, used, entry, number):
+    return used.asset == entry.asset
+
+
+def uses_for_the_same_content_count(use, used, entry, number):
+    return use.content == number
+
+
+def uses_of_the_entry_for_the_same_content_count(use, used, entry, number):
+    return used is entry and use.content == number
+
+
+def a_full_entry_is_not_suitable(real):
+    return lambda book, asset, kind: [p for p in real(book, asset, kind) if not rights.is_full(book.entries[p])]
+
+
+def a_full_entry_refuses_all(real):
+    def begin(book, player, number, kind, t, lines):
+        asset = book.asset(number)
+        if not player.open and asset is not None and asset.key:
+            if any(rights.is_full(book.entries[p]) for p in rights.suitable_entries(book, asset, kind)):
+                return rights.refused(13)
+        return real(book, player, number, kind, t, lines)
+    return begin
+
+
+def full_gets_43(real):
+    return lambda book, suitable, t: 43 if any(rights.is_full(book.entries[p]) for p in suitable) else real(book, suitable, t)
+
+
+def full_and_switched_off_gets_43(real):
+    def code(book, suitable, t):
+        with planted("is_full", lambda real: lambda entry: False):
+            return real(book, suitable, t)
+    return code
+
+
+def full_comes_before_11(real):
+    def begin(book, player, number, kind, t, lines):
+        if player.open and rights.is_full(book.entries[player.open_entry]):
+            return rights.refused(13)
+        return real(book, player, number, kind, t, lines)
+    return begin
+
+
+def a_threshold_is_a_flag(flags, last, inherited, position, entry):
+    return 1 if entry.threshold else flags, last, inherited, position
+
+
+def fewer_players_first(flags, last, inherited, position, entry):
+    return flags, last, inherited, entry.marks.bit_count(), position
+
+
+def a_continue_asks_for_the_threshold(real):
+    def go_on(book, player, t):
+        if player.open and rights.is_full(book.entries[player.open_entry]):
+            return rights.refused(15)
+        return real(book, player, t)
+    return go_on
+
+
+def a_continue_gives_the_place_away(real):
+    def go_on(book, player, t):
+        if player.open:
+            book.entries[player.open_entry].marks &= ~rights.mark_of(book, player)
+        return real(book, player, t)
+    return go_on
+
+
+def no_mark_is_set(real):
+    def begin(book, player, number, kind, t, lines):
+        answer = real(book, player, number, kind, t, lines)
+        if answer[0] == 0:
+            book.entries[answer[1]].marks &= ~rights.mark_of(book, player)
+        return answer
+    return begin
+
+
+def a_momentary_use_is_marked(real):
+    def begin(book, player, number, kind, t, lines):
+        answer = real(book, player, number, kind, t, lines)
+        if answer[0] == 0:
+            book.entries[answer[1]].marks |= rights.mark_of(book, player)
+        return answer
+    return begin
+
+
+def a_refused_begin_is_marked(real):
+    def begin(book, player, number, kind, t, lines):
+        answer = real(book, player, number, kind, t, lines)
+        if answer[0] == 13:
+            book.entries[rights.suitable_entries(book, book.asset(number), kind)[0]].marks |= rights.mark_of(book, player)
+        return answer
+    return begin
+
+
+def marks_only_with_a_threshold(real):
+    def begin(book, player, number, kind, t, lines):
+        answer = real(book, player, number, kind, t, lines)
+        if answer[0] == 0 and book.entries[answer[1]].threshold == 0:
+            book.entries[answer[1]].marks = 0
+        return answer
+    return begin
+
+
+def a_stop_leaves_the_mark(real):
+    def stop(book, player, t, lines):
+        marks = [entry.marks for entry in book.entries]
+        answer = real(book, player, t, lines)
+        for entry, was in zip(book.entries, marks):
+            entry.marks = was
+        return answer
+    return stop
+
+
+def a_lapse_leaves_the_mark(real):
+    def settle(book, t, lines):
+        marks = [entry.marks for entry in book.entries]
+        real(book, t, lines)
+        for entry, was in zip(book.entries, marks):
+            entry.marks = was
+    return settle
+
+
+def only_the_askers_lapse_clears_a_mark(real):
+    def answered(book, event, lines):
+        def leaving(real):
+            def settle(book, t, lines):
+                marks = [entry.marks for entry in book.entries]
+                real(book, t, lines)
+                for entry, was in zip(book.entries, marks):
+                    entry.marks |= was & ~(1 << event.player)
+            return settle
+        with planted("settle", leaving):
+            return real(book, event, lines)
+    return answered
+
+
+def an_end_clears_every_mark(real):
+    def end_use(book, player, end, lines):
+        entry = book.entries[player.open_entry]
+        real(book, player, end, lines)
+        entry.marks = 0
+    return end_use
+
+
+def the_threshold_is_asked_before_settling(real):
+    def answered(book, event, lines):
+        marks = {id(entry): entry.marks for entry in book.entries}
+        with planted("is_full", lambda real: lambda entry: entry.threshold != 0 and marks[id(entry)].bit_count() >= entry.threshold):
+            return real(book, event, lines)
+    return answered
+
+
+def a_refused_begin_is_tried_again(real):
+    """Sent again, it is granted if there is room by now."""
+    def answered(book, event, lines):
+        if event.player < 16 and event.number:
+            player = book.players[event.player]
+            request = (event.number, event.operation, event.asset, event.kind)
+            if player.code == 13 and request == (player.number, player.operation, player.asset, player.kind):
+                player.number -= 1
+                answer = real(book, event, lines)
+                player.number = event.number
+                return answer if answer[0] != 5 else rights.refused(13)
+        return real(book, event, lines)
+    return answered
+
+
+def bits_from_the_top(real):
+    return lambda book, player: 0x8000 // real(book, player)
+
+
+def a_threshold_of_17_is_accepted(real):
+    return lambda entry: entry.threshold <= 17
+
+
+def a_threshold_of_16_is_refused(real):
+    return lambda entry: entry.threshold < 16
+
+
+def a_threshold_of_0_is_refused(real):
+    return lambda entry: real(entry) and entry.threshold != 0
+
+
+def thresholds_are_compared_in_8_bits(real):
+    return lambda entry: entry.threshold % 256 <= 16
+
+
+def thresholds_are_compared_in_16_bits(real):
+    return lambda entry: entry.threshold % 65_536 <= 16
+
+
+def a_momentary_entry_has_no_threshold(real):
+    return lambda entry: real(entry) and (entry.threshold == 0 or not entry.is_momentary())
+
+
+def marks_good_if(rule):
+    """A fault of which marks are good, told by threshold, marks, the marks of the open uses, and what is right."""
+    def fault(real):
+        def good(book, position):
+            entry = book.entries[position]
+            return bool(rule(entry.threshold, entry.marks, rights.open_marks(book, position), real(book, position)))
+        return good
+    fault.__name__ = rule.__name__
+    return fault
+
+
+def within(threshold, marks):
+    return threshold == 0 or marks.bit_count() <= threshold
+
+
+def any_marks_are_accepted(threshold, marks, open_marks, right):
+    return within(threshold, open_marks)
+
+
+def bits_above_15_are_ignored(threshold, marks, open_marks, right):
+    return marks & 0xFFFF == open_marks and within(threshold, open_marks)
+
+
+def bit_31_is_ignored(threshold, marks, open_marks, right):
+    return marks & 0x7FFF_FFFF == open_marks and within(threshold, open_marks)
+
+
+def marks_without_a_threshold_are_not_judged(threshold, marks, open_marks, right):
+    return right or threshold == 0
+
+
+def marks_that_nobody_has_open_are_not_judged(threshold, marks, open_marks, right):
+    return right or open_marks == 0
+
+
+def marks_too_many_are_accepted(threshold, marks, open_marks, right):
+    return marks & open_marks == open_marks and within(threshold, open_marks)
+
+
+def marks_too_few_are_accepted(threshold, marks, open_marks, right):
+    return marks & open_marks == marks and within(threshold, open_marks)
+
+
+def as_many_marks_are_enough(threshold, marks, open_marks, right):
+    return marks.bit_count() == open_marks.bit_count() and within(threshold, open_marks)
+
+
+def more_than_the_threshold_is_accepted(threshold, marks, open_marks, right):
+    return marks == open_marks
+
+
+def a_full_threshold_is_refused(threshold, marks, open_marks, right):
+    return right and not (threshold and marks.bit_count() == threshold)
+
+
+def a_threshold_of_0_is_compared(threshold, marks, open_marks, right):
+    return right and marks.bit_count() <= threshold
+
+
+def fifteen_marks_are_compared(threshold, marks, open_marks, right):
+    return marks == open_marks and within(threshold, marks & 0x7FFF)
+
+
+def marks_get_26(real):
+    return lambda book: real(book) and all(rights.marks_are_good(book, position) for position in range(len(book.entries)))
+
+
+def thresholds_are_judged_with_the_players(real):
+    """26 for what gets 25."""
+    def read(data):
+        with planted("threshold_is_good", lambda real: lambda entry: True):
+            code, book = real(data)
+        return (26, None) if code == 0 and real(data)[0] == 25 else (code, book)
+    return read
+
+
+def older_marks_are_left_0(real):
+    return lambda book: None
+
+
+def older_marks_are_set_from_the_last_answers(real):
+    def set_marks(book):
+        for position, entry in enumerate(book.entries):
+            granted = (rights.BEGIN, 0, position)
+            entry.marks = sum(1 << p for p, each in enumerate(book.players) if (each.operation, each.code, each.entry) == granted)
+    return set_marks
+
+
+def older_marks_are_set_on_the_first_entry(real):
+    def set_marks(book):
+        real(book)
+        for entry in book.entries[1:]:
+            entry.marks = 0
+    return set_marks
+
+
+def version_3_is_refused(real):
+    return lambda data: (22, None) if data[3:5] == b"\0\3" and len(data) >= 11 and data[:3] == b"RBK" else real(data)
+
+
+def version_5_is_read(real):
+    return lambda data: real(data[:4] + b"\4" + data[5:]) if data[3:5] == b"\0\5" else real(data)
+
+
 # Order 3: images
 
 def the_content_is_kept_of_tracked_entries_only(real):
@@ -1054,11 +1506,28 @@ FAULTS = [                  # caught by the ledger on random days, and by a stor
         inherited_before_own, higher_position_first, the_rules_before_order_6, a_started_interval_before_every_end,
         an_end_before_every_interval, a_started_interval_first_in_a_tie, an_end_first_in_a_tie, later_last_moment_first,
         own_before_the_last_moment, position_before_own, the_last_moment_before_no_flags, no_flags_are_like_neither))]
-LAST_NUMBER_FAULTS = [      # of numbers that no day from a fresh book comes to: caught by a stored day
+THRESHOLD_FAULTS = [        # caught by the ledger on random days, by the answers alone too, and by a stored day
+    ("rank", ranked(a_threshold_is_a_flag)), ("rank", ranked(fewer_players_first)),
+    *(("is_full", full_if(rule)) for rule in (
+        never_full, full_from_one_more_on, full_from_one_less_on, full_from_one_on, a_threshold_of_0_is_full, a_threshold_of_1_is_none,
+        player_15_is_not_counted, player_0_is_not_counted, eight_players_are_counted, the_last_marked_player_decides,
+        the_marks_are_taken_for_a_number, the_used_count_is_compared, only_entries_without_flags_are_full,
+        only_entries_with_a_count_are_full)),
+    *(("begin", counted_by_the_book(rule)) for rule in (
+        every_open_use_counts, uses_of_the_rights_object_count, uses_of_the_entrys_asset_count, uses_for_the_same_content_count,
+        uses_of_the_entry_for_the_same_content_count)),
+    ("suitable_entries", a_full_entry_is_not_suitable), ("begin", a_full_entry_refuses_all), ("none_grantable", full_gets_43),
+    ("begin", full_comes_before_11), ("go_on", a_continue_asks_for_the_threshold), ("go_on", a_continue_gives_the_place_away),
+    *(("begin", fault) for fault in (no_mark_is_set, a_momentary_use_is_marked, a_refused_begin_is_marked)),
+    ("stop", a_stop_leaves_the_mark), ("settle", a_lapse_leaves_the_mark), ("end_use", an_end_clears_every_mark),
+    *(("answered", fault) for fault in (
+        only_the_askers_lapse_clears_a_mark, the_threshold_is_asked_before_settling, a_refused_begin_is_tried_again))]
+MIDDLE_FAULTS = [           # of numbers and books that no day from a fresh book comes to: caught by a stored day
     *(("is_in_line", in_line_if(rule)) for rule in (
         nothing_follows_the_last_counter, nothing_follows_the_last_counter_of_boot_0, no_counter_0,
         counter_0_of_any_greater_boot_number_after_the_last, zero_follows_the_last_number, one_follows_the_last_number)),
-    ("decode", records_of_13_bytes_are_read_too), ("read", old_numbers_become_boot_numbers)]
+    ("decode", records_of_13_bytes_are_read_too), ("read", old_numbers_become_boot_numbers),
+    ("none_grantable", full_and_switched_off_gets_43), ("read", version_3_is_refused), ("set_marks", older_marks_are_left_0)]
 REPORT_FAULTS = [           # caught by the ledger on random days, and by the report of a written day or by a list by hand
     *(("record_use", recording(change)) for change in (
         recorded_with_the_switch_off, recorded_untracked, recorded_with_a_mark_only, recorded_for_the_entrys_asset,
@@ -1086,7 +1555,21 @@ READER_FAULTS = [           # of images that no day from a fresh book leads to, 
     ("content_is_good", the_content_is_compared_in_16_bits), ("player_is_good", a_stored_43_is_refused),
     ("read", version_1_is_refused), ("read", version_2_is_refused), ("write", version_1_is_written_back_as_it_was),
     ("player_is_good", judged("player", a_number_of_counter_0_is_none)), ("player_is_good", numbers_end_at_32_bits),
-    ("read", old_numbers_become_boot_numbers)]
+    ("read", old_numbers_become_boot_numbers),
+    *(("threshold_is_good", fault) for fault in (
+        a_threshold_of_17_is_accepted, a_threshold_of_16_is_refused, a_threshold_of_0_is_refused, thresholds_are_compared_in_8_bits,
+        thresholds_are_compared_in_16_bits, a_momentary_entry_has_no_threshold)),
+    *(("marks_are_good", marks_good_if(rule)) for rule in (
+        any_marks_are_accepted, bits_above_15_are_ignored, bit_31_is_ignored, marks_without_a_threshold_are_not_judged,
+        marks_that_nobody_has_open_are_not_judged, marks_too_many_are_accepted, marks_too_few_are_accepted, as_many_marks_are_enough,
+        more_than_the_threshold_is_accepted, a_full_threshold_is_refused, a_threshold_of_0_is_compared, fifteen_marks_are_compared)),
+    ("header_is_good", marks_get_26), ("read", thresholds_are_judged_with_the_players),
+    *(("set_marks", fault) for fault in (
+        older_marks_are_left_0, older_marks_are_set_from_the_last_answers, older_marks_are_set_on_the_first_entry)),
+    ("read", version_3_is_refused), ("read", version_5_is_read), ("mark_of", bits_from_the_top)]
+KEPT_FAULTS = [             # of what no answer shows: caught by what the ledger says of the book
+    ("begin", the_content_is_kept_of_tracked_entries_only), ("end_use", the_content_is_kept_after_the_end),
+    ("begin", marks_only_with_a_threshold), ("mark_of", bits_from_the_top)]
 
 
 @contextmanager
@@ -1099,12 +1582,12 @@ def planted(name, fault):
         setattr(rights, name, real)
 
 
-def is_caught(name, fault):
-    """By the ledger, on random days."""
+def is_caught(name, fault, books=True):
+    """By the ledger, on random days; by what it says of the answers alone, if the books are left out."""
     with planted(name, fault):
-        for seed in range(300):
+        for seed in range(600):
             try:
-                run_day(random.Random(seed), 60)
+                run_day(random.Random(seed), 60, books)
             except Broken:
                 return True
     return False
@@ -1138,40 +1621,38 @@ def is_caught_by_reports(name, fault):
 
 def check_faults():
     stored_days, stored_images = list(days.stored_days()), list(images.answers())
-    for name, fault in FAULTS:
+    for name, fault in FAULTS + THRESHOLD_FAULTS:
         demand(is_caught(name, fault), f"the fault {fault.__name__} is caught")
         demand(is_caught_by_stored_days(name, fault, stored_days), f"the fault {fault.__name__} is caught by the stored days")
-    for name, fault in LAST_NUMBER_FAULTS:
+    for name, fault in THRESHOLD_FAULTS:
+        demand(is_caught(name, fault, books=False), f"the fault {fault.__name__} is caught by the answers")
+    for name, fault in MIDDLE_FAULTS:
         demand(is_caught_by_stored_days(name, fault, stored_days), f"the fault {fault.__name__} is caught by the stored days")
     for name, fault in REPORT_FAULTS:
         demand(is_caught(name, fault), f"the fault {fault.__name__} is caught")
         demand(is_caught_by_reports(name, fault), f"the fault {fault.__name__} is caught by the reports and lists by hand")
     for name, fault in READER_FAULTS + [each for each in FAULTS if each[0] == "entry_is_good"]:
         demand(is_caught_by_stored_images(name, fault, stored_images), f"the fault {fault.__name__} is caught by the stored images")
-    check_other_faults(stored_days)
-    return len({fault.__name__ for _, fault in FAULTS + LAST_NUMBER_FAULTS + REPORT_FAULTS + READER_FAULTS}) + 4
-
-
-def check_other_faults(stored_days):
-    """Faults that only one sort of test can meet."""
+    for name, fault in KEPT_FAULTS:
+        demand(is_caught_by_what_is_kept(name, fault), f"the fault {fault.__name__} is caught")
     demand(is_caught_by_reports("answer_record", the_checks_come_before_30), "30 comes before the checks of a record")
     demand(is_caught_by_stored_days("go_on", a_continue_asks_the_switch, stored_days), "a continue does not ask the switch")
-    for name, fault in (("begin", the_content_is_kept_of_tracked_entries_only), ("end_use", the_content_is_kept_after_the_end)):
-        demand(is_caught_by_kept_contents(name, fault), f"the fault {fault.__name__} is caught")
+    listed = FAULTS + THRESHOLD_FAULTS + MIDDLE_FAULTS + REPORT_FAULTS + READER_FAULTS + KEPT_FAULTS
+    return len({fault.__name__ for _, fault in listed}) + 2
 
 
-def is_caught_by_kept_contents(name, fault):
-    """By the contents in the book, which is the ledger's content of each open use."""
+def is_caught_by_what_is_kept(name, fault):
     with planted(name, fault):
         try:
-            check_contents()
+            check_kept()
         except Broken:
             return True
     return False
 
 
-def check_contents():
-    """After each event of the written days from a fresh book, a player's content is the ledger's of its open use, or 0."""
+def check_kept():
+    """After each event of the written days from a fresh book, a player's content is the ledger's of its open use, or 0, and the marks are
+    those of the ledger's open uses."""
     for name, version, book, steps, _ in written_days.written():
         if is_fresh(book):
             ledger, book = Ledger(book.assets, book.entries, book.switch), copy.deepcopy(book)
@@ -1182,14 +1663,17 @@ def check_contents():
                 for index, player in enumerate(book.players):
                     use = ledger.open_use(index, ledger.T)
                     demand(player.content == (use.content if use else 0), f"{name}: the content that player {index} has open")
+                check_marks(book, ledger)
 
 
 def main():
     events = int(sys.argv[1]) if len(sys.argv) > 1 else 6_000
     check_afternoon()
     check_records()
+    check_image()
     check_in_line()
     check_order()
+    check_thresholds()
     seen, done, seed = {}, 0, 1
     while done < events:
         for name, times in run_day(random.Random(seed), 60).items():
@@ -1198,7 +1682,8 @@ def main():
     print(f"{done} events in {seed - 1} days:", ", ".join(f"{n} {seen[n]}" for n in sorted(seen, key=str)))
     print(f"{check_written_days()} days written by hand, {lent_lists.check()} lists")
     print(f"{check_choice_before()} days written by hand were answered otherwise before order 6")
-    check_contents()
+    check_written_back()
+    check_kept()
     print(f"{check_faults()} planted faults caught")
     stored, faults = text_faults.check()
     print(f"{stored} stored texts, {faults} planted faults of their reader caught")

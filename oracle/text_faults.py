@@ -383,6 +383,14 @@ def prints_are_tracked(real):
     return add_entries
 
 
+@fault("Reader.add_entries")
+def entries_have_a_threshold(real):
+    def add_entries(self):
+        self.entry.threshold = 16
+        return real(self)
+    return add_entries
+
+
 @fault("Reader.take_text")
 def version_not_judged(real):
     return lambda self, shape, text: None if shape == "version" else real(self, shape, text)

@@ -1,10 +1,11 @@
 """Days written by hand: a small book, events, and the answers that documents 01 and 02 give them, found by hand.
 
 The book is told in words, as in texts.py: its assets, a bar, its entries, as `9; 1 inherits 9 key | 1 play count 5`; `used_count 2`
-and the like set meters, `started 1` and `first 900` an interval that runs, `tracked 1`, `timed_value 30` and `mark 1` a track. A
-line is an event and its answer as document 01 writes them: `0.1 begin 1 play 1000: 0 0 1060`, where a code alone has 255 0 behind it;
-`0.3.1` is player 0 with counter 1 under boot number 3. `was 0 1 1060` behind the answer says that the rules of the choice before order 6
-gave that one, and that the day's answers before it were the same; a day without it is answered by those rules as by today's.
+and the like set meters, `started 1` and `first 900` an interval that runs, `tracked 1`, `timed_value 30` and `mark 1` a track,
+`threshold 2` how many players may have the entry open together; the marks are those of the players that have it open. A line is an
+event and its answer as document 01 writes them: `0.1 begin 1 play 1000: 0 0 1060`, where a code alone has 255 0 behind it; `0.3.1` is
+player 0 with counter 1 under boot number 3. `was 0 1 1060` behind the answer says that the rules of the choice before order 6 gave that
+one, and that the day's answers before it were the same; a day without it is answered by those rules as by today's.
 `-> 1 2 90` behind it says that content 1 has 2 times and 90 seconds in the report from there on; a report begins with zeros, and what
 is not told stays. `days.py` stores the days behind its random ones, without the report, which the run program does not print.
 """
@@ -28,8 +29,11 @@ def day(name, words, *lines, time=0, switch=0, players=(), version=rights.NEWEST
     short."""
     book = book_of(words)
     book.time, book.switch = time, switch
+    assert version == rights.NEWEST or not any(entry.threshold for entry in book.entries), f"{name}: a threshold needs version 4"
     for index, player in players:
         book.players[index] = player
+        if player.open:
+            book.entries[player.open_entry].marks |= 1 << index
     report, steps = {asset.number: (0, 0) for asset in book.assets}, []
     assert all(name != each[0] for each in DAYS), f"two days are named {name}"
     for line in lines:
@@ -649,9 +653,216 @@ def latest_seconds():
         "0.1 begin 1 play 4000000000: 0 1 4000000060 was 0 0 4000000060", time=3_999_999_000)
 
 
+# ---- Order 7: so many players together
+
+def together():
+    """At most so many players have the entry open; the next one gets 13, until one of those uses has ended."""
+    day("threshold 1", "1 key | 1 play threshold 1 count 9",
+        "0.1 begin 1 play 1000: 0 0 1060", "1.1 begin 1 play 1001: 13", "1.2 begin 1 play 1059: 13", "1.3 begin 1 play 1060: 0 0 1120",
+        "0.2 begin 1 play 1060: 13", "1.4 stop 1070: 0 0 1070", "0.3 begin 1 play 1070: 0 0 1130", "15.1 begin 1 play 1071: 13")
+    day("threshold 2", "1 key | 1 play threshold 2 count 9",
+        "0.1 begin 1 play 1000: 0 0 1060", "1.1 begin 1 play 1010: 0 0 1070", "2.1 begin 1 play 1020: 13", "3.1 begin 1 play 1059: 13",
+        "3.2 begin 1 play 1060: 0 0 1120", "2.2 begin 1 play 1060: 13", "1.2 stop 1065: 0 0 1065", "2.3 begin 1 play 1065: 0 0 1125",
+        "0.2 begin 1 play 1065: 13", "0.3 begin 1 play 1120: 0 0 1180", "1.3 begin 1 play 1124: 13", "1.4 begin 1 play 1125: 0 0 1185")
+    day("threshold 3, all three uses over in one second", "1 key | 1 play threshold 3",
+        "0.1 begin 1 play 1000: 0 0 1060", "1.1 begin 1 play 1000: 0 0 1060", "2.1 begin 1 play 1000: 0 0 1060",
+        "3.1 begin 1 play 1000: 13", "3.2 begin 1 play 1060: 0 0 1120", "4.1 begin 1 play 1060: 0 0 1120",
+        "5.1 begin 1 play 1060: 0 0 1120", "0.2 begin 1 play 1060: 13")
+    for player in range(16):
+        other = (player + 1) % 16
+        day(f"player {player} alone fills threshold 1", "1 key | 1 play threshold 1",
+            f"{player}.1 begin 1 play 1000: 0 0 1060", f"{other}.1 begin 1 play 1000: 13", f"{player}.2 stop 1001: 0 0 1001",
+            f"{other}.2 begin 1 play 1001: 0 0 1061", f"{player}.3 begin 1 play 1001: 13")
+    for most in (2, 3, 4, 7, 8, 9, 12, 14, 15):
+        day(f"players from 15 down on threshold {most}", f"1 key | 1 play threshold {most}",
+            *(f"{15 - each}.1 begin 1 play {1000 + each}: 0 0 {1060 + each}" for each in range(most)),
+            f"{15 - most}.1 begin 1 play 1030: 13", "15.2 stop 1031: 0 0 1031", f"{15 - most}.2 begin 1 play 1031: 0 0 1091",
+            "15.3 begin 1 play 1032: 13", "15.4 begin 1 play 1061: 0 0 1121")
+    all_but_15 = [f"{player}.1 begin 1 play 1000: 0 0 1060" for player in range(15)]
+    day("16 players, threshold 15", "1 key | 1 play threshold 15", *all_but_15, "15.1 begin 1 play 1001: 13", "7.2 stop 1002: 0 0 1002",
+        "15.2 begin 1 play 1002: 0 0 1062", "7.3 begin 1 play 1003: 13", "7.4 begin 1 play 1060: 0 0 1120")
+    for most in (16, 0):
+        day(f"16 players, threshold {most}", f"1 key | 1 play threshold {most}", *all_but_15, "15.1 begin 1 play 1001: 0 0 1061",
+            "0.2 continue 1002: 0 0 1062", "0.3 begin 1 play 1002: 11", "7.2 stop 1002: 0 0 1002", "7.3 begin 1 play 1002: 0 0 1062",
+            "8.2 begin 1 play 1060: 0 0 1120")
+    day("more room than players", "1 key | 1 play threshold 3; 1 display threshold 16",
+        "0.1 begin 1 play 1000: 0 0 1060", "1.1 begin 1 play 1000: 0 0 1060", "0.2 begin 1 display 1000: 11",
+        "2.1 begin 1 display 1000: 0 1 1060", "0.3 stop 1001: 0 0 1001", "0.4 begin 1 play 1001: 0 0 1061")
+    day("the latest second", "1 key | 1 play threshold 1",
+        "0.1 begin 1 play 3999999950: 0 0 4000000010", "1.1 begin 1 play 4000000000: 13", "0.2 stop 4000000000: 0 0 4000000000",
+        "1.2 begin 1 play 4000000000: 0 0 4000000060", "0.3 begin 1 play 4000000000: 13")
+
+
+def room_again():
+    """A stop and an until make room, whoever asks; a player that stops may begin again."""
+    day("one player stops and begins again", "1 key | 1 play threshold 1",
+        "0.1 begin 1 play 1000: 0 0 1060", "0.2 begin 1 play 1001: 11", "0.3 stop 1001: 0 0 1001", "0.4 begin 1 play 1001: 0 0 1061",
+        "0.5 stop 1001: 0 0 1001", "0.6 begin 1 play 1001: 0 0 1061", "1.1 begin 1 play 1002: 13", "0.7 begin 1 play 1061: 0 0 1121",
+        "1.2 begin 1 play 1061: 13", "1.3 begin 1 play 1121: 0 0 1181")
+    day("a count is used by grants alone", "1 key | 1 play threshold 1 count 3",
+        "0.1 begin 1 play 1000: 0 0 1060", "1.1 begin 1 play 1000: 13", "2.1 begin 1 play 1000: 13", "0.2 stop 1001: 0 0 1001",
+        "1.2 begin 1 play 1001: 0 0 1061", "0.3 begin 1 play 1001: 13", "1.3 stop 1002: 0 0 1002", "0.4 begin 1 play 1002: 0 0 1062",
+        "0.5 stop 1003: 0 0 1003", "1.4 begin 1 play 1003: 13")
+    day("room and a timed count that comes back", "1 key | 1 play threshold 1 timed 1 timer 30",
+        "0.1 begin 1 play 1000: 0 0 1060", "1.1 begin 1 play 1000: 13", "0.2 stop 1029: 0 0 1029", "1.2 begin 1 play 1029: 0 0 1089",
+        "1.3 stop 1059: 0 0 1059", "0.3 begin 1 play 1059: 13")
+    day("room and seconds that come back", "1 key | 1 play threshold 1 accumulated 66",
+        "0.1 begin 1 play 1000: 0 0 1060", "1.1 begin 1 play 1010: 13", "0.2 stop 1020: 0 0 1020", "1.2 begin 1 play 1020: 0 0 1066",
+        "0.3 begin 1 play 1030: 13", "1.3 stop 1030: 0 0 1030", "0.4 begin 1 play 1030: 0 0 1066")
+    day("another's event settles, a stop of nothing makes no room", "1 key | 1 play threshold 1",
+        "0.1 begin 1 play 1000: 0 0 1060", "2.1 stop 1001: 14", "1.1 begin 1 play 1001: 13", "2.2 begin 3 play 1060: 10",
+        "1.2 begin 1 play 1060: 0 0 1120", "0.2 continue 1060: 14", "0.3 stop 1061: 14", "2.3 begin 1 play 1061: 13")
+    day("what is turned away makes no room", "1 key | 1 play threshold 1",
+        "0.1 begin 1 play 1000: 0 0 1060", "1.2 begin 1 play 1060: 3", "0.1 begin 1 play 1060: 0 0 1060", "16.1 begin 1 play 1060: 2",
+        "0.1 stop 1060: 4", "0.2 stop 999: 5", "1.1 begin 1 play 999: 5", "1.1 begin 1 play 1059: 13", "1.2 begin 1 play 1060: 0 0 1120")
+    day("a limit of 0 with room", "1 key | 1 play threshold 1 count 0; 1 display threshold 2 interval 0",
+        "0.1 begin 1 play 1000: 13", "0.2 begin 1 display 1000: 13")
+
+
+def going_on_together():
+    """A continue does not ask for the threshold and changes no mark."""
+    day("a continue while full", "1 key | 1 play threshold 1",
+        "0.1 begin 1 play 1000: 0 0 1060", "0.2 continue 1030: 0 0 1090", "1.1 begin 1 play 1060: 13", "1.2 begin 1 play 1089: 13",
+        "0.3 continue 1089: 0 0 1149", "1.3 begin 1 play 1148: 13", "1.4 begin 1 play 1149: 0 0 1209", "0.4 continue 1149: 14")
+    day("a continue without more time while full", "1 key | 1 play threshold 1 end 1030",
+        "0.1 begin 1 play 1000: 0 0 1031", "0.2 continue 1010: 15", "1.1 begin 1 play 1010: 13", "0.3 stop 1011: 0 0 1011",
+        "1.2 begin 1 play 1030: 0 0 1031")
+    day("two that go on, threshold 2", "1 key | 1 play threshold 2",
+        "0.1 begin 1 play 1000: 0 0 1060", "1.1 begin 1 play 1000: 0 0 1060", "0.2 continue 1030: 0 0 1090", "1.2 continue 1031: 0 0 1091",
+        "2.1 begin 1 play 1060: 13", "2.2 begin 1 play 1090: 0 0 1150", "3.1 begin 1 play 1090: 13", "3.2 begin 1 play 1091: 0 0 1151")
+
+
+def resent_together():
+    """A resend gets the stored answer, whether or not there is room by now, and takes none."""
+    day("a refused begin sent again when there is room", "1 key | 1 play threshold 1",
+        "0.1 begin 1 play 1000: 0 0 1060", "1.1 begin 1 play 1001: 13", "1.1 begin 1 play 1002: 13", "0.2 stop 1003: 0 0 1003",
+        "1.1 begin 1 play 1004: 13", "2.1 begin 1 play 1004: 0 0 1064", "1.2 begin 1 play 1005: 13", "1.2 begin 1 play 1064: 13",
+        "1.3 begin 1 play 1064: 0 0 1124")
+    day("a granted begin and a stop sent again", "1 key | 1 play threshold 1",
+        "0.1 begin 1 play 1000: 0 0 1060", "0.1 begin 1 play 1005: 0 0 1060", "0.2 stop 1010: 0 0 1010", "0.2 stop 1011: 0 0 1010",
+        "1.1 begin 1 play 1011: 0 0 1071", "0.2 stop 1012: 0 0 1010", "2.1 begin 1 play 1012: 13", "1.1 begin 1 play 1071: 0 0 1071",
+        "2.2 begin 1 play 1071: 0 0 1131", "1.1 begin 1 play 1072: 0 0 1071", "0.3 begin 1 play 1072: 13")
+    day("a begin sent three times takes one place of two", "1 key | 1 play threshold 2",
+        "0.1 begin 1 play 1000: 0 0 1060", "0.1 begin 1 play 1000: 0 0 1060", "0.1 begin 1 play 1001: 0 0 1060",
+        "1.1 begin 1 play 1001: 0 0 1061", "2.1 begin 1 play 1001: 13")
+    day("a player that starts again has its place", "1 key | 1 play threshold 1",
+        "0.1.1 begin 1 play 1000: 0 0 1060", "0.2.1 begin 1 play 1001: 11", "1.1 begin 1 play 1001: 13", "0.2.2 stop 1002: 0 0 1002",
+        "1.2 begin 1 play 1002: 0 0 1062", "0.3.1 begin 1 play 1002: 13")
+
+
+def momentary_together():
+    """A print and an export never open, so they are never full and mark nobody."""
+    for kind in ("print", "export"):
+        day(f"threshold 1 on {kind}", f"1 key | 1 {kind} threshold 1 count 4",
+            f"0.1 begin 1 {kind} 1000: 0 0 1000", f"1.1 begin 1 {kind} 1000: 0 0 1000", f"0.2 begin 1 {kind} 1000: 0 0 1000",
+            f"0.2 begin 1 {kind} 1001: 0 0 1000", f"15.1 begin 1 {kind} 1000: 0 0 1000", f"2.1 begin 1 {kind} 1000: 13")
+        day(f"{kind} beside a full play", f"1 key | 1 play threshold 1; 1 {kind} threshold 1",
+            "0.1 begin 1 play 1000: 0 0 1060", f"1.1 begin 1 {kind} 1000: 0 1 1000", "1.2 begin 1 play 1000: 13",
+            f"1.3 begin 1 {kind} 1001: 0 1 1001", f"0.2 begin 1 {kind} 1001: 11", "0.3 stop 1001: 0 0 1001",
+            f"0.4 begin 1 {kind} 1001: 0 1 1001", "1.4 begin 1 play 1001: 0 0 1061")
+
+
+def full_passed_over():
+    """The choice is among those with room; the players of each entry count for that entry alone, whatever their contents."""
+    day("its own is full, the inherited one has room", "1 inherits 9 key; 9 | 1 play threshold 1; 9 play threshold 1",
+        "0.1 begin 1 play 1000: 0 0 1060", "1.1 begin 1 play 1001: 0 1 1061", "2.1 begin 1 play 1002: 13", "0.2 stop 1003: 0 0 1003",
+        "2.2 begin 1 play 1003: 0 0 1063", "0.3 begin 1 play 1003: 13", "1.2 stop 1004: 0 1 1004", "0.4 begin 1 play 1004: 0 1 1064")
+    day("its own at the higher position is full", "1 inherits 9 key; 9 | 9 play threshold 1; 1 play threshold 1",
+        "0.1 begin 1 play 1000: 0 1 1060", "1.1 begin 1 play 1001: 0 0 1061", "2.1 begin 1 play 1002: 13", "1.2 stop 1003: 0 0 1003",
+        "2.2 begin 1 play 1003: 0 0 1063", "1.3 begin 1 play 1060: 0 1 1120")
+    day("the inherited one is full, its own has room",
+        "1 inherits 9 key; 2 inherits 9 key; 9 | 9 play threshold 1 end 2000; 1 play end 3000",
+        "0.1 begin 2 play 1000: 0 0 1060", "1.1 begin 1 play 1000: 0 1 1060", "2.1 begin 2 play 1000: 13", "0.2 stop 1001: 0 0 1001",
+        "3.1 begin 1 play 1001: 0 0 1061")
+    day("earlier ends are full", "1 key | 1 play end 2000 threshold 1; 1 play end 3000 threshold 2; 1 play count 9",
+        "0.1 begin 1 play 1000: 0 0 1060", "1.1 begin 1 play 1001: 0 1 1061", "2.1 begin 1 play 1002: 0 1 1062",
+        "3.1 begin 1 play 1003: 0 2 1063", "0.2 stop 1004: 0 0 1004", "4.1 begin 1 play 1004: 0 0 1064", "5.1 begin 1 play 1004: 0 2 1064")
+    day("the interval over earlier is full", "1 key | 1 play interval 500 threshold 1; 1 play start 1001 end 5000",
+        "0.1 begin 1 play 1000: 0 0 1060", "1.1 begin 1 play 1001: 0 1 1061", "0.2 stop 1002: 0 0 1002",
+        "2.1 begin 1 play 1002: 0 0 1062 was 0 1 1062", "3.1 begin 1 play 1003: 0 1 1063")
+    day("a threshold is no flag", "1 key | 1 play count 9; 1 play threshold 1",
+        "0.1 begin 1 play 1000: 0 1 1060", "1.1 begin 1 play 1000: 0 0 1060", "0.2 stop 1001: 0 1 1001", "2.1 begin 1 play 1001: 0 1 1061")
+    day("a threshold is no flag, inherited", "1 inherits 9 key; 9 | 1 play end 1100; 9 play threshold 2",
+        "0.1 begin 1 play 1000: 0 1 1060", "1.1 begin 1 play 1000: 0 1 1060", "2.1 begin 1 play 1000: 0 0 1060")
+    day("full beside spent", "1 key | 1 play count 1; 1 play count 5 threshold 1",
+        "0.1 begin 1 play 1000: 0 0 1060", "1.1 begin 1 play 1000: 0 1 1060", "2.1 begin 1 play 1000: 13", "0.2 stop 1001: 0 0 1001",
+        "2.2 begin 1 play 1001: 13", "1.2 stop 1001: 0 1 1001", "2.3 begin 1 play 1001: 0 1 1061")
+    day("full for one, full for all who inherit it", "1 inherits 9 key; 2 inherits 9 key; 9; 7 inherits 9 | 9 play threshold 1",
+        "0.1 begin 1 play 1000: 0 0 1060", "1.1 begin 2 play 1000: 13", "1.2 begin 1 play 1000: 13", "2.1 begin 9 play 1000: 10",
+        "2.2 begin 7 play 1000: 10", "0.2 stop 1001: 0 0 1001", "1.3 begin 2 play 1001: 0 0 1061", "0.3 begin 1 play 1001: 13")
+    day("two contents on one threshold of 2", "1 inherits 9 key; 2 inherits 9 key; 9 | 9 play threshold 2",
+        "0.1 begin 1 play 1000: 0 0 1060", "1.1 begin 2 play 1000: 0 0 1060", "2.1 begin 1 play 1000: 13", "3.1 begin 2 play 1000: 13",
+        "1.2 stop 1001: 0 0 1001", "2.2 begin 1 play 1001: 0 0 1061")
+    day("one content on two thresholds",
+        "1 inherits 9 key; 2 inherits 9 key; 9 | 1 play threshold 1; 2 play threshold 1; 9 play threshold 1",
+        "0.1 begin 1 play 1000: 0 0 1060", "1.1 begin 1 play 1000: 0 2 1060", "2.1 begin 1 play 1000: 13",
+        "2.2 begin 2 play 1000: 0 1 1060", "3.1 begin 2 play 1000: 13", "1.2 stop 1001: 0 2 1001", "3.2 begin 2 play 1001: 0 2 1061")
+    day("players on other entries do not count", "1 key; 2 key | 1 play threshold 2; 2 play; 1 display threshold 1",
+        "0.1 begin 2 play 1000: 0 1 1060", "1.1 begin 2 play 1000: 0 1 1060", "2.1 begin 1 display 1000: 0 2 1060",
+        "3.1 begin 1 play 1000: 0 0 1060", "4.1 begin 1 play 1000: 0 0 1060", "5.1 begin 1 play 1000: 13", "5.2 begin 1 display 1000: 13",
+        "5.3 begin 2 play 1000: 0 1 1060")
+    day("each kind has its threshold", "1 key | 1 play threshold 1; 1 display threshold 1; 1 execute threshold 1",
+        "0.1 begin 1 play 1000: 0 0 1060", "1.1 begin 1 display 1000: 0 1 1060", "2.1 begin 1 execute 1000: 0 2 1060",
+        "3.1 begin 1 play 1000: 13", "3.2 begin 1 display 1000: 13", "3.3 begin 1 execute 1000: 13", "3.4 begin 1 print 1000: 12",
+        "1.2 stop 1000: 0 1 1000", "3.5 begin 1 display 1000: 0 1 1060")
+
+
+def full_and_switched_off():
+    """A full entry is not one that fails for the switch only: 13, not 43."""
+    opened = (0, Player(1, rights.BEGIN, 1, rights.PLAY, 0, 0, 1050, 1, 0, 990, 1050, 1))
+    day("full and switched off", "1 key | 1 play tracked 1 threshold 1",
+        "1.1 begin 1 play 1000: 13", "1.1 begin 1 play 1001: 13", "0.2 continue 1010: 0 0 1070", "0.3 stop 1020: 0 0 1020",
+        "1.1 begin 1 play 1020: 13", "1.2 begin 1 play 1020: 43", "0.4 begin 1 play 1020: 43", time=1000, players=[opened])
+    day("full and switched off, then lapsed", "1 key | 1 play tracked 1 threshold 1",
+        "1.1 begin 1 play 1049: 13", "1.2 begin 1 play 1050: 43", time=1000, players=[opened])
+    day("full and switched off beside one switched off", "1 key | 1 play tracked 1 threshold 1; 1 play tracked 1 threshold 1",
+        "1.1 begin 1 play 1000: 43", "0.2 stop 1001: 0 0 1001", "1.2 begin 1 play 1001: 43", time=1000, players=[opened])
+    day("full beside full and switched off", "1 key | 1 play tracked 1 threshold 1; 1 play threshold 1 count 9",
+        "1.1 begin 1 play 1000: 0 1 1060", "2.1 begin 1 play 1000: 13", "0.2 stop 1001: 0 0 1001", "2.2 begin 1 play 1001: 43",
+        "1.2 stop 1002: 0 1 1002", "2.3 begin 1 play 1002: 0 1 1062", time=1000, players=[opened])
+    day("room left and switched off", "1 key | 1 play tracked 1 threshold 2", "1.1 begin 1 play 1000: 43", "1.2 begin 1 play 1050: 43",
+        time=1000, players=[opened])
+    day("full beside one switched off", "1 key | 1 play tracked 1; 1 play threshold 1 count 9",
+        "0.1 begin 1 play 1000: 0 1 1060", "1.1 begin 1 play 1000: 43", "0.2 stop 1001: 0 1 1001", "1.2 begin 1 play 1001: 0 1 1061")
+    day("switched off with a threshold", "1 key | 1 play tracked 1 threshold 1",
+        "0.1 begin 1 play 1000: 43", "1.1 begin 1 play 1000: 43", "0.1 begin 1 play 1000: 43")
+    day("a mark for the switch does not help a full one", "1 key | 1 play tracked 1 mark 1 threshold 1",
+        "0.1 begin 1 play 1000: 0 0 1060", "1.1 begin 1 play 1000: 13", "0.2 stop 1001: 0 0 1001", "1.2 begin 1 play 1001: 0 0 1061")
+    day("full with the switch on", "1 key | 1 play tracked 1 timed_value 50 threshold 1",
+        "0.1 begin 1 play 1000: 0 0 1060", "1.1 begin 1 play 1001: 13", "0.2 stop 1040: 0 0 1040 -> 1 0 40",
+        "1.2 begin 1 play 1040: 0 0 1100", "0.3 begin 1 play 1050: 13", "0.4 begin 1 play 1100: 0 0 1160 -> 1 1 100", switch=1)
+
+
+def marked_images():
+    """From an image with uses open: their marks count from the first event on. Before version 4 there is no threshold."""
+    three = [(index, Player(1, rights.BEGIN, 1, rights.PLAY, 0, 0, until, 1, 0, 990, until))
+             for index, until in ((3, 1040), (9, 1050), (15, 1060))]
+    day("three open in the image, threshold 3", "1 key | 1 play threshold 3",
+        "0.1 begin 1 play 1000: 13", "9.2 stop 1010: 0 0 1010", "0.2 begin 1 play 1010: 0 0 1070", "9.3 begin 1 play 1039: 13",
+        "9.4 begin 1 play 1040: 0 0 1100", "3.2 begin 1 play 1040: 13", "15.2 continue 1050: 0 0 1110", "3.3 begin 1 play 1069: 13",
+        "3.4 begin 1 play 1070: 0 0 1130", time=1000, players=three)
+    day("three open in the image, threshold 4", "1 key | 1 play threshold 4",
+        "0.1 begin 1 play 1000: 0 0 1060", "1.1 begin 1 play 1000: 13", "1.2 begin 1 play 1040: 0 0 1100", "3.2 begin 1 play 1040: 13",
+        time=1000, players=three)
+    for version in rights.VERSIONS:
+        day(f"three open in the image, no threshold, version {version}", "1 key | 1 play; 1 display",
+            "0.1 begin 1 play 1000: 0 0 1060", "1.1 begin 1 play 1000: 0 0 1060", "3.2 stop 1001: 0 0 1001",
+            "3.3 begin 1 play 1001: 0 0 1061", "9.2 begin 1 display 1050: 0 1 1110", time=1000, players=three, version=version)
+    sixteen = [(index, Player(1, rights.BEGIN, 1, rights.PLAY, 0, 0, 1050, 1, 0, 990, 1050)) for index in range(16)]
+    day("16 open in the image, threshold 16", "1 key | 1 play threshold 16",
+        "0.2 begin 1 play 1000: 11", "5.2 stop 1001: 0 0 1001", "5.3 begin 1 play 1001: 0 0 1061", "6.2 continue 1001: 0 0 1061",
+        "7.2 begin 1 play 1050: 0 0 1110", time=1000, players=sixteen)
+    day("all 16 over in one second, threshold 16", "1 key | 1 play threshold 16", "3.2 begin 1 play 1050: 0 0 1110",
+        "3.3 stop 1051: 0 0 1051", time=1000, players=sixteen)
+    day("a refusal for a full threshold in the image", "1 key | 1 play threshold 1",
+        "3.7 begin 1 play 5: 13", "3.8 begin 1 play 1000: 0 0 1060", "3.8 begin 1 play 1000: 0 0 1060", time=1000,
+        players=[(3, Player(7, rights.BEGIN, 1, rights.PLAY, 13, 255, 0))])
+
+
 GROUPS = [base, alone, beside, with_dates, from_the_middle, switched_off, none_left, recorded, contents, continued, boot_numbers,
           last_counters, resent_numbers, record_lengths, older_images, end_and_interval, both_limits, ties, neither, not_started,
-          not_grantable, running_images, latest_seconds]
+          not_grantable, running_images, latest_seconds, together, room_again, going_on_together, resent_together, momentary_together,
+          full_passed_over, full_and_switched_off, marked_images]
 
 
 def written():

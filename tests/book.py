@@ -170,6 +170,17 @@ BOOK_LINES = [          # the text after BOOK, the number of the line that is na
     (f"{ENTRY}, tracked, timed value 4294967296", 3, "4294967295 is the greatest"),
     (f"{ENTRY}, tracked, timed value 49711d", 3, "4294967295 is the greatest"),
     (f"{ENTRY}, tracked 1", 3, "`1` is not understood in an entry"),
+    (f"{ENTRY}, threshold", 3, "the line ends where the threshold is expected"),
+    (f"{ENTRY}, threshold 17", 3, "the threshold is 17, but 16 is the greatest"),
+    (f"{ENTRY}, threshold {NINES}", 3, "16 is the greatest"),
+    (f"{ENTRY}, threshold -1", 3, "the threshold should be a number, not `-1`"),
+    (f"{ENTRY}, threshold two", 3, "the threshold should be a number, not `two`"),
+    (f"{ENTRY}, threshold 2.0", 3, "the threshold should be a number, not `2.0`"),
+    (f"{ENTRY}, threshold 2 min", 3, "`min` is not understood in an entry"),
+    (f"{ENTRY}, threshold 2, threshold 2", 3, "`threshold` is given twice"),
+    (f"{ENTRY}, threshold 0, threshold 2", 3, "`threshold` is given twice"),
+    (f"{ENTRY}, thresholds 2", 3, "`thresholds` is not understood in an entry"),
+    (f"{ENTRY}, marks 1", 3, "`marks` is not understood in an entry"),
     ("entry 0: object 1, asset 1, print, accumulated 5", 3, "print and export take no time"),
     ("entry 0: object 1, asset 1, print, accumulated 0", 3, "print and export take no time"),
     ("entry 0: object 1, asset 1, export, timed 5, timer 5", 3, "print and export take no time"),
@@ -217,6 +228,10 @@ BOOK_LINES = [          # the text after BOOK, the number of the line that is na
     (f"{ENTRY}, count 5\nplayer 0: number 1, stop, refused 14, open 0 0 6", 3, "`used count` is less than"),
     (f"{ENTRY}, timed 5\nplayer 0: number 1, stop, refused 14, open 0 0 6", 3, "`used timed` is less than"),
     (f"{ENTRY}, accumulated 9, used accumulated 5\nplayer 0: number 1, stop, refused 14, open 0 0 6", 3, "which is 6"),
+    *((f"{ENTRY}\n{ENTRY[:6]}1{ENTRY[7:]}, threshold {most}\n" + "".join(
+        f"player {p}: number 1, stop, refused 14, open 1 0 6\n" for p in range(15 - most, 16)), 4,
+       f"{most + 1} players have it open, more than its threshold, {most}") for most in (1, 2, 15)),
+    ("entry 0: object 1, asset 1, print, threshold 1\nplayer 0: number 1, stop, refused 14, open 0 0 6", 4, "a print is never open"),
 ]
 EVENT_LINES = [
     ("begin 1 play 5", 1, "an event begins with player and number"),
@@ -324,9 +339,9 @@ def test_inputs(folder):
     refused("make: not UTF-8", "latin.txt, line 2: byte 0xfc is not UTF-8", "make", folder / "latin.txt", out)
     (folder / "wide.txt").write_text("asset 1 key\n", encoding="utf-16")
     refused("make: UTF-16", "UTF-16; save it as UTF-8", "make", folder / "wide.txt", out)
-    for cut, code in ((b"", 20), (b"RBK", 20), (b"RBX" + bytes(400), 21), (b"RBK\0\0" + bytes(400), 22), (b"RBK\0\4" + bytes(522), 22),
-                      (b"RBK\0\3" + bytes(521), 20), (b"RBK\0\3" + bytes(523), 20), (b"RBK\0\2" + bytes(522), 20),
-                      (b"RBK\0\1" + bytes(522), 20)):
+    for cut, code in ((b"", 20), (b"RBK", 20), (b"RBX" + bytes(400), 21), (b"RBK\0\0" + bytes(400), 22), (b"RBK\0\5" + bytes(522), 22),
+                      (b"RBK\0\4" + bytes(521), 20), (b"RBK\0\4" + bytes(523), 20), (b"RBK\0\3" + bytes(523), 20),
+                      (b"RBK\0\2" + bytes(522), 20), (b"RBK\0\1" + bytes(522), 20), *bad_groups()):
         (folder / "bad.rbk").write_bytes(cut)
         refused(f"show: an image refused with {code}", f"with {code}", "show", folder / "bad.rbk")
         refused(f"after: an image refused with {code}", f"with {code}", "after", folder / "bad.rbk", events, out)
@@ -336,11 +351,29 @@ def test_inputs(folder):
         check(f"help for {args}", done.status == 0 and b"tools/book.py after BOOK EVENTS NEXT" in done.out, done)
 
 
+def bad_groups():
+    """Images that are refused for a threshold or for marks; those next to them are accepted."""
+    one = Book(100, [Asset(1, 0, 1)], [Entry(1, 1, 1), Entry(1, 1, 1)])
+    one.players[3] = rights.Player(1, rights.BEGIN, 1, 1, 0, 0, 160, 1, 0, 100, 160, 1)
+    two = copy.deepcopy(one)
+    two.players[15] = rights.Player(1, rights.BEGIN, 1, 1, 0, 0, 160, 1, 0, 100, 160, 1)
+    for code, book, fields in ((0, one, (0, 8, 0, 0)), (0, one, (1, 8, 16, 0)), (25, one, (17, 8, 0, 0)), (25, one, (0, 8, 2**32 - 1, 0)),
+                               (27, one, (0, 0, 0, 0)), (27, one, (0, 8, 0, 8)), (27, one, (0, 0, 0, 8)), (27, one, (0, 4, 0, 0)),
+                               (27, one, (2, 12, 0, 0)), (27, one, (0, 8 + 65_536, 0, 0)), (27, one, (0, 8, 0, 2**31)),
+                               (0, two, (2, 8 + 32_768, 0, 0)), (27, two, (1, 8 + 32_768, 0, 0)), (27, two, (1, 8, 0, 0))):
+        first, second = book.entries
+        first.threshold, first.marks, second.threshold, second.marks = fields
+        image = rights.write(book)
+        assert rights.read(image)[0] == code, (fields, rights.read(image))
+        if code:
+            yield image, code
+
+
 def test_forgiving(folder):
     """What a text may contain: Windows line ends, tabs, a byte order mark, an empty file, no line feed at the end."""
     plain = "time 5\nasset 1 key\nentry 0: object 1, asset 1, play, count 2\n"
     wanted = call("make", "-", "-", stdin=plain.encode())
-    check("make from and to standard streams", wanted.status == 0 and wanted.err == "" and len(wanted.out) == 595, wanted)
+    check("make from and to standard streams", wanted.status == 0 and wanted.err == "" and len(wanted.out) == 603, wanted)
     for name, text in (("Windows line ends", plain.replace("\n", "\r\n")), ("old line ends", plain.replace("\n", "\r")),
                        ("tabs", plain.replace(" ", "\t")), ("no colons or commas", re.sub("[:,]", "", plain)),
                        ("no line feed at the end", plain[:-1]), ("empty lines", plain.replace("\n", "\n\n  \n# x\n"))):
@@ -375,7 +408,8 @@ def test_times(folder):
             ("interval 2 min, count 5", "interval", 120), ("accumulated 1 d 1 s", "accumulated", 86_401),
             ("timed 3, timer 1min", "timer", 60), ("accumulated 2h, used accumulated 1 h", "used_seconds", 3600),
             ("tracked, timed value 2 min, timed 3", "timed_value", 120), ("timed 3, tracked, timed value 7", "timed", 3),
-            ("timed value 7, tracked", "tracked", 1)):
+            ("timed value 7, tracked", "tracked", 1), ("threshold 16", "threshold", 16), ("threshold 1, tracked", "threshold", 1),
+            ("threshold 003, count 5", "threshold", 3), ("threshold 0", "threshold", 0), ("count 5", "threshold", 0)):
         got = getattr(entry(line), field)
         check(f"times: {line}", got == value, f"wanted {value}, got {got}")
     rng, parts = random.Random(5), []
@@ -506,6 +540,10 @@ def wild_book(rng):
                 (rights.ACCUMULATED, entry.used_seconds, seconds))):
             for player in uses:
                 player.open = player.open_entry = player.begin = player.until = player.content = 0
+        now = len(book.users(position))
+        if rng.random() < (0.8 if now else 0.3):
+            entry.threshold = rng.choice((max(1, now), max(1, now), min(16, now + 1), 16))
+    rights.set_marks(book)
     assert rights.read(rights.write(book))[0] == 0
     return book
 
@@ -546,19 +584,20 @@ def wild_player(rng, book, player):
     if book.entries and rng.random() < 0.5:
         player.code, player.entry = 0, rng.randrange(len(book.entries))
         player.answer_until = rng.choice((0, 1119, rng.randrange(2**32), 2**32 - 1))
-    if book.entries and rng.random() < 0.7:
-        position = rng.randrange(len(book.entries))
+    for _ in range(rng.choice((0, 1, 8)) if book.entries else 0):
+        position = rng.choice((0, 1 % len(book.entries), rng.randrange(len(book.entries))))     # the first ones: several players together
         player.open, player.open_entry = 1, position
         player.begin = max(0, book.time - rng.choice((0, 1, 30, 59, 10**6)))
         player.until = book.time + rng.choice((1, 30, 60))
         player.content = rng.choice(book.assets).number if book.entries[position].tracked or rng.random() < 0.5 else 0
-        if not rights.open_use_is_good(book, player):
-            player.open = player.open_entry = player.begin = player.until = player.content = 0
+        if rights.open_use_is_good(book, player):
+            break
+        player.open = player.open_entry = player.begin = player.until = player.content = 0
 
 
 def played_book(rng, seed):
     """A book in the middle of a random day of the second program."""
-    kind = rng.choice(("crowd", "wide", "cabins", "rivals", "going on", "old"))
+    kind = rng.choice(("crowd", "wide", "cabins", "rivals", "groups", "groups", "going on", "old"))
     image, events, _ = days.make_day(seed, rng.choice((1, 20, 60)), kind)
     _, book = rights.read(image)
     play(book, events)
@@ -579,7 +618,7 @@ def random_books(how_many):
 
 def test_round_trips(folder, how_many):
     path, image = folder / "trip.txt", folder / "trip.rbk"
-    opened = never = tracked = metered = contents = 0
+    opened = never = tracked = metered = contents = groups = full = 0
     for seed, rng, book in random_books(how_many):
         data = rights.write(book)
         opened += any(player.open for player in book.players)
@@ -587,6 +626,8 @@ def test_round_trips(folder, how_many):
         tracked += any(entry.tracked and entry.timed_value for entry in book.entries)
         metered += book.switch
         contents += any(player.content for player in book.players)
+        groups += any(entry.threshold and entry.marks for entry in book.entries)
+        full += any(rights.is_full(entry) for entry in book.entries)
         text = "\n".join(texts.text_lines(book)) + "\n"
         path.write_text(text)
         again = texts.book_of_text(path)
@@ -602,20 +643,27 @@ def test_round_trips(folder, how_many):
     check("many of the books have limits of 0", never > how_many / 4, str(never))
     check("many of the books have tracked entries, metering on, contents", min(tracked, metered, contents) > how_many / 8,
           f"{tracked} {metered} {contents}")
+    check("many of the books have thresholds, full ones too", min(groups, full) > how_many / 8, f"{groups} {full}")
 
 
 def test_older(folder):
-    """Images of older versions: read like those of the newest, of version 1 with nothing metered; `make` writes the newest."""
-    for seed, rng, book in random_books(20):
-        old, new, version = folder / "old.rbk", folder / "new.rbk", seed // 2 % 2 + 1
-        old.write_bytes(rights.write(days.with_short_numbers(book), version))
+    """Images of older versions: read like those of the newest, of version 1 with nothing metered, of all with no threshold and with the
+    marks of their open uses; `make` writes the newest."""
+    marked = 0
+    for seed, rng, book in random_books(30):
+        old, new, version = folder / "old.rbk", folder / "new.rbk", seed // 2 % 3 + 1
+        old.write_bytes(rights.write(book if version == 3 else days.with_short_numbers(book), version))
         shown = call("text", old).out
         new.write_bytes(call("make", "-", "-", stdin=shown).out)
         check(f"book {seed} of version {version}, as text and made again", rights.read(old.read_bytes()) == rights.read(new.read_bytes())
-              and new.read_bytes()[4] == rights.NEWEST and (version == 2 or b"tracked" not in shown and b"metering" not in shown),
-              shown.decode()[:300])
+              and new.read_bytes()[4] == rights.NEWEST == 4 and b"threshold" not in shown
+              and (version > 1 or b"tracked" not in shown and b"metering" not in shown), shown.decode()[:300])
+        entries = rights.read(new.read_bytes())[1].entries
+        marked += any(entry.marks for entry in entries)
+        check(f"book {seed} of version {version}, its marks", [entry.marks for entry in entries] == [entry.marks for entry in book.entries])
         check(f"book {seed} of version {version} shows the same", call("show", old).out == call("show", new).out)
         check(f"book {seed} of version {version} does not differ", call("diff", old, new).status == 0)
+    check("some of the older books have marks", marked > 3, str(marked))
 
 
 def test_numbers(folder):
@@ -689,6 +737,13 @@ def test_which_right(folder):
     check_page_day(folder, "the choice", "\n".join(book), lines[5:])
 
 
+def test_together(folder):
+    _, lines = page_section("A pack for so many players together")
+    book = [line for line in lines if line.startswith(("asset ", "entry "))]
+    check("the page's example of a group pack has 5 lines of a book and 9 requests", (len(book), len(lines)) == (5, 14), lines)
+    check_page_day(folder, "a group pack", "\n".join(book), lines[5:])
+
+
 def shortened(events):
     """The whole records, of 13 bytes each: without boot numbers."""
     return b"".join(record[:1] + record[5:] for record in rights.records_in(events) if len(record) == rights.RECORD.size)
@@ -735,7 +790,7 @@ def fields_of(book):
         yield f"asset {asset.number}", asset, "inherit"
     for position, entry in enumerate(book.entries):
         for field in vars(entry):
-            if getattr(entry, field) and field not in ("kind", "flags", "started"):
+            if getattr(entry, field) and field not in ("kind", "flags", "started", "marks"):
                 yield f"entry {position}", entry, field
     for index, player in enumerate(book.players):
         fields = ["number"] if player.number else []
@@ -769,6 +824,15 @@ def test_diff(folder, how_many):
     none, zero = Book(assets=[Asset(1, 0, 1)], entries=[Entry(1, 1, 1)]), Book(assets=[Asset(1, 0, 1)], entries=[Entry(1, 1, 1, 17)])
     lines = list(state.differences(none, zero))
     check("diff: a limit of 0 is not no limit", lines == ["entry 0: count none -> 0; interval none -> 0"], str(lines))
+    alone, group = Book(assets=[Asset(1, 0, 1)], entries=[Entry(1, 1, 1)]), Book(assets=[Asset(1, 0, 1)], entries=[Entry(1, 1, 1)])
+    group.entries[0].threshold = 3
+    lines = list(state.differences(alone, group)) + list(state.differences(group, alone))
+    check("diff: a threshold", lines == ["entry 0: threshold none -> 3", "entry 0: threshold 3 -> none"], str(lines))
+    asked = copy.deepcopy(group)
+    rights.step(asked, Event(4, 1, rights.BEGIN, 1, 1, 50), rights.zeros(asked))
+    lines = list(state.differences(group, asked))
+    check("diff: a mark is told with its player", asked.entries[0].marks == 16 and len(lines) == 2 and lines[1].startswith(
+        "player 4: number none -> 1; ") and "open use none -> entry 0, 1970-01-01 00:00:50 (50) until" in lines[1], str(lines))
     first, second = AFTERNOON / "rights.rbk", folder / "second.rbk"
     second.write_bytes(rights.write(Book(time=5)))
     check("diff: the same", (lambda done: (done.status, done.out, done.err))(call("diff", first, first)) == (0, b"", ""))
@@ -857,6 +921,8 @@ def figures(book, t, lines):
             yield (wanted in line) if entry.has(flag) else (f"{name} " not in line), f"`{wanted}`: {line}"
         users = [index for index, player in enumerate(book.players) if player.open and player.open_entry == position]
         yield users == [int(number) for number in re.findall("player ([0-9]+) until", line)], f"open by {users}: {line}"
+        wanted = f"; {len(users)} of {entry.threshold} players have it open; open: "
+        yield (wanted in line) if entry.threshold else ("players have it open" not in line), f"`{wanted}`: {line}"
 
 
 def test_left_words(folder):
@@ -886,9 +952,20 @@ entry 15: object 1, asset 7, play, count 0, timed 0, interval 0, accumulated 0, 
 entry 16: object 1, asset 1, play, tracked, timed value 90
 entry 17: object 1, asset 1, play, tracked, mark
 entry 18: object 1, asset 1, play, tracked, timed value 7d, count 1, used count 1
+entry 19: object 1, asset 1, play, threshold 16
+entry 20: object 1, asset 1, display, threshold 3, count 5, used count 2
+entry 21: object 1, asset 1, display, threshold 2, tracked, mark
+entry 22: object 1, asset 1, display, threshold 1, timed 1, timer 60, used timed 1
+entry 23: object 1, asset 1, display, threshold 1, count 1, used count 1, end 999
+entry 24: object 1, asset 1, print, threshold 1, count 1
 player 0: number 1, begin 1 play, granted 9 1060, open 9 1000 1060 content 1
 player 3: number 1, begin 1 play, granted 0 1040, open 0 980 1040
 player 4: number 1, begin 1 play, refused 43
+player 5: number 1, begin 1 display, granted 20 1030, open 20 970 1030
+player 6: number 1, begin 1 display, granted 20 1040, open 20 980 1040
+player 7: number 1, begin 1 display, granted 21 1030, open 21 970 1030 content 1
+player 15: number 1, begin 1 display, granted 21 1060, open 21 1000 1060 content 1
+player 8: number 1, begin 1 display, granted 22 1030, open 22 1000 1030
 """)
     image = folder / "cases.rbk"
     call("make", path, image)
@@ -921,10 +998,26 @@ entry 16: play of asset 1; no count and no seconds to use up; open: nobody; nobo
 entry 17: play of asset 1; no count and no seconds to use up; open: nobody; can be granted, no end
 entry 18: play of asset 1; count 1 of 1 used, 0 left; open: nobody; nobody can use it: the count is used up and metering is off \
 (it is tracked and has no mark)
+entry 19: play of asset 1; no count and no seconds to use up; 0 of 16 players have it open; open: nobody; can be granted, no end
+entry 20: display of asset 1; count 2 of 5 used, 3 left; 2 of 3 players have it open; open: player 5 until 1970-01-01 00:17:10, \
+player 6 until 1970-01-01 00:17:20; can be granted, no end
+entry 21: display of asset 1; no count and no seconds to use up; 2 of 2 players have it open; open: player 7 until 1970-01-01 00:17:10, \
+player 15 until 1970-01-01 00:17:40; nobody can use it: as many players have it open as may (a stop of an open use makes room)
+entry 22: display of asset 1; timed count 1 of 1 used, 0 left (a use counts from 1 min on); 1 of 1 players have it open; \
+open: player 8 until 1970-01-01 00:17:10; nobody can use it: the timed count is used up and as many players have it open as may \
+(a stop of an open use gives some back)
+entry 23: display of asset 1; count 1 of 1 used, 0 left; 0 of 1 players have it open; open: nobody; nobody can use it: the count is \
+used up and it ended 1970-01-01 00:16:39
+entry 24: print of asset 1; count 0 of 1 used, 1 left; 0 of 1 players have it open; open: nobody; can be granted, no end
 """
     check("left: a book with every case", done.out.decode() == wanted, done.out.decode())
     done = call("left", "--at", "1970-01-01", "00:16:40", "(1000)", image)
     check("left: a time without quotes", done.out.decode() == wanted, done)
+    for t, found in ((1029, ("2 of 3", "2 of 2", "1 of 1", "nobody can use it: as many")), (1030, ("1 of 3", "1 of 2", "0 of 1", "can be")),
+                     (1060, ("0 of 3", "0 of 2", "0 of 1", "can be granted, no end"))):
+        lines = call("left", image, "--at", t).out.decode().splitlines()[21:24]
+        check(f"left: players that have an entry open, at {t}", all(f"; {words} players have it open; " in line
+              for words, line in zip(found, lines)) and f"; {found[3]}" in lines[1], lines)
     done = call("left", image)
     check("left: this machine's clock", b"UTC, this machine's clock\n" in done.out and b"player 3" not in done.out, done)
     done = call("left", image, "--at=5")
@@ -977,6 +1070,22 @@ Metering: off
          answer 43, refused: metering is off, and what is left for it is tracked and has no mark
 """):
         check(f"show: metering, {lines.strip()[:20]}", lines in out, out)
+    for lines in ("""\
+     19  rights object 1, play of asset 1: can be granted at 1970-01-01 00:16:40, no end
+         0 of 16 players have it open
+     20  rights object 1, display of asset 1: can be granted at 1970-01-01 00:16:40, no end
+         count 2 of 5 used, 3 left
+         2 of 3 players have it open
+     21  rights object 1, display of asset 1: nobody can use it at 1970-01-01 00:16:40: as many players have it open as may \
+(a stop of an open use makes room)
+         2 of 2 players have it open
+         tracked, every use is a time; granted with metering off too (mark 1)
+     22""", """\
+         count 1 of 1 used, 0 left
+         to 1970-01-01 00:16:39 (999)
+         0 of 1 players have it open
+     24"""):
+        check(f"show: thresholds, {lines.strip()[:20]}", lines in out, out)
     path.write_text(path.read_text() + "metering on\n")
     call("make", path, image)
     out = call("show", image).out.decode()
@@ -988,25 +1097,32 @@ Metering: off
 
 def test_why(folder, how_many):
     """The answer, the entries listed and what stands against each are those of the second program."""
-    seen = {}
+    seen, full = {}, 0
     for seed, rng, book in random_books(how_many):
         image, parts = rights.write(book), []
         for _ in range(3):
             t = min(LATEST, max(book.time, rng.choice((book.time, book.time + 30, *days.edges(book, book.time)))))
             player, kind = rng.randrange(rights.PLAYERS), rng.randint(1, 5)
+            crowded = [each for position, each in enumerate(book.entries) if 0 < each.threshold <= len(book.users(position))]
             entry = rng.choice(book.entries) if book.entries else None
+            if crowded and rng.random() < 0.5:
+                entry, t = rng.choice(crowded), book.time
             asset = rng.choice([rng.randrange(9)] + [asset.number for asset in book.assets])
             if entry and rng.random() < 0.7:
                 kind = entry.kind
+                askers = [each.number for each in book.assets if each.key and entry.asset in (each.number, each.inherit)]
+                asset = rng.choice(askers or [asset])
             first, *lines = why.why_lines(image, copy_of(book), player, asset, kind, t)
             after = copy_of(book)
             last = book.players[player].number
             answer = rights.step(after, Event(player, (last + 1) % 2**64, rights.BEGIN, asset, kind, t), rights.zeros(book))
             seen[answer[0]] = seen.get(answer[0], 0) + 1
+            full += any("players have it open" in line for line in lines)
             parts.append((first.startswith(f"The answer would be {answer[0]}, "), f"{answer}: {first}"))
             parts += why_parts(state.settled(book, t), asset, kind, t, answer, lines)
         check_all(f"why, book {seed}", parts)
     check("why: every answer is met", {0, 10, 11, 12, 13, 43} <= set(seen), str(seen))
+    check("why: full entries are met", full > how_many / 20, str(full))
 
 
 def why_parts(book, asset, kind, t, answer, lines):
@@ -1015,7 +1131,7 @@ def why_parts(book, asset, kind, t, answer, lines):
     listed = [int(re.match("  entry ([0-9]+) ", line)[1]) for line in lines]
     yield listed == suitable, f"suitable are {suitable}: {lines}"
     for position, line in zip(suitable, lines):
-        entry, said = book.entries[position], line.split("): ", 1)[1].removesuffix(" (a stop of an open use gives some back)")
+        entry, said = book.entries[position], re.sub(r" \(a stop of an open use .*\)", "", line.split("): ", 1)[1])
         if rights.is_grantable(book, entry, t):
             chosen = "would be chosen" if position == answer[1] else f"entry {answer[1]} goes first"
             yield said == (f"can be granted; {chosen}" if answer[0] == 0 else "nothing stands against it"), line
@@ -1029,7 +1145,9 @@ def why_parts(book, asset, kind, t, answer, lines):
              entry.interval and entry.started and entry.first + entry.interval <= t),
             (all_used("seconds", entry.accumulated), entry.has(rights.ACCUMULATED) and entry.used_seconds == entry.accumulated),
             ("interval 0: never granted", entry.has(rights.INTERVAL) and not entry.interval),
-            ("metering is off, and it is tracked without a mark", entry.tracked and not book.switch and not entry.mark)) if stands]
+            ("metering is off, and it is tracked without a mark", entry.tracked and not book.switch and not entry.mark),
+            (f"{len(book.users(position))} of {entry.threshold} players have it open",
+             entry.threshold and len(book.users(position)) >= entry.threshold)) if stands]
         yield said == "; ".join(wanted), f"wanted {wanted}: {line}"
 
 
@@ -1046,6 +1164,7 @@ asset 2 key
 asset 3 key
 asset 4 key
 asset 7 inherits 9
+asset 8 key
 asset 9 parent
 entry 0: object 1, asset 9, play, count 2, used count 2
 entry 1: object 1, asset 1, play, interval 1h
@@ -1065,8 +1184,20 @@ entry 14: object 5, asset 4, play, end 9000
 entry 15: object 5, asset 4, play, interval 1h, first 1000
 entry 16: object 5, asset 4, play, end 20000, interval 1h, first 999
 entry 17: object 5, asset 4, play, interval 1min
+entry 18: object 6, asset 2, play, threshold 2
+entry 19: object 6, asset 2, play, threshold 3, end 9000
+entry 20: object 6, asset 2, execute, threshold 1, tracked
+entry 21: object 6, asset 2, print, threshold 1, count 1
+entry 22: object 6, asset 3, display, threshold 1, accumulated 60, used accumulated 60
 player 0: number 1, begin 1 play, granted 6 1060, open 6 1000 1060
 player 1: number 18446744073709551615, stop, refused 14
+player 4: number 1, begin 2 play, granted 18 1060, open 18 1000 1060
+player 5: number 1, begin 2 play, granted 18 1050, open 18 990 1050
+player 6: number 1, begin 2 play, granted 19 1060, open 19 1000 1060
+player 7: number 1, begin 2 play, granted 19 1040, open 19 1000 1040
+player 8: number 1, begin 2 play, granted 19 1060, open 19 1000 1060
+player 9: number 1, begin 2 execute, granted 20 1060, open 20 1000 1060 content 2
+player 10: number 1, begin 3 display, granted 22 1060, open 22 1000 1060
 """)
     call("make", path, image)
     cases = (((3, 1, "play", "--at", "1970-01-01 00:16:40 (1000)"), """\
@@ -1082,11 +1213,11 @@ The answer would be 0, granted by entry 2 until 1970-01-01 00:17:40 (1060).
 """), ((3, 1, "display", "--at", "5"), """\
 Player 3 asks to display asset 1 at 1970-01-01 00:16:40 (1000), UTC, the book's time (at 1970-01-01 00:00:05 (5), as asked, \
 it would be turned away with 5).
-The answer would be 13, refused: every entry for it is used up, out of its dates or never granted.
+The answer would be 13, refused: every entry for it is used up, out of its dates, open to no more players, or never granted.
   entry 7 (its own, rights object 1): timed count: 1 of 1 used
 """), ((3, 1, "execute", "--at=1059"), """\
 Player 3 asks to execute asset 1 at 1970-01-01 00:17:39 (1059), UTC, as asked.
-The answer would be 13, refused: every entry for it is used up, out of its dates or never granted.
+The answer would be 13, refused: every entry for it is used up, out of its dates, open to no more players, or never granted.
   entry 8 (inherited from 9, rights object 3): count 0: never granted; not before 1970-01-01 00:33:20
   entry 9 (its own, rights object 3): timed count 0: never granted; seconds 0: never granted
   entry 10 (its own, rights object 3): interval 0: never granted
@@ -1123,7 +1254,46 @@ The answer would be 0, granted by entry 14 until 1970-01-01 02:30:01 (9001).
   entry 17 (its own, rights object 5): can be granted; entry 14 goes first
 """), ((3, 3, "play", "--at=1059"), """\
 Player 3 asks to play asset 3 at 1970-01-01 00:17:39 (1059), UTC, as asked.
+The answer would be 12, refused: the book has no entry of this kind for the asset: it has display.
+"""), ((3, 8, "play", "--at=1059"), """\
+Player 3 asks to play asset 8 at 1970-01-01 00:17:39 (1059), UTC, as asked.
 The answer would be 12, refused: the book has no entry of this kind for the asset: it has none of any kind.
+"""), ((3, 2, "play", "--at=1000"), """\
+Player 3 asks to play asset 2 at 1970-01-01 00:16:40 (1000), UTC, as asked.
+The answer would be 13, refused: every entry for it is used up, out of its dates, open to no more players, or never granted.
+  entry 18 (its own, rights object 6): 2 of 2 players have it open (a stop of an open use makes room)
+  entry 19 (its own, rights object 6): 3 of 3 players have it open (a stop of an open use makes room)
+"""), ((3, 2, "play", "--at=1039"), """\
+Player 3 asks to play asset 2 at 1970-01-01 00:17:19 (1039), UTC, as asked.
+The answer would be 13, refused: every entry for it is used up, out of its dates, open to no more players, or never granted.
+  entry 18 (its own, rights object 6): 2 of 2 players have it open (a stop of an open use makes room)
+  entry 19 (its own, rights object 6): 3 of 3 players have it open (a stop of an open use makes room)
+"""), ((3, 2, "play", "--at=1040"), """\
+Player 3 asks to play asset 2 at 1970-01-01 00:17:20 (1040), UTC, as asked.
+The answer would be 0, granted by entry 19 until 1970-01-01 00:18:20 (1100).
+  entry 18 (its own, rights object 6): 2 of 2 players have it open (a stop of an open use makes room)
+  entry 19 (its own, rights object 6): can be granted; would be chosen
+"""), ((5, 2, "play", "--at=1050"), """\
+Player 5 asks to play asset 2 at 1970-01-01 00:17:30 (1050), UTC, as asked.
+The answer would be 0, granted by entry 18 until 1970-01-01 00:18:30 (1110).
+  entry 18 (its own, rights object 6): can be granted; would be chosen
+  entry 19 (its own, rights object 6): can be granted; entry 18 goes first
+"""), ((3, 2, "execute", "--at=1059"), """\
+Player 3 asks to execute asset 2 at 1970-01-01 00:17:39 (1059), UTC, as asked.
+The answer would be 13, refused: every entry for it is used up, out of its dates, open to no more players, or never granted.
+  entry 20 (its own, rights object 6): metering is off, and it is tracked without a mark; 1 of 1 players have it open
+"""), ((3, 2, "execute", "--at=1060"), """\
+Player 3 asks to execute asset 2 at 1970-01-01 00:17:40 (1060), UTC, as asked.
+The answer would be 43, refused: metering is off, and what is left for it is tracked and has no mark.
+  entry 20 (its own, rights object 6): metering is off, and it is tracked without a mark
+"""), ((3, 2, "print", "--at=1000"), """\
+Player 3 asks to print asset 2 at 1970-01-01 00:16:40 (1000), UTC, as asked.
+The answer would be 0, granted by entry 21, once, at 1970-01-01 00:16:40 (1000).
+  entry 21 (its own, rights object 6): can be granted; would be chosen
+"""), ((3, 3, "display", "--at=1000"), """\
+Player 3 asks to display asset 3 at 1970-01-01 00:16:40 (1000), UTC, as asked.
+The answer would be 13, refused: every entry for it is used up, out of its dates, open to no more players, or never granted.
+  entry 22 (its own, rights object 6): seconds: 60 of 60 used; 1 of 1 players have it open (a stop of an open use gives some back)
 """), ((3, 1, "print", "--at=1059"), """\
 Player 3 asks to print asset 1 at 1970-01-01 00:17:39 (1059), UTC, as asked.
 The answer would be 12, refused: the book has no entry of this kind for the asset: it has play, display, execute.
@@ -1613,7 +1783,7 @@ def test_help(folder):
     lines = [re.sub("  .*", "", line.strip()) for line in shown.splitlines() if line.startswith("    ")]
     book = [line for line in lines if line.split()[0] in ("time", "metering", "asset", "entry")]
     done = call("make", "-", "-", stdin="\n".join(book).encode())
-    check("help: its book is a book", done.status == 0 and len(book) == 11 and len(done.out) == 527 + 20 + 315, done)
+    check("help: its book is a book", done.status == 0 and len(book) == 12 and len(done.out) == 527 + 20 + 426, done)
     events = [line for line in lines if re.match("[0-9]|raw", line)]
     done = call("events", "-", "-", stdin="\n".join(events).encode())
     check("help: its events are events", done.status == 0 and len(events) == 5 and len(done.out) == 85, done)
@@ -1636,7 +1806,8 @@ def test_damage(folder, how_many):
         for _ in range(rng.randint(1, 6)):
             at = rng.randrange(len(data) + 1)
             piece = rng.choice((b"", bytes([rng.randrange(256)]), b" ", b"\n", b"9" * 30, b"#", b",", b":", b"-1", b"\xff",
-                                b"count 2", b"tracked", b"timed value", b"mark", b"metering on\n", b"content 1", b"2026-12-24",
+                                b"count 2", b"tracked", b"timed value", b"mark", b"threshold 2", b"metering on\n", b"content 1",
+                                b"2026-12-24",
                                 b"18:30", b"(5)", b"3.1", b".", "\u0663".encode(),
                                 bytes(data[:rng.randrange(40)])))
             data[at:at + rng.choice((0, 0, 1, 5))] = piece
@@ -1659,8 +1830,8 @@ def main():
     if not RUN.exists():
         sys.exit(f"there is no {RUN}: `rt check run` makes it")
     parts = [(test_lines,), (test_inputs,), (test_forgiving,), (test_times,), (test_files,), (test_streams,),
-             (test_round_trips, how_many), (test_older,), (test_numbers,), (test_next_number,), (test_which_right,), (test_widen,),
-             (test_diff, how_many),
+             (test_round_trips, how_many), (test_older,), (test_numbers,), (test_next_number,), (test_which_right,), (test_together,),
+             (test_widen,), (test_diff, how_many),
              (test_left, how_many), (test_left_words,),
              (test_why, how_many // 3), (test_why_words,),
              (test_after, how_many // 5), (test_report, how_many // 2), (test_import,), (test_import_made,), (test_import_places,),

@@ -46,11 +46,13 @@ The text of a book, one thing a line; `#` starts a comment, commas and colons ma
     entry 2: object 1, asset 1, display, timed 1, timer 30
     entry 3: object 2, asset 3, play, start 2026-12-01, end 2027-04-30, interval 7d
     entry 4: object 2, asset 3, display, tracked, timed value 30, mark
+    entry 5: object 3, asset 9, play, threshold 3
 
 Entries are numbered from 0 in order. Kinds: play, display, execute, print, export. An entry without a limit may be
 used without end; one with a count, timed, interval or accumulated of 0 is never granted. A tracked entry is in the report,
 where a use is a time from the timed value on (from its begin if there is none); with metering off it is granted only with
-a mark (contentAccessGranted). An entry that was used before goes on with `used count 1`, `used timed 1`, `used accumulated 90`
+a mark (contentAccessGranted). With a threshold, from 1 to 16, at most so many players have the entry open together; who has it
+open stands with the players. An entry that was used before goes on with `used count 1`, `used timed 1`, `used accumulated 90`
 and `first TIME` (when its interval started). A player that has asked before:
 
     player 0: number 2, continue, granted 0 1119, open 0 1000 1119 content 1

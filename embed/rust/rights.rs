@@ -13,7 +13,7 @@ pub const RECORD: usize = 17;
 /// The longest line of an answer, including its line feed.
 pub const LINE: usize = 19;
 /// Room for any next image.
-pub const LONGEST_IMAGE: usize = 4879;
+pub const LONGEST_IMAGE: usize = 5391;
 /// The most lines of a list.
 pub const LINES: usize = 64;
 /// Bytes of stack that are enough for any call that reads no XML (`docs/EMBEDDING.md`).
@@ -111,12 +111,16 @@ pub struct Entry {
     pub timed_value: u32,
     /// 1: tracked, and granted with the switch off too.
     pub mark: u32,
+    /// So many players may have it open together, 1 to 16; 0: any number.
+    pub threshold: u32,
+    /// Which players have it open, in the image as it is: bit p (`1 << p`) for player p.
+    pub marks: u32,
 }
 
 /// What is left of an entry at a time; `NO_LIMIT` if there is no such limit.
 #[derive(Clone, Copy, Debug, PartialEq, Eq)]
 pub struct Left {
-    /// 1 if the entry's own limits and the book's switch allow a grant at that time.
+    /// 1 if the entry's own limits, its threshold and the book's switch allow a grant at that time.
     pub grantable: u32,
     pub count: u32,
     pub timed: u32,
@@ -137,6 +141,8 @@ pub struct Grounds {
     pub interval_zero: u32,
     /// The entry is tracked and has no mark, and the book's switch is off.
     pub switch_off: u32,
+    /// As many players have it open as may; the end of one of these uses makes room.
+    pub threshold_full: u32,
 }
 
 /// The last event taken from a player with its answer (number 0: none yet), and its open use.
@@ -419,10 +425,10 @@ pub fn asset(image: &[u8], position: u32) -> Result<Asset, Refused> {
 
 /// The entry at a position, from 0.
 pub fn entry(image: &[u8], position: u32) -> Result<Entry, Refused> {
-    let mut out = [0; 19];
+    let mut out = [0; 21];
     let code = unsafe { library::rights_entry(image.as_ptr(), image.len(), position, out.as_mut_ptr(), out.len()) };
     let [object, asset, kind, flags, count, timed, timer, start, end, interval, accumulated, ..] = out;
-    let [.., used_count, used_timed, first, used_seconds, started, tracked, timed_value, mark] = out;
+    let [.., used_count, used_timed, first, used_seconds, started, tracked, timed_value, mark, threshold, marks] = out;
     judged(code).map(|()| Entry {
         object,
         asset,
@@ -443,6 +449,8 @@ pub fn entry(image: &[u8], position: u32) -> Result<Entry, Refused> {
         tracked,
         timed_value,
         mark,
+        threshold,
+        marks,
     })
 }
 
@@ -458,11 +466,12 @@ pub fn left(image: &[u8], position: u32, time: u32) -> Result<Left, Refused> {
 /// What stands against granting the entry at a position to a player, as a begin at that time would find it; for the time see
 /// `left`. Whether the entry is suitable, and whether the player may begin at all, is not judged.
 pub fn grounds(image: &[u8], position: u32, player: u8, time: u32) -> Result<Grounds, Refused> {
-    let mut out = [0; 8];
+    let mut out = [0; 9];
     let code = unsafe {
         library::rights_grounds(image.as_ptr(), image.len(), position, player, time, out.as_mut_ptr(), out.len())
     };
-    let [count_spent, timed_spent, before_start, after_end, interval_over, seconds_spent, interval_zero, switch_off] = out;
+    let [count_spent, timed_spent, before_start, after_end, interval_over, seconds_spent, ..] = out;
+    let [.., interval_zero, switch_off, threshold_full] = out;
     judged(code).map(|()| Grounds {
         count_spent,
         timed_spent,
@@ -472,6 +481,7 @@ pub fn grounds(image: &[u8], position: u32, player: u8, time: u32) -> Result<Gro
         seconds_spent,
         interval_zero,
         switch_off,
+        threshold_full,
     })
 }
 

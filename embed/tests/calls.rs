@@ -273,6 +273,8 @@ fn entry_numbers(image: &[u8], position: u32) -> Result<Vec<u32>, Refused> {
             e.tracked,
             e.timed_value,
             e.mark,
+            e.threshold,
+            e.marks,
         ]
     })
 }
@@ -288,6 +290,7 @@ fn ground_numbers(image: &[u8], position: u32, time: u32) -> Result<Vec<u32>, Re
             g.seconds_spent,
             g.interval_zero,
             g.switch_off,
+            g.threshold_full,
         ]
     })
 }

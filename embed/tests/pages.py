@@ -30,11 +30,11 @@ CODES = [
 ]
 
 # the grounds in the order of embed/tests/seen.py
-GROUNDS = "COUNT_SPENT TIMED_SPENT BEFORE_START AFTER_END INTERVAL_OVER SECONDS_SPENT INTERVAL_ZERO SWITCH_OFF NUMBERS"
+GROUNDS = "COUNT_SPENT TIMED_SPENT BEFORE_START AFTER_END INTERVAL_OVER SECONDS_SPENT INTERVAL_ZERO SWITCH_OFF THRESHOLD_FULL NUMBERS"
 
-# the limits whose ranges the page tells, each with its flag
+# the limits whose ranges the page tells, each with its flag; a threshold has none
 RANGES = {"count": rights.COUNT, "timed": rights.TIMED, "timer": rights.TIMED, "interval": rights.INTERVAL,
-          "accumulated": rights.ACCUMULATED}
+          "accumulated": rights.ACCUMULATED, "threshold": 0}
 
 # fields of the second program that have another name in the header
 RENAMED = {"answer_until": "until", "begin": "open_begin", "until": "open_until"}
@@ -66,7 +66,7 @@ def page_ranges(page):
         row = re.search(rf"^\| \d+ \| 4 \| {name} \| ([0-9,]+) to ([0-9,]+) ", page, re.M)
         must(row, f"no range of {name}")
         least, greatest = (int(number.replace(",", "")) for number in row.groups())
-        for number in (least - 1, least, greatest, greatest + 1):
+        for number in (max(least - 1, 0), least, greatest, greatest + 1):
             entry = rights.Entry(1, 1, rights.PLAY, flag, **{name: number})
             must(rights.entry_is_good(book, entry) == (least <= number <= greatest), f"{name} {number}")
 

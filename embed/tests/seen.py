@@ -44,7 +44,7 @@ def grounds(book, entry, time):
     tests = ((rights.COUNT, entry.used_count >= entry.count), (rights.TIMED, entry.used_timed >= entry.timed),
              (rights.START, time < entry.start), (rights.END, time > entry.end), (rights.INTERVAL, over),
              (rights.ACCUMULATED, entry.used_seconds >= entry.accumulated), (rights.INTERVAL, entry.interval == 0))
-    stands = [entry.has(flag) and found for flag, found in tests] + [rights.fails_for_switch(book, entry)]
+    stands = [entry.has(flag) and found for flag, found in tests] + [rights.fails_for_switch(book, entry), rights.is_full(entry)]
     return [int(bool(found)) for found in stands]
 
 

@@ -24,7 +24,7 @@ MEANINGS = {
     10: "refused: the asset is not in the book, or has no key",
     11: "refused: the player has a use open",
     12: "refused: the book has no entry of this kind for the asset",
-    13: "refused: every entry for it is used up, out of its dates or never granted",
+    13: "refused: every entry for it is used up, out of its dates, open to no more players, or never granted",
     14: "refused: the player has no use open",
     15: "refused: no more time can be given",
     30: "turned away: the list that was lent for the report does not fit the book",

@@ -9,6 +9,8 @@ from .records import answer_words, request_words
 from .texts import FLAGS, asset_text, entry_text, load
 from .words import Mistake, Trouble, Words, date, kind_name, number_text, span, when
 
+FULL = "as many players have it open as may"
+
 
 # ---- The rules on an entry at a time
 
@@ -59,15 +61,19 @@ def grounds(book, position, t):
         found.append(f"its interval ended {date(entry.first + entry.interval - 1)}")
     if rights.fails_for_switch(book, entry):
         found.append("metering is off (it is tracked and has no mark)")
+    if rights.is_full(entry):
+        found.append(FULL)
     return found
 
 
-def stop_helps(book, position, t):
-    """Whether somebody could be granted the entry if its open uses were stopped at t."""
-    book = copy.deepcopy(book)
-    for player in book.users(position):
-        rights.stop(book, player, t, rights.zeros(book))
-    return not grounds(book, position, t)
+def stop_words(book, position, t):
+    """What a stop does for an entry that nobody can be granted at t; empty if stopping its open uses would not help."""
+    stopped = copy.deepcopy(book)
+    for player in stopped.users(position):
+        rights.stop(stopped, player, t, rights.zeros(stopped))
+    if grounds(stopped, position, t):
+        return ""
+    return f" (a stop of an open use {'makes room' if grounds(book, position, t) == [FULL] else 'gives some back'})"
 
 
 # ---- An entry in words
@@ -80,8 +86,7 @@ def state_words(book, position, t, at=""):
     found = grounds(book, position, t)
     if not found:
         return f"can be granted{at}, {end_words(entry)}"
-    back = " (a stop of an open use gives some back)" if stop_helps(book, position, t) else ""
-    return f"nobody can use it{at}: {' and '.join(found)}{back}"
+    return f"nobody can use it{at}: {' and '.join(found)}{stop_words(book, position, t)}"
 
 
 def never_words(entry):
@@ -129,9 +134,14 @@ def date_words(entry):
     return words
 
 
+def group_words(entry):
+    """How many players have the entry open, of as many as may; nothing if there is no threshold."""
+    return [f"{entry.marks.bit_count()} of {entry.threshold} players have it open"] if entry.threshold else []
+
+
 def limit_words(entry):
     """Everything that limits the entry, and what is used of it; its track."""
-    return (used_words(entry) + date_words(entry) or ["no limits"]) + track_words(entry)
+    return (used_words(entry) + date_words(entry) + group_words(entry) or ["no limits"]) + track_words(entry)
 
 
 def track_words(entry):
@@ -224,6 +234,7 @@ def left_lines(book, t):
                 if player.open and player.open_entry == position]
         parts = [f"entry {position}: {kind_name(entry.kind)} of asset {asset.number}{for_whom}"]
         parts += used_words(entry) or ["no count and no seconds to use up"]
+        parts += group_words(entry)
         parts += [f"open: {', '.join(uses) or 'nobody'}", state_words(book, position, t)]
         yield "; ".join(parts)
 
@@ -275,12 +286,14 @@ def changed(what, one, other):
 
 
 def entry_fields(entry):
+    """All but the marks, which say the same as the players' open uses."""
     fields = {"object": entry.object, "asset": entry.asset, "kind": kind_name(entry.kind)}
     for name, flag in FLAGS.items():
         value = getattr(entry, name)
         fields[name] = "none" if not entry.has(flag) else when(value) if name in ("start", "end") else value
     fields["timer"] = entry.timer
     fields["tracked"], fields["timed value"], fields["mark"] = entry.tracked, entry.timed_value, entry.mark
+    fields["threshold"] = entry.threshold or "none"
     fields["used count"], fields["used timed"] = entry.used_count, entry.used_timed
     fields["used seconds"] = entry.used_seconds
     fields["first use"] = when(entry.first) if entry.started else "none"

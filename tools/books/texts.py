@@ -21,7 +21,7 @@ REFUSED = {
     24: "an asset breaks the rules: number 0, a number twice, or key not 0 or 1",
     25: "an entry breaks the rules",
     26: "a player's record or the metering switch breaks the rules",
-    27: "what is used does not fit the limits or the open uses",
+    27: "what is used or marked does not fit the limits or the open uses",
 }
 
 
@@ -129,6 +129,8 @@ class BookText:
             setattr(entry, word, words.number(COUNTS, what))
         elif word == "timer":
             entry.timer = words.length(what, COUNTS)
+        elif word == "threshold":
+            entry.threshold = words.number(rights.PLAYERS, what)
         elif word == "first":
             entry.started, entry.first = 1, words.time("the time of the first use")
         else:
@@ -232,6 +234,8 @@ def meter_fault(book, position):
             return f"`used {name}` is less than the players' open uses take, which is {least}"
     if entry.first > book.time:
         return f"the first use is after the book's time ({book.time})"
+    if entry.threshold and len(uses) > entry.threshold:
+        return f"{len(uses)} players have it open, more than its threshold, {entry.threshold}"
     return None
 
 
@@ -243,6 +247,7 @@ def book_of_text(path):
         fault = player_fault(book, book.players[index])
         if fault:
             raise at_line(path, *line, fault)
+    rights.set_marks(book)      # a text has none: they say the same as the players' open uses
     for position, line in maker.entry_lines.items():
         fault = meter_fault(book, position)
         if fault:
@@ -308,6 +313,8 @@ def entry_text(entry):
             parts.append(f"timer {entry.timer}")
     if entry.tracked:
         parts += ["tracked"] + [f"timed value {entry.timed_value}"] * (entry.timed_value != 0) + ["mark"] * entry.mark
+    if entry.threshold:
+        parts.append(f"threshold {entry.threshold}")
     if entry.started:
         parts.append(f"first {time_text(entry.first)}")
     parts += [f"used {name} {getattr(entry, meter)}" for name, meter in METERS.items() if getattr(entry, meter)]

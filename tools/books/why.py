@@ -8,7 +8,7 @@ from rights import Event
 from .files import read_image
 from .library import judged
 from .records import answer_words
-from .state import settled, stop_helps, told_time
+from .state import group_words, settled, stop_words, told_time
 from .texts import refusal
 from .words import KINDS, Mistake, Trouble, Words, date, kind_name, number, number_text, when
 
@@ -78,8 +78,7 @@ def entry_words(book, position, asset):
 def verdict(book, position, grounds, answer, t):
     stands = [words for words, against in zip(ground_words(book.entries[position]), grounds, strict=True) if against and words]
     if stands:
-        back = " (a stop of an open use gives some back)" if stop_helps(book, position, t) else ""
-        return "; ".join(stands) + back
+        return "; ".join(stands) + stop_words(book, position, t)
     if answer[0] != 0:
         return "nothing stands against it"
     return "can be granted; would be chosen" if position == answer[1] else f"can be granted; entry {answer[1]} goes first"
@@ -95,7 +94,8 @@ def ground_words(entry):
             f"interval over since {date(entry.first + entry.interval)}" if entry.interval else "",
             spent_words("seconds", entry.used_seconds, entry.accumulated),
             "interval 0: never granted",
-            "metering is off, and it is tracked without a mark"]
+            "metering is off, and it is tracked without a mark",
+            "".join(group_words(entry))]
 
 
 def spent_words(name, used, limit):

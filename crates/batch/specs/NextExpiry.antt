@@ -26,7 +26,8 @@ use Rattle.uses.specs.Due.{dueAt, anyDue}
 use Rattle.index.specs.Mapped.{mapped-at, mapped-set}
 use Rattle.index.specs.Ends.{never, endOf, endOfPlayer, end-reached}
 use Rattle.text.specs.Digits.{below}
-use Rattle.step.specs.Settle.{settledBook, settledTo, settle-all, settled-length, player-next}
+use Rattle.step.specs.Settle.{settledBook, settledTo, settle-all, player-next}
+use Rattle.model.proofs.Ledger.Concrete.{settled-size}
 use Rattle.step.specs.Step.{settled-none}
 
 -- no use of these players ends before n
@@ -147,7 +148,7 @@ pub record Settled (t : ℕ) (b m : Book) (next : ℕ) : Type 0 where
 module _ (t : ℕ) (b m : Book) (entries : length (b .entries) ≡ 64) (players : length (b .players) ≡ 16) where
   settled-entries : m ≡ settledBook t b → length (m .entries) ≡ 64
   unfolding settledBook
-  settled-entries e = ap (λ (x : Book). length (x .entries)) e ∙ settled-length t (b .players) (b .entries) ∙ entries
+  settled-entries e = ap (λ (x : Book). length (x .entries)) e ∙ settled-size t (b .players) (b .entries) ∙ entries
 
   settled-players : m ≡ settledBook t b → length (m .players) ≡ 16
   unfolding settledBook

@@ -216,7 +216,7 @@ case-taken b r e n d j last c hn hd hj hl =
 abbrev pub actOn : Request → ℕ → Ask → Limits → Meters → Open → Effect
 actOn (Begin kind asset) i ask l m o = beginOn i asset ask l m o
 actOn Continue i ask l m o = continueOn (ask .time) l m o
-actOn Stop i ask l m o = stopOn (ask .time) l m o
+actOn Stop i ask l m o = stopOn (ask .player) (ask .time) l m o
 
 -- what a taken event is about to do: refused by a code that is not 0, or done at entry k
 pub record Planned (n : Book) (e : Event) (o : Open) (k code : ℕ) : Type 0 where
@@ -270,7 +270,7 @@ module _ (n : Book) (e : Event) (o : Open) (ho : o ≡ openAt (n .players) (e .p
     pub planned-stop : e .request ≡ Stop → Planned n e o k code
     unfolding done doStop requestEntry
     planned-stop hq =
-        further Stop (doStop (n .entries) o (e .time)) hq (done-as Stop hq) (λ off. rw off refl) (stop-placed (e .time) (n .entries) o)
+        further Stop (doStop (n .entries) o (asks n e)) hq (done-as Stop hq) (λ off. rw off refl) (stop-placed (asks n e) (n .entries) o)
         (λ a. refl)
 
 -- ## A begin
@@ -291,7 +291,7 @@ begun-names : (sort : Kind) (asset i : ℕ) (ask : Ask) (l : Limits) (m : Meters
 unfolding beginOn requestEntry
 begun-names sort asset i ask l m o part h g =
     on-test (grantable ask l m && leb (ask .time) latestTime)
-    (λ w. let p : part ≡ begunOn i asset (ask .time) l m o = h ∙ rw w refl in ap (λ (x : Effect). x .answer .entry) p)
+    (λ w. let p : part ≡ begunOn i asset ask l m o = h ∙ rw w refl in ap (λ (x : Effect). x .answer .entry) p)
     (λ w. let p : part ≡ kept 13 m o = h ∙ rw w refl in clash g (ap (λ (x : Effect). eqb (x .answer .code) 0) p))
 
 never-granted : (on us su sw : Bool) → beginCode on us su false sw ≡ 0 → ⊥
@@ -367,21 +367,21 @@ module _ (n : Book) (e : Event) (o : Open) (sort : Kind) (asset kind k code m : 
 
 -- ## Settling
 
-module _ (t : ℕ) (o : Open) (es : List Entry) where
+module _ (t p : ℕ) (o : Open) (es : List Entry) where
   pub released-due :
       expired t o ≡ true →
       set es (o .entry) (record {
         limits = limitsAt es (o .entry);
-        meters = ended (o .begin) (o .until) (o .until)
+        meters = ended p (o .begin) (o .until) (o .until)
             (limitsAt es (o .entry)) (metersAt es (o .entry));
-      }) ≡ released t o es
+      }) ≡ released t p o es
   unfolding released amend
   released-due d = rw d
 
-  pub released-far : length es ≤ o .entry → es ≡ released t o es
-  released-far h = sym (released-out t o es h)
+  pub released-far : length es ≤ o .entry → es ≡ released t p o es
+  released-far h = sym (released-out t p o es h)
 
-  pub released-still : expired t o ≡ false → es ≡ released t o es
+  pub released-still : expired t o ≡ false → es ≡ released t p o es
   unfolding released
   released-still d = rw d
 

@@ -166,7 +166,15 @@ pub fn answer_block(
                                         let x = book.entries[k];
                                         let l = x.limits;
                                         let m = x.meters;
-                                        let ended = ended_meters(l, m, o.begin, o.until, o.until);
+                                        let who = p as u8;
+                                        let ended = ended_meters(
+                                            l,
+                                            m,
+                                            who,
+                                            o.begin,
+                                            o.until,
+                                            o.until,
+                                        );
                                         let y = Entry {
                                             limits: l,
                                             meters: ended,
@@ -274,7 +282,7 @@ pub fn answer_block(
                                     part = continue_on(l, m, o, t);
                                 }
                                 Request::Stop => {
-                                    part = stop_on(l, m, o, t);
+                                    part = stop_on(l, m, o, ask.player, t);
                                 }
                             }
                             if k < 64 {

@@ -2,7 +2,7 @@
 // It prints the last answer and the last length.
 use book::Book;
 
-const IMAGE: usize = 4879;
+const IMAGE: usize = 5391;
 
 struct Turn {
     code: u8,

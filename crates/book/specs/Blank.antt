@@ -30,10 +30,11 @@ noLimits = record {
   tracked = 0;
   timedvalue = 0;
   mark = 0;
+  threshold = 0;
 }
 
 abbrev pub noMeters : Meters
-noMeters = record { count = 0; timed = 0; first = 0; seconds = 0; started = 0 }
+noMeters = record { count = 0; timed = 0; first = 0; seconds = 0; started = 0; marks = 0 }
 
 abbrev pub noEntry : Entry
 noEntry = record { limits = noLimits; meters = noMeters }

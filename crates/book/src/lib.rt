@@ -18,7 +18,7 @@ pub const MOST_SECONDS: u32 = 100000000;
 // Later than any time that an event or an until can have.
 pub const NEVER: u32 = u32::MAX;
 
-// Later than any end.
+// Later than any last moment.
 pub const NO_END: u64 = 4294967296;
 
 // How many bytes an event record has, and where its last byte is.
@@ -33,7 +33,7 @@ pub struct Asset {
 }
 
 // What an entry allows. The flags say which limits hold. Tracked is 1 if its uses count in the report: one time for a use of at least
-// timedvalue seconds. Mark is contentAccessGranted.
+// timedvalue seconds. Mark is contentAccessGranted. Threshold is how many players may have it open together, 0 for any number.
 pub struct Limits {
     pub object: u16,
     pub asset: u16,
@@ -49,15 +49,18 @@ pub struct Limits {
     pub tracked: u32,
     pub timedvalue: u32,
     pub mark: u32,
+    pub threshold: u32,
 }
 
-// An entry's usage so far. Started is 0 or 1, first is the time at which the interval began.
+// An entry's usage so far. Started is 0 or 1, first is the time at which the interval began. Marks has bit p set if player p has the
+// entry open.
 pub struct Meters {
     pub count: u32,
     pub timed: u32,
     pub first: u32,
     pub seconds: u32,
     pub started: u8,
+    pub marks: u32,
 }
 
 pub struct Entry {
@@ -153,6 +156,7 @@ pub struct Grounds {
     pub secondsspent: bool,
     pub intervalzero: bool,
     pub switchoff: bool,
+    pub thresholdfull: bool,
 }
 
 // What the bytes of an event record decode to: an event, or the code that refuses them.
@@ -219,6 +223,7 @@ pub fn blank_entry() -> Entry
             tracked: 0,
             timedvalue: 0,
             mark: 0,
+            threshold: 0,
         },
         meters: Meters {
             count: 0,
@@ -226,6 +231,7 @@ pub fn blank_entry() -> Entry
             first: 0,
             seconds: 0,
             started: 0,
+            marks: 0,
         },
     }
 }

@@ -8,14 +8,15 @@ use native.Mathlib.Nat.{add-zero}
 use lib.Dec.{leb, ltb, eqb}
 use borrow.Author.Tests.{ltb-true, ltb-false, leb-true, leb-false, lt-ltb, le-ltb, le-leb, eq-eqb, ne-eqb}
 use Rattle.numbers.specs.Count.{one, howMany}
+use Rattle.numbers.specs.Bits.{ones}
 use Rattle.book.specs.declared.Ask.{Ask}
 use Rattle.book.specs.declared.Grounds.{Grounds}
 use Rattle.book.specs.declared.Limits.{Limits}
 use Rattle.book.specs.declared.Meters.{Meters}
-use Rattle.model.specs.Book.{flagged}
+use Rattle.model.specs.Book.{flagged, isGroup}
 use Rattle.model.specs.Book.{countFlag, timedFlag, startFlag, endFlag, intervalFlag, accumulatedFlag}
 use Rattle.model.specs.Meters.{where-flagged, isStarted}
-use Rattle.model.specs.Choice.{noEnd, own, suitable, fails, groundsOf, grantable, switchOnly, lastMoment, rankOf, ranksBefore}
+use Rattle.model.specs.Choice.{noEnd, own, suitable, fails, groundsOf, groundList, grantable, switchOnly, lastMoment, rankOf, ranksBefore}
 use Rattle.model.proofs.Ledger.Facts.{not-positive}
 use Rattle.numbers.proofs.Tests.{on-test, on-same, none-row}
 use Rattle.book.specs.declared.Rank.{Rank}
@@ -23,15 +24,15 @@ use Rattle.choice.specs.declared.Best.{Best}
 use Rattle.choice.specs.declared.Row.{Row}
 use Rattle.choice.specs.Best.{considered}
 
--- a flagged count is used up, or the seconds are, or the interval is 0
+-- a flagged count is used up, or the seconds are, or the interval is 0, or the threshold is full
 unfoldable pub spent : Limits → Meters → Bool
 spent l m =
     (flagged countFlag l && leb (l .count) (m .count))
     || (flagged timedFlag l && leb (l .timed) (m .timed))
     || (flagged accumulatedFlag l && leb (l .accumulated) (m .seconds))
-    || (flagged intervalFlag l && eqb (l .interval) 0)
+    || ((flagged intervalFlag l && eqb (l .interval) 0) || fails (isGroup l) (ltb (ones (m .marks)) (l .threshold)))
 
--- the time from which an entry is no longer grantable; `noEnd` if there is none, 0 if it is spent
+-- the time from which an entry is no longer grantable; `noEnd` if there is none, 0 if it is spent or full
 unfoldable pub windowOf : Limits → Meters → ℕ
 windowOf l m = cond (spent l m) 0 (lastMoment l m)
 
@@ -162,31 +163,31 @@ ordered false false false false true false false = refl
 ordered false false false false false false true = refl
 ordered false false false false false false false = refl
 
+last-two : (r z x : Bool) → (r && not (z || x)) ≡ (r && not z && not x)
+last-two true true x = refl
+last-two true false x = refl
+last-two false z x = refl
+
 -- the grounds but the switch
 abbrev others : Grounds → List Bool
 others g =
-    g .countspent ∷ g .timedspent ∷ g .beforestart ∷ g .afterend ∷ g .intervalover ∷ g .secondsspent ∷ g .intervalzero ∷ []
+    g .countspent ∷ g .timedspent ∷ g .beforestart ∷ g .afterend ∷ g .intervalover ∷ g .secondsspent ∷ g .intervalzero
+    ∷ g .thresholdfull ∷ []
 
-how-many-last : (bs : List Bool) (w : Bool) → howMany (bs ++ (w ∷ [])) ≡ howMany bs + one w
-how-many-last [] w = omega arith
-how-many-last (b ∷ bs) w = omega (arith, how-many-last bs w)
+-- K of them stand, and the switch or not: it stands alone, or none stands
+only-one : (K N : ℕ) (w : Bool) → N ≡ K + one w → (w && eqb N 1) ≡ (eqb K 0 && w)
+only-one K N false n = sym (and-false (eqb K 0))
+only-one K N true n =
+    on-same K 0
+    (λ z. rw (eq-eqb N 1 (omega (arith, n)), eq-eqb K 0 z))
+    (λ z. rw (ne-eqb N 1 (λ y. z (omega (arith, n, y))), ne-eqb K 0 z))
 
--- the last stands alone
-only-last : (bs : List Bool) (w : Bool) → (w && eqb (howMany (bs ++ (w ∷ []))) 1) ≡ (eqb (howMany bs) 0 && w)
-only-last bs false = sym (and-false (eqb (howMany bs) 0))
-only-last bs true =
-    let n = how-many-last bs true in
-    on-same (howMany bs) 0
-    (λ z. rw (eq-eqb (howMany (bs ++ (true ∷ []))) 1 (omega (arith, n)), eq-eqb (howMany bs) 0 z))
-    (λ z. rw (ne-eqb (howMany (bs ++ (true ∷ []))) 1 (λ y. z (omega (arith, n, y))), ne-eqb (howMany bs) 0 z))
+none-one : (K N : ℕ) (w : Bool) → N ≡ K + one w → eqb N 0 ≡ (eqb K 0 && not w)
+none-one K N false n = ap (λ (k : ℕ). eqb k 0) (n ∙ add-zero K) ∙ sym (and-true (eqb K 0))
+none-one K N true n = ne-eqb N 0 (λ y. absurd (omega (arith, n, y))) ∙ sym (and-false (eqb K 0))
 
--- none stands
-none-last : (bs : List Bool) (w : Bool) → eqb (howMany (bs ++ (w ∷ []))) 0 ≡ (eqb (howMany bs) 0 && not w)
-none-last bs w = go w (how-many-last bs w)
-  where
-    go : (w : Bool) → howMany (bs ++ (w ∷ [])) ≡ howMany bs + one w → eqb (howMany (bs ++ (w ∷ []))) 0 ≡ (eqb (howMany bs) 0 && not w)
-    go false n = ap (λ (k : ℕ). eqb k 0) (n ∙ add-zero (howMany bs)) ∙ sym (and-true (eqb (howMany bs) 0))
-    go true n = ne-eqb (howMany (bs ++ (true ∷ []))) 0 (λ y. absurd (omega (arith, n, y))) ∙ sym (and-false (eqb (howMany bs) 0))
+all-of-them : (g : Grounds) → howMany (groundList g) ≡ howMany (others g) + one (g .switchoff)
+all-of-them g = omega arith
 
 -- the switch, as the row has it
 barred-is : (ask : Ask) (l : Limits) (m : Meters)
@@ -218,7 +219,10 @@ window-open ask l m h =
       used-up (flagged accumulatedFlag l) (l .accumulated) (m .seconds),
       is-zero (flagged intervalFlag l) (l .interval),
     )
-    (ordered (g .countspent) (g .timedspent) (g .beforestart) (g .afterend) (g .intervalover) (g .secondsspent) (g .intervalzero)
+    (ordered (g .countspent) (g .timedspent) (g .beforestart) (g .afterend) (g .intervalover) (g .secondsspent)
+    (g .intervalzero || g .thresholdfull)
+    ∙ last-two (not (g .countspent) && not (g .timedspent) && not (g .beforestart) && not (g .afterend) && not (g .intervalover)
+    && not (g .secondsspent)) (g .intervalzero) (g .thresholdfull)
     ∙ none-row true (others g))
 
 -- the window of a row that is open is the entry's last moment
@@ -248,4 +252,9 @@ row-considered asset parent kind ask i l m best h =
     (λ r. record { suits = true; switched = best .switched; at = i; rank = r })
     (record { suits = true; switched = best .switched || (rowOpen ask row && rowBarred ask row); at = best .at; rank = best .rank })
     (λ e. λ k. record { flags = row .flags; last = open-last ask l m e k; inherited = one (not (eqb (l .asset) asset)) }))
-    ∙ rw (window-open ask l m h, barred-is ask l m, none-last (others g) (g .switchoff), only-last (others g) (g .switchoff)) refl
+    ∙ rw (
+      window-open ask l m h,
+      barred-is ask l m,
+      none-one (howMany (others g)) (howMany (groundList g)) (g .switchoff) (all-of-them g),
+      only-one (howMany (others g)) (howMany (groundList g)) (g .switchoff) (all-of-them g),
+    ) refl

@@ -21,6 +21,7 @@ use numbers::pick64;
 use rules::flags_of;
 use rules::last_moment;
 use rules::ranks_before;
+use rules::threshold_full;
 use rules::when;
 
 // The asset with that number, blank if there is none.
@@ -93,8 +94,8 @@ pub struct Best {
 }
 
 // The entry is grantable from start (0 if none is flagged) until before window (its last moment, or 0 if a count or the seconds are
-// spent, or the interval is 0); if it is guarded, only with the switch on. Flags and window are the rank of an entry that is grantable;
-// whether it is inherited depends on the asset asked for.
+// spent, the interval is 0, or the threshold is full); if it is guarded, only with the switch on. Flags and window are the rank of an
+// entry that is grantable; whether it is inherited depends on the asset asked for.
 pub struct Row {
     pub asset: u16,
     pub kind: u8,
@@ -104,7 +105,7 @@ pub struct Row {
     pub window: u64,
 }
 
-// Rules out: a limit tested without its flag, a limit that is used up left open, an interval of 0 left open.
+// Rules out: a limit tested without its flag, a limit that is used up left open, an interval of 0 or a full threshold left open.
 fn window_of(l: Limits, m: Meters) -> u64
     ensures { λ r. ⌜ r ≡ windowOf l m ⌝ }
 {
@@ -112,7 +113,7 @@ fn window_of(l: Limits, m: Meters) -> u64
     let spent = (f.count & (l.count <= m.count))
         | (f.timed & (l.timed <= m.timed))
         | (f.accumulated & (l.accumulated <= m.seconds))
-        | (f.interval & (l.interval == 0));
+        | ((f.interval & (l.interval == 0)) | threshold_full(l, m));
     pick64(spent, 0, last_moment(l, m))
 }
 

@@ -9,7 +9,7 @@ use Rattle.book.specs.declared.Ask.{Ask}
 use Rattle.book.specs.declared.Entry.{Entry}
 use Rattle.book.specs.Blank.{noEntry}
 use Rattle.model.specs.Book.{assetAt, playerAt, assetsIn, entriesIn}
-use Rattle.model.specs.Image.{assetValues, entryValues, readCode}
+use Rattle.model.specs.Image.{newest, assetValues, entryValues, readCode}
 use Rattle.model.specs.Meters.{settled}
 use Rattle.fill.specs.Fill.{fillCode, filled}
 use Rattle.views.specs.Views.{bookValues, playerView, viewTime, leftValues, groundValues}
@@ -42,7 +42,7 @@ unfoldable pub hasEntry : List ℕ → ℕ → Bool
 hasEntry s i = ltb i (entriesIn (heldBook s))
 
 unfoldable pub entrySeen : List ℕ → ℕ → List ℕ
-entrySeen s i = entryValues (getD (heldBook s .entries) i noEntry)
+entrySeen s i = entryValues newest (getD (heldBook s .entries) i noEntry)
 
 unfoldable pub hasPlayer : ℕ → Bool
 hasPlayer p = ltb p 16

@@ -86,7 +86,7 @@ fn track_legal(l: Limits) -> bool
     (l.tracked <= 1) & (l.mark <= 1) & ((l.tracked == 1) | ((l.timedvalue == 0) & (l.mark == 0)))
 }
 
-// Rules out: true for a start after the end, for an accumulated of a momentary kind.
+// Rules out: true for a start after the end, for an accumulated of a momentary kind, for a threshold above 16.
 pub fn limits_legal(known: bool, l: Limits) -> bool
     ensures { λ r. ⌜ r ≡ limitsLegal known l ⌝ }
 {
@@ -100,6 +100,7 @@ pub fn limits_legal(known: bool, l: Limits) -> bool
         & (!(f.start & f.end) | (l.start <= l.end))
         & (!momentary | (!f.accumulated & (l.timer == 0)))
         & track_legal(l)
+        & (l.threshold <= 16)
 }
 
 // Rules out: true for an entry of an asset that the book lacks; true for an unflagged count that is not 0.

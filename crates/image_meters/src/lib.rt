@@ -1,10 +1,8 @@
-// Reading an image, stage 27: the rules for meters, which have to cover the players' open uses.
+// Reading an image, stage 27: the rules for meters, which have to cover the players' open uses, and for marks, which have to be those.
 // Each function is defined for every value of its types, whether or not an image can hold it.
 ghost use mathlib.Core.Path.{_≡_};
 ghost use mathlib.Core.Bool.{cond};
-ghost use Prim.Native.Nat.{_≤_};
-ghost use Rattle.numbers.specs.Count.{one};
-ghost use Rattle.model.specs.Book.{meterLegal, startLegal, opens, openUses, lasts, openSeconds, metersCover, entryMetersLegal, metersLegal};
+ghost use Rattle.model.specs.Book.{meterLegal, startLegal, lasts, openSeconds, metersCover, marksLegal, entryMetersLegal, metersLegal};
 use book::Book;
 use book::Entry;
 use book::Limits;
@@ -12,6 +10,9 @@ use book::Meters;
 use book::Open;
 use book::Player;
 use book::at_most_64;
+use image_pieces::marks_of;
+use image_pieces::opens_entry;
+use numbers::ones;
 use rules::flags_of;
 
 fn meter_legal(flag: bool, most: u32, used: u32) -> bool
@@ -28,34 +29,6 @@ fn start_legal(time: u32, l: Limits, m: Meters) -> bool
         & (f.interval | (m.started == 0))
         & ((m.started == 1) | (m.first == 0))
         & (m.first <= time)
-}
-
-fn opens_entry(i: usize, o: Open) -> bool
-    ensures { λ r. ⌜ r ≡ opens i o ⌝ }
-{
-    let entry = o.entry as usize;
-    (o.on == 1) & (entry == i)
-}
-
-fn one_if(w: bool) -> u64
-    ensures { λ r. ⌜ (r ≡ one w) × (r ≤ 1) ⌝ }
-{
-    if w { 1 } else { 0 }
-}
-
-fn open_uses(players: [Player; 16], i: usize) -> u64
-    ensures { λ r. ⌜ r ≡ openUses players i ⌝ }
-{
-    let mut uses: u64 = 0;
-    let mut p: usize = 0;
-    while p < 16 {
-        let q = players[p];
-        let o = q.current;
-        let w = opens_entry(i, o);
-        uses = uses + one_if(w);
-        p = p + 1;
-    }
-    uses
 }
 
 // How long a use lasts. One that ends before it begins lasts 0 seconds.
@@ -89,16 +62,21 @@ fn open_seconds(players: [Player; 16], i: usize) -> u64
     seconds
 }
 
-fn meters_cover(uses: u64, seconds: u64, l: Limits, m: Meters) -> bool
+fn meters_cover(uses: u32, seconds: u64, l: Limits, m: Meters) -> bool
     ensures { λ r. ⌜ r ≡ metersCover uses seconds l m ⌝ }
 {
-    let count = m.count as u64;
-    let timed = m.timed as u64;
     let used = m.seconds as u64;
     let f = flags_of(l);
-    (!f.count | (uses <= count))
-        & (!f.timed | (uses <= timed))
+    (!f.count | (uses <= m.count))
+        & (!f.timed | (uses <= m.timed))
         & (!f.accumulated | (seconds <= used))
+}
+
+// Rules out: true for a mark without an open use or the other way round, for more marks than the threshold.
+fn marks_legal(marks: u32, l: Limits, m: Meters) -> bool
+    ensures { λ r. ⌜ r ≡ marksLegal marks l m ⌝ }
+{
+    (m.marks == marks) & ((l.threshold == 0) | (ones(m.marks) <= l.threshold))
 }
 
 fn entry_meters_legal(time: u32, players: [Player; 16], i: usize, e: Entry) -> bool
@@ -107,16 +85,19 @@ fn entry_meters_legal(time: u32, players: [Player; 16], i: usize, e: Entry) -> b
     let l = e.limits;
     let m = e.meters;
     let f = flags_of(l);
-    let uses = open_uses(players, i);
+    let marks = marks_of(players, i);
+    let uses = ones(marks);
     let seconds = open_seconds(players, i);
     meter_legal(f.count, l.count, m.count)
         & meter_legal(f.timed, l.timed, m.timed)
         & meter_legal(f.accumulated, l.accumulated, m.seconds)
         & start_legal(time, l, m)
         & meters_cover(uses, seconds, l, m)
+        & marks_legal(marks, l, m)
 }
 
-// Rules out: true for a used count below the entry's open uses; true for a first use after the book's time.
+// Rules out: true for a used count below the entry's open uses; true for a first use after the book's time; true for a mark of a
+// player that has another entry open.
 pub fn meters_legal(b: Book) -> bool
     ensures { λ r. ⌜ r ≡ metersLegal b ⌝ }
 {

@@ -8,9 +8,8 @@ use Rattle.numbers.specs.Fields.{bits16, bits32, numberAt}
 use Rattle.book.specs.declared.Asset.{Asset}
 use Rattle.book.specs.declared.Entry.{Entry}
 use Rattle.book.specs.declared.Player.{Player}
-use Rattle.book.specs.declared.Book.{Book}
 use Rattle.model.specs.Image.{tailIn, newest, headerSize, assetSize, entrySize, playerSize, versionIn, timeIn, assetCountIn, entryCountIn}
-use Rattle.model.specs.Image.{imageLength, headerBroken, assetTable, entryTable, playerTable, entriesFrom, playersFrom, bookAs, bookIn}
+use Rattle.model.specs.Image.{imageLength, headerBroken, assetTable, entryTable, playerTable, entriesFrom, playersFrom, bookAs}
 use Rattle.model.proofs.Image.Header.{header-passed}
 use Rattle.image_parse.specs.Versions.{added, header-least, switch-read}
 
@@ -82,13 +81,13 @@ located s z v o₁ o₂ o₃ e h₁ h₂ h₃ =
       playerRoom = omega (arith, p .whole, h₃, h, a, b, w);
     }
 
--- what is read there is the book
+-- what is read there is the book by that layout
 pub read-there : (s : List ℕ) (v o₁ o₂ o₃ switch time : ℕ) (ats : List Asset) (es : List Entry) (ps : List Player) → Located s v o₁ o₂ o₃
-    → switch ≡ added v 11 s → time ≡ numberAt bits32 7 s → ats ≡ assetTable v s o₁ (getD s 5 0) → es ≡ entryTable v s o₂ (getD s 6 0)
+    → switch ≡ added v 2 11 s → time ≡ numberAt bits32 7 s → ats ≡ assetTable v s o₁ (getD s 5 0) → es ≡ entryTable v s o₂ (getD s 6 0)
     → ps ≡ playerTable v s o₃
     → record { time = time; switch = switch; assetcount = getD s 5 0; entrycount = getD s 6 0; assets = ats; entries = es; players = ps }
-    ≡ bookIn s
-unfolding bookIn bookAs timeIn versionIn assetCountIn entryCountIn entriesFrom playersFrom
+    ≡ bookAs (version s) s
+unfolding bookAs timeIn versionIn assetCountIn entryCountIn entriesFrom playersFrom
 read-there s v o₁ o₂ o₃ switch time ats es ps l w t a e p = λ i. record {
   time = t i;
   switch = (w ∙ switch-read s v (l .oldest) (l .known) ∙ ap (λ (k : ℕ). getD (tailIn k s) 0 0) (l .same)) i;

@@ -1,5 +1,5 @@
 // The first half of reading an image: the header is checked, and the tables after it are read into a book, by the layout of the
-// image's version. The contents of the tables are not checked here.
+// image's version. An older image gets the marks that it lacks. The contents of the tables are not checked here.
 ghost use mathlib.Core.Path.{_≡_};
 ghost use mathlib.Core.Bool.{cond};
 ghost use Prim.Native.Nat.{_+_, _*_, _<_, _≤_};
@@ -8,7 +8,8 @@ ghost use lib.Dec.{leb, eqb};
 ghost use Rattle.numbers.specs.Fields.{bits8, bits16, bits32, bits64, numberAt};
 ghost use Rattle.book.specs.Blank.{noBook};
 ghost use Rattle.model.specs.Image.{newest, numberWidth, assetSize, entrySize, playerSize, assetIn, entryIn, playerIn};
-ghost use Rattle.model.specs.Image.{assetTable, entryTable, playerTable, bookIn, headerBroken};
+ghost use Rattle.model.specs.Image.{assetTable, entryTable, playerTable, withMarks, markedEntries, marked, versionIn, bookAs, bookIn};
+ghost use Rattle.model.specs.Image.{headerBroken};
 ghost use Rattle.image_parse.specs.Versions.{wider};
 use book::Answer;
 use book::Asset;
@@ -20,6 +21,7 @@ use book::Limits;
 use book::Meters;
 use book::Open;
 use book::Player;
+use book::at_most_64;
 use image_pieces::HEADER_START;
 use image_pieces::NEWEST;
 use image_pieces::asset_size;
@@ -27,6 +29,7 @@ use image_pieces::entries_from;
 use image_pieces::entry_size;
 use image_pieces::header_size;
 use image_pieces::image_length;
+use image_pieces::marks_of;
 use image_pieces::player_size;
 use image_pieces::players_from;
 
@@ -66,12 +69,12 @@ fn read64(s: &[u8], at: usize) -> u64
     numbers::join64(upper, lower)
 }
 
-// A number that version 2 added, 0 in version 1.
-fn added32(s: &[u8], v: u16, at: usize) -> u32
-    requires { ⌜ (2 ≤ v → at + 4 ≤ length (now s)) ⌝ }
-    ensures { λ r. ⌜ r ≡ cond (leb 2 v) (numberAt bits32 at (now (s .entry))) 0 ⌝ }
+// A number that a version added, 0 in those before it.
+fn added32(s: &[u8], v: u16, first: u16, at: usize) -> u32
+    requires { ⌜ (first ≤ v → at + 4 ≤ length (now s)) ⌝ }
+    ensures { λ r. ⌜ r ≡ cond (leb first v) (numberAt bits32 at (now (s .entry))) 0 ⌝ }
 {
-    if 2 <= v {
+    if first <= v {
         return read32(s, at);
     }
     0
@@ -93,9 +96,10 @@ fn limits_in(s: &[u8], v: u16) -> Limits
     requires { ⌜ (1 ≤ v) × (v ≤ newest) × (51 ≤ length (now s)) × (entrySize v ≤ length (now s)) ⌝ }
     ensures { λ r. ⌜ r ≡ entryIn v (now (s .entry)) .limits ⌝ }
 {
-    let tracked = added32(s, v, 51);
-    let timedvalue = added32(s, v, 55);
-    let mark = added32(s, v, 59);
+    let tracked = added32(s, v, 2, 51);
+    let timedvalue = added32(s, v, 2, 55);
+    let mark = added32(s, v, 2, 59);
+    let threshold = added32(s, v, 4, 63);
     Limits {
         object: read16(s, 0),
         asset: read16(s, 2),
@@ -111,6 +115,7 @@ fn limits_in(s: &[u8], v: u16) -> Limits
         tracked: tracked,
         timedvalue: timedvalue,
         mark: mark,
+        threshold: threshold,
     }
 }
 
@@ -118,12 +123,14 @@ fn meters_in(s: &[u8], v: u16) -> Meters
     requires { ⌜ (1 ≤ v) × (v ≤ newest) × (51 ≤ length (now s)) × (entrySize v ≤ length (now s)) ⌝ }
     ensures { λ r. ⌜ r ≡ entryIn v (now (s .entry)) .meters ⌝ }
 {
+    let marks = added32(s, v, 4, 67);
     Meters {
         count: read32(s, 34),
         timed: read32(s, 38),
         first: read32(s, 42),
         seconds: read32(s, 46),
         started: read8(s, 50),
+        marks: marks,
     }
 }
 
@@ -182,7 +189,7 @@ fn open_in(s: &[u8], v: u16) -> Open
     ensures { λ r. ⌜ r ≡ playerIn v (now (s .entry)) .current ⌝ }
 {
     let o = wider(v);
-    let content = added32(s, v, 24 + o);
+    let content = added32(s, v, 2, 24 + o);
     Open {
         on: read8(s, 14 + o),
         entry: read8(s, 15 + o),
@@ -279,9 +286,10 @@ fn header_broken(s: &[u8]) -> u8
     0
 }
 
-fn book_in(s: &[u8]) -> Book
+// The book by the layout of the image's version.
+fn book_as(s: &[u8]) -> Book
     requires { ⌜ headerBroken (now s) ≡ 0 ⌝ }
-    ensures { λ r. ⌜ r ≡ bookIn (now (s .entry)) ⌝ }
+    ensures { λ r. ⌜ r ≡ bookAs (versionIn (now (s .entry))) (now (s .entry)) ⌝ }
 {
     let v = read16(s, 3);
     let assets = s[5];
@@ -289,7 +297,7 @@ fn book_in(s: &[u8]) -> Book
     let assetsfrom = header_size(v);
     let entriesfrom = entries_from(v, assets);
     let playersfrom = players_from(v, assets, entries);
-    let switch = added32(s, v, HEADER_START);
+    let switch = added32(s, v, 2, HEADER_START);
     Book {
         time: read32(s, 7),
         switch: switch,
@@ -301,8 +309,60 @@ fn book_in(s: &[u8]) -> Book
     }
 }
 
+fn with_marks(marks: u32, e: Entry) -> Entry
+    ensures { λ r. ⌜ r ≡ withMarks marks e ⌝ }
+{
+    let l = e.limits;
+    let mut m = e.meters;
+    m.marks = marks;
+    Entry {
+        limits: l,
+        meters: m,
+    }
+}
+
+// The first n entries with a mark for each player that has them open.
+fn marked_entries(players: [Player; 16], entries: [Entry; 64], n: usize) -> [Entry; 64]
+    requires { ⌜ n ≤ 64 ⌝ }
+    ensures { λ r. ⌜ r ≡ markedEntries players entries n ⌝ }
+{
+    let mut table = entries;
+    let mut i: usize = 0;
+    while i < n {
+        let e = entries[i];
+        let w = with_marks(marks_of(players, i), e);
+        table[i] = w;
+        i = i + 1;
+    }
+    table
+}
+
+// Version 4 is the first that says the marks; before it they follow from the open uses.
+fn marked(v: u16, b: Book) -> Book
+    ensures { λ r. ⌜ r ≡ marked v b ⌝ }
+{
+    if 4 <= v {
+        return b;
+    }
+    let players = b.players;
+    let entries = b.entries;
+    let table = marked_entries(players, entries, at_most_64(b.entrycount));
+    let mut older = b;
+    older.entries = table;
+    older
+}
+
+fn book_in(s: &[u8]) -> Book
+    requires { ⌜ headerBroken (now s) ≡ 0 ⌝ }
+    ensures { λ r. ⌜ r ≡ bookIn (now (s .entry)) ⌝ }
+{
+    let v = read16(s, 3);
+    let b = book_as(s);
+    marked(v, b)
+}
+
 // Rules out: 21 for ten bytes without the mark (the length is checked first: 20); entries read from an offset that
-// does not depend on the number of assets.
+// does not depend on the number of assets; an older image whose marks stay 0.
 pub fn parse(s: &[u8]) -> Parsed
     ensures { λ r. ⌜ r .code ≡ headerBroken (now (s .entry)) ⌝ }
     ensures { λ r. ⌜ r .book ≡ cond (eqb (headerBroken (now (s .entry))) 0) (bookIn (now (s .entry))) noBook ⌝ }

@@ -14,7 +14,7 @@ use Rattle.book.specs.declared.Player.{Player}
 use Rattle.book.specs.declared.Book.{Book}
 use Rattle.model.specs.Image.{newest, headerStart, startValues, headerBytes, assetWidths, assetValues, assetBytes, limitsWidths}
 use Rattle.model.specs.Image.{trackWidths, trackValues, limitsValues, metersWidths, metersValues, entryBytes, lastWidths, lastValues}
-use Rattle.model.specs.Image.{openWidths, openValues}
+use Rattle.model.specs.Image.{groupWidths, groupValues, openWidths, openValues}
 use Rattle.model.specs.Image.{playerBytes, headerSize, assetSize, entrySize, playerSize}
 
 -- ## The header
@@ -89,6 +89,17 @@ pub track-length : (l : Limits) → length (trackBytes l) ≡ 12
 unfolding trackBytes
 track-length l = refl
 
+unfoldable pub groupBytes : Entry → List ℕ
+groupBytes e = laidOut (groupWidths newest) (groupValues newest e)
+
+pub group-shut : (e : Entry) → laidOut (groupWidths newest) (groupValues newest e) ≡ groupBytes e
+unfolding groupBytes
+group-shut e = refl
+
+pub group-length : (e : Entry) → length (groupBytes e) ≡ 8
+unfolding groupBytes
+group-length e = refl
+
 pub limits-length : (l : Limits) → length (limitsBytes l) ≡ 34
 unfolding limitsBytes
 limits-length l = refl
@@ -98,8 +109,9 @@ unfolding metersBytes
 meters-length m = refl
 
 -- the pieces one after the other are the entry
-pub entry-pieces : (e : Entry) → limitsBytes (e .limits) ++ metersBytes (e .meters) ++ trackBytes (e .limits) ≡ entryBytes e
-unfolding entryBytes limitsBytes metersBytes trackBytes
+pub entry-pieces : (e : Entry) → limitsBytes (e .limits) ++ metersBytes (e .meters) ++ trackBytes (e .limits) ++ groupBytes e
+    ≡ entryBytes e
+unfolding entryBytes limitsBytes metersBytes trackBytes groupBytes
 entry-pieces e = refl
 
 pub entry-length : (e : Entry) → length (entryBytes e) ≡ entrySize newest

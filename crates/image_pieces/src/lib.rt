@@ -1,8 +1,10 @@
 // The layout of an image: the newest version, how many bytes each record has by version, and the pieces of a record as bytes: the
-// header, an asset, two pieces of an entry, two of a player, and what version 2 adds to header, entry and player. Big-endian, each
-// field in its place. Version 3 has 64 bits for a player's number, in its place.
+// header, an asset, two pieces of an entry, two of a player, what version 2 adds to header, entry and player, and what version 4 adds
+// to an entry. Big-endian, each field in its place. Version 3 has 64 bits for a player's number, in its place.
 // Each contract gives the whole array: the piece's values in its widths. A piece has few bytes, since the checker takes only some
 // fifty such casts in one literal; what a version adds to a record is a piece of its own.
+// Besides, the marks of an entry that follow from the open uses: the reader sets them for an older image, and rule 27 asks for them in
+// every image.
 ghost use mathlib.Core.Path.{_≡_};
 ghost use Prim.Native.Nat.{_*_, _≤_};
 ghost use mathlib.Core.List.{[], _∷_};
@@ -10,15 +12,20 @@ ghost use Rattle.numbers.specs.Fields.{bits32, laidOut};
 ghost use Rattle.model.specs.Image.{headerSize, assetSize, entrySize, playerSize, imageLength};
 ghost use Rattle.image_pieces.specs.Sizes.{entriesAt, playersAt};
 ghost use Rattle.model.specs.Image.{newest, headerStart, startValues, assetWidths, assetValues, limitsWidths, limitsValues, metersWidths};
-ghost use Rattle.model.specs.Image.{metersValues, trackWidths, trackValues, lastWidths, lastValues, openWidths, openValues};
+ghost use Rattle.model.specs.Image.{metersValues, trackWidths, trackValues, groupWidths, groupValues, lastWidths, lastValues};
+ghost use Rattle.model.specs.Image.{openWidths, openValues};
+ghost use Rattle.model.specs.Book.{opens, marksOf};
 use book::Asset;
+use book::Entry;
 use book::Last;
 use book::Limits;
 use book::Meters;
 use book::Open;
+use book::Player;
+use numbers::pick32;
 
 // The version that is written. The reader knows it and all before it.
-pub const NEWEST: u16 = 3;
+pub const NEWEST: u16 = 4;
 
 // The bytes of each piece. The header begins in the same way in every version.
 pub const HEADER_START: usize = 11;
@@ -41,6 +48,9 @@ const NUMBER: usize = 4;
 
 const TRACK: usize = 12;
 
+// What version 4 adds: threshold and marks of an entry.
+const GROUP: usize = 8;
+
 // The bytes of a header, an asset, an entry and a player: the sum of the pieces that the version has.
 // Rules out: a piece left out, or one that the version lacks.
 pub fn header_size(v: u16) -> usize
@@ -61,6 +71,9 @@ pub fn asset_size(v: u16) -> usize
 pub fn entry_size(v: u16) -> usize
     ensures { λ r. ⌜ (r ≡ entrySize v) × (r ≤ 200) ⌝ }
 {
+    if 4 <= v {
+        return LIMITS + METERS + TRACK + GROUP;
+    }
     if 2 <= v {
         return LIMITS + METERS + TRACK;
     }
@@ -287,4 +300,50 @@ pub fn track_bytes(l: Limits) -> [u8; TRACK]
         (l.mark / 256 % 256) as u8,
         (l.mark % 256) as u8,
     ]
+}
+
+// Rules out: threshold and marks swapped.
+pub fn group_bytes(e: Entry) -> [u8; GROUP]
+    ensures { λ r. ⌜ r ≡ laidOut (groupWidths newest) (groupValues newest e) ⌝ }
+{
+    let l = e.limits;
+    let m = e.meters;
+    [
+        (l.threshold / 16777216 % 256) as u8,
+        (l.threshold / 65536 % 256) as u8,
+        (l.threshold / 256 % 256) as u8,
+        (l.threshold % 256) as u8,
+        (m.marks / 16777216 % 256) as u8,
+        (m.marks / 65536 % 256) as u8,
+        (m.marks / 256 % 256) as u8,
+        (m.marks % 256) as u8,
+    ]
+}
+
+// Whether a player's use is open and of entry i.
+// Rules out: true for a closed use, or for one of another entry.
+pub fn opens_entry(i: usize, o: Open) -> bool
+    ensures { λ r. ⌜ r ≡ opens i o ⌝ }
+{
+    let entry = o.entry as usize;
+    (o.on == 1) & (entry == i)
+}
+
+// The marks of entry i: bit p for a player p that has it open.
+// Rules out: the last player left out, the marks of another entry.
+pub fn marks_of(players: [Player; 16], i: usize) -> u32
+    ensures { λ r. ⌜ r ≡ marksOf players i ⌝ }
+{
+    let mut marks: u32 = 0;
+    let mut weight: u32 = 1;
+    let mut p: usize = 0;
+    while p < 16 {
+        let q = players[p];
+        let o = q.current;
+        let w = opens_entry(i, o);
+        marks = marks + pick32(w, weight, 0);
+        weight = weight * 2;
+        p = p + 1;
+    }
+    marks
 }

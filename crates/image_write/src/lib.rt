@@ -60,9 +60,11 @@ fn put_entry(buf: &mut [u8], at: usize, e: Entry) -> usize
     let limits = image_pieces::limits_bytes(l);
     let meters = image_pieces::meters_bytes(m);
     let track = image_pieces::track_bytes(l);
+    let group = image_pieces::group_bytes(e);
     let o = put(buf, at, &limits);
     let o = put(buf, o, &meters);
-    put(buf, o, &track)
+    let o = put(buf, o, &track);
+    put(buf, o, &group)
 }
 
 fn put_player(buf: &mut [u8], at: usize, p: Player) -> usize

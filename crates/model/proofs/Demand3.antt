@@ -9,5 +9,7 @@ pub mod Gains
 pub mod Zeros
 pub mod Current
 pub mod Proof
+pub mod OneEntry
 pub mod Premises
+pub mod GroupPremises
 pub mod ReportPremises

@@ -6,6 +6,7 @@ pub mod BetweenRules
 pub mod BeginCodes
 pub mod ZeroLimits
 pub mod LastMoments
+pub mod Thresholds
 pub mod Report
 pub mod AnswerCodes
 pub mod Printed

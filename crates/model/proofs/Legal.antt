@@ -6,3 +6,4 @@ pub mod Events
 pub mod Step
 pub mod Exact
 pub mod Renewed
+pub mod Marked

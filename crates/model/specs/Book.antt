@@ -7,6 +7,7 @@ use mathlib.Core.List.{List}
 use lib.ListN.{length, getD}
 use lib.Dec.{ltb, leb, eqb}
 use Rattle.numbers.specs.Count.{all, first, sum, one}
+use Rattle.numbers.specs.Bits.{ones, maskOf}
 use Rattle.book.specs.declared.Asset.{Asset}
 use Rattle.book.specs.declared.Limits.{Limits}
 use Rattle.book.specs.declared.Meters.{Meters}
@@ -96,6 +97,10 @@ accumulatedFlag = 32
 unfoldable pub flagged : ℕ → Limits → Bool
 flagged w l = eqb (l .flags / w % 2) 1
 
+-- order 7 of document 02: "A group pack carries DeviceNumThresh (5.6.11)": a threshold of 0 is none
+abbrev pub isGroup : Limits → Bool
+isGroup l = not (eqb (l .threshold) 0)
+
 -- order 3 of document 02: "An entry may be tracked (1, else 0)"; the switch for metering is on if it is 1
 abbrev pub isTracked : Limits → Bool
 isTracked l = eqb (l .tracked) 1
@@ -155,8 +160,12 @@ trackLegal l =
     && leb (l .mark) 1
     && (isTracked l || (eqb (l .timedvalue) 0 && eqb (l .mark) 0))
 
+-- Order 7 of document 02: "at most that many players, 1 to 16 (0 for none)"
+unfoldable pub thresholdLegal : Limits → Bool
+thresholdLegal l = leb (l .threshold) 16
+
 -- "rights object number (1 to 65535), asset (in the book), kind ..., flags, limits"; "start at most end where both are flagged";
--- momentary: "no accumulated, timer 0"; the track. Whether the asset is in the book is passed in.
+-- momentary: "no accumulated, timer 0"; the track; the threshold. Whether the asset is in the book is passed in.
 unfoldable pub limitsLegal : Bool → Limits → Bool
 limitsLegal known l =
     between 1 65535 (l .object)
@@ -167,6 +176,7 @@ limitsLegal known l =
     && (not (flagged startFlag l && flagged endFlag l) || leb (l .start) (l .end))
     && (not (momentary (l .kind)) || (not (flagged accumulatedFlag l) && eqb (l .timer) 0))
     && trackLegal l
+    && thresholdLegal l
 
 -- all entries of the book
 unfoldable pub entriesLegal : Book → Bool
@@ -305,6 +315,14 @@ metersCover uses seconds l m =
     && (not (flagged timedFlag l) || leb uses (m .timed))
     && (not (flagged accumulatedFlag l) || leb seconds (m .seconds))
 
+-- Order 7 of document 02: "The entry keeps one mark for each of the 16 players, bit p for player p": those who have entry i open
+unfoldable pub marksOf : List Player → ℕ → ℕ
+marksOf ps i = maskOf (λ p. opens i (playerAt ps p .current)) 16
+
+-- "Reading gives 27 where marks and open uses differ or exceed a threshold."
+unfoldable pub marksLegal : ℕ → Limits → Meters → Bool
+marksLegal marks l m = eqb (m .marks) marks && (not (isGroup l) || leb (ones (m .marks)) (l .threshold))
+
 -- the meter rules for entry i
 unfoldable pub entryMetersLegal : ℕ → List Player → ℕ → Entry → Bool
 entryMetersLegal time ps i e =
@@ -313,6 +331,7 @@ entryMetersLegal time ps i e =
     && meterLegal (flagged accumulatedFlag (e .limits)) (e .limits .accumulated) (e .meters .seconds)
     && startLegal time (e .limits) (e .meters)
     && metersCover (openUses ps i) (openSeconds ps i) (e .limits) (e .meters)
+    && marksLegal (marksOf ps i) (e .limits) (e .meters)
 
 -- the meters of all entries
 unfoldable pub metersLegal : Book → Bool

@@ -5,6 +5,7 @@ use mathlib.Core.Bool.{Bool, true, false, not, _&&_, _||_, cond}
 use mathlib.Core.List.{List, [], _∷_}
 use lib.Dec.{leb, ltb, eqb}
 use Rattle.numbers.specs.Count.{one, howMany}
+use Rattle.numbers.specs.Bits.{ones}
 use Rattle.book.specs.declared.Limits.{Limits}
 use Rattle.book.specs.declared.Meters.{Meters}
 use Rattle.book.specs.declared.Entry.{Entry}
@@ -17,7 +18,7 @@ use Rattle.book.specs.declared.Rank.{Rank}
 use Rattle.book.specs.Blank.{noAsset}
 use Rattle.model.specs.Book.{assetAt, limitsAt, metersAt, assetsIn, entriesIn, grantLength, isParent, assetPosition, flagged}
 use Rattle.model.specs.Book.{countFlag, timedFlag, startFlag, endFlag, intervalFlag, accumulatedFlag}
-use Rattle.model.specs.Book.{momentary, isTracked, isMetered}
+use Rattle.model.specs.Book.{momentary, isTracked, isMetered, isGroup}
 use Rattle.model.specs.Meters.{isStarted, intervalFrom}
 
 -- ## Suitable
@@ -73,7 +74,7 @@ fails flag test = flag && not test
 -- used seconds < accumulated.": by name, which of these fail. Order 2 of document 02, of an entry with a flagged limit of 0: "such an
 -- entry is never grantable". For a count, a timed count and the seconds that follows, since nothing is below 0. An interval of 0 is a
 -- ground by itself: not started, it would be granted once, until t. Order 3: "With the switch off a tracked entry is grantable only with
--- mark 1".
+-- mark 1". Order 7: "how many are set is compared with the threshold", and "a full threshold makes an entry not grantable".
 unfoldable pub groundsOf : Ask → Limits → Meters → Grounds
 groundsOf ask l m = record {
   countspent = fails (flagged countFlag l) (ltb (m .count) (l .count));
@@ -84,13 +85,14 @@ groundsOf ask l m = record {
   secondsspent = fails (flagged accumulatedFlag l) (ltb (m .seconds) (l .accumulated));
   intervalzero = fails (flagged intervalFlag l) (ltb 0 (l .interval));
   switchoff = fails (isTracked l) (isMetered (ask .switch) || eqb (l .mark) 1);
+  thresholdfull = fails (isGroup l) (ltb (ones (m .marks)) (l .threshold));
 }
 
 -- the grounds one after the other, in that order
 abbrev pub groundList : Grounds → List Bool
 groundList g =
     g .countspent ∷ g .timedspent ∷ g .beforestart ∷ g .afterend ∷ g .intervalover ∷ g .secondsspent ∷ g .intervalzero
-    ∷ g .switchoff ∷ []
+    ∷ g .switchoff ∷ g .thresholdfull ∷ []
 
 -- no ground stands
 unfoldable pub grantable : Ask → Limits → Meters → Bool

@@ -39,7 +39,8 @@ use Rattle.model.specs.Report.{lineAt, Arrival, admitted, receive, lines
 use Rattle.model.specs.Gate.{gate}
 use Rattle.model.specs.Ledger.{Use, Taken, Account, empty, latestTaken, resent, calledTaken, timeOf, latest, isOpen, spentCount}
 use Rattle.model.specs.Ledger.{spentTimed, spentSeconds, countsTimed, sumOf, earliest, Ground, count-spent, timed-spent}
-use Rattle.model.specs.Ledger.{seconds-spent, interval-over, interval-zero, before-start, after-end, switch-off, stands, noteArrival}
+use Rattle.model.specs.Ledger.{seconds-spent, interval-over, interval-zero, before-start, after-end, switch-off, threshold-full}
+use Rattle.model.specs.Ledger.{stands, noteArrival, openTogether, marksBy}
 use Rattle.model.specs.Ledger.{reportTimes, reportSeconds}
 use Rattle.model.specs.History.{answers, final, handed, handedLines, recordAnswers, recordFinal, recordLines}
 use Rattle.model.specs.Run.{zeroLines}
@@ -91,11 +92,13 @@ pub record UseInside (l : Limits) (us : List Use) (u : Use) : Type 0 where
   pub begin : Inside l us (u .entry) (u .begin)
   pub seconds : (x : ℕ) → u .begin ≤ x → x < u .until → Inside l us (u .entry) x
 
--- "spent count, spent timed and spent seconds are at most their flagged limits"
+-- "spent count, spent timed and spent seconds are at most their flagged limits"; order 7 of document 02: "at most that many players,
+-- 1 to 16 (0 for none), have the entry open together"
 pub record Limited (T : ℕ) (us : List Use) (es : List Entry) : Type 0 where
   pub count : (i : ℕ) → flagged countFlag (limitsAt es i) ≡ true → spentCount us i ≤ limitsAt es i .count
   pub timed : (i : ℕ) → flagged timedFlag (limitsAt es i) ≡ true → spentTimed T us i (limitsAt es i) ≤ limitsAt es i .timed
   pub seconds : (i : ℕ) → flagged accumulatedFlag (limitsAt es i) ≡ true → spentSeconds us i ≤ limitsAt es i .accumulated
+  pub together : (i : ℕ) → (limitsAt es i .threshold ≡ 0 → ⊥) → openTogether T us i ≤ limitsAt es i .threshold
   pub inside : Every (λ u. UseInside (limitsAt es (u .entry)) us u) us
 
 -- ## b. The checks before an event is taken
@@ -298,6 +301,7 @@ figures at us i l = record {
   first = where-flagged (flagged intervalFlag l) (startOr 0 (earliest i us));
   seconds = where-flagged (flagged accumulatedFlag l) (spentSeconds us i);
   started = one (running us i l);
+  marks = marksBy at us i;
 }
 
 -- from position i on
@@ -444,7 +448,8 @@ pub data ZeroLimit (l : Limits) : Type 0 where
   zero-interval : flagged intervalFlag l ≡ true → l .interval ≡ 0 → ZeroLimit l
   zero-accumulated : flagged accumulatedFlag l ≡ true → l .accumulated ≡ 0 → ZeroLimit l
 
--- the grounds that make an entry spent; by `before-start` and `after-end` it is out of its dates, by `switch-off` neither
+-- the grounds that make an entry spent; by `before-start` and `after-end` it is out of its dates, by `switch-off` and `threshold-full`
+-- neither
 abbrev pub isSpent : Ground → Bool
 isSpent count-spent = true
 isSpent timed-spent = true
@@ -454,6 +459,7 @@ isSpent interval-zero = true
 isSpent before-start = false
 isSpent after-end = false
 isSpent switch-off = false
+isSpent threshold-full = false
 
 -- entry i is spent by the ledger
 pub record Spent (e : Event) (s : State) (i : ℕ) : Type 0 where

@@ -83,7 +83,7 @@ pub record Exact : Type 0 where
       → ExactEnd (openAt (b .players) p .until) (atTurn p b e) (openAt (b .players) p)
   -- these are the entries that settling works on: each turn leads to the next, and the last to the request
   pub turn : (b : Book) (e : Event) (p : ℕ) → Legal b → p < 16
-      → atTurn (suc p) b e ≡ released (e .time) (openAt (b .players) p) (atTurn p b e)
+      → atTurn (suc p) b e ≡ released (e .time) p (openAt (b .players) p) (atTurn p b e)
   pub turns : (b : Book) (e : Event) → Legal b → atTurn 16 b e ≡ atRequest b e
   -- then the request
   pub begin : (b : Book) (e : Event) (asset kind i : ℕ) → Legal b → Taken b e

@@ -17,13 +17,14 @@ use Rattle.book.specs.declared.Open.{Open}
 use Rattle.book.specs.declared.Player.{Player}
 use Rattle.book.specs.declared.Book.{Book}
 use Rattle.book.specs.Blank.{noAsset, noEntry}
-use Rattle.model.specs.Book.{assetAt, playerAt, assetsIn, entriesIn, latestTime, between, ruleBroken}
+use Rattle.book.specs.Changed.{changed}
+use Rattle.model.specs.Book.{assetAt, playerAt, assetsIn, entriesIn, latestTime, between, marksOf, ruleBroken}
 
 -- ## The layout, by version
 
 -- the version that is written
 abbrev pub newest : ℕ
-newest = 3
+newest = 4
 
 -- "Mark `RBK`, version 16 bits (1), asset and entry numbers (8 each), book time 32.": the same in every version
 abbrev pub headerStart : List Width
@@ -83,11 +84,22 @@ trackWidths v = since 2 (bits32 ∷ bits32 ∷ bits32 ∷ []) v
 abbrev pub trackValues : Limits → List ℕ
 trackValues l = l .tracked ∷ l .timedvalue ∷ l .mark ∷ []
 
-abbrev pub entryWidths : ℕ → List Width
-entryWidths v = limitsWidths ++ metersWidths ++ trackWidths v
+-- order 7: threshold, marks
+abbrev pub groupWidths : ℕ → List Width
+groupWidths v = since 4 (bits32 ∷ bits32 ∷ []) v
 
-abbrev pub entryValues : Entry → List ℕ
-entryValues e = limitsValues (e .limits) ++ metersValues (e .meters) ++ trackValues (e .limits)
+-- "Older images get marks set from their open uses": what such a version says of the marks is 0, whatever they are
+abbrev pub marksSaid : ℕ → Meters → ℕ
+marksSaid v m = cond (leb 4 v) (m .marks) 0
+
+abbrev pub groupValues : ℕ → Entry → List ℕ
+groupValues v e = e .limits .threshold ∷ marksSaid v (e .meters) ∷ []
+
+abbrev pub entryWidths : ℕ → List Width
+entryWidths v = limitsWidths ++ metersWidths ++ trackWidths v ++ groupWidths v
+
+abbrev pub entryValues : ℕ → Entry → List ℕ
+entryValues v e = limitsValues (e .limits) ++ metersValues (e .meters) ++ trackValues (e .limits) ++ groupValues v e
 
 abbrev pub entryOf : List ℕ → Entry
 entryOf vs = record {
@@ -106,6 +118,7 @@ entryOf vs = record {
     tracked = getD vs 16 0;
     timedvalue = getD vs 17 0;
     mark = getD vs 18 0;
+    threshold = getD vs 19 0;
   };
   meters = record {
     count = getD vs 11 0;
@@ -113,6 +126,7 @@ entryOf vs = record {
     first = getD vs 13 0;
     seconds = getD vs 14 0;
     started = getD vs 15 0;
+    marks = getD vs 20 0;
   };
 }
 
@@ -172,7 +186,7 @@ unfoldable pub playerSize : ℕ → ℕ
 playerSize v = size (playerWidths v)
 
 -- "Length 11 + 5A + 51P + 384, at most 3,979." in version 1; in version 2 it is 15 + 5A + 63P + 448, at most
--- 4,815, in version 3 15 + 5A + 63P + 512, at most 4,879
+-- 4,815, in version 3 15 + 5A + 63P + 512, at most 4,879, in version 4 15 + 5A + 71P + 512, at most 5,391
 unfoldable pub imageLength : ℕ → ℕ → ℕ → ℕ
 imageLength v assets entries =
     headerSize v + assetSize v * assets + entrySize v * entries + playerSize v * 16
@@ -186,7 +200,7 @@ unfoldable pub assetBytes : Asset → List ℕ
 assetBytes a = laidOut (assetWidths newest) (assetValues a)
 
 unfoldable pub entryBytes : Entry → List ℕ
-entryBytes e = laidOut (entryWidths newest) (entryValues e)
+entryBytes e = laidOut (entryWidths newest) (entryValues newest e)
 
 unfoldable pub playerBytes : Player → List ℕ
 playerBytes p = laidOut (playerWidths newest) (playerValues p)
@@ -204,7 +218,7 @@ unfoldable pub imageAs : ℕ → Book → List ℕ
 imageAs v b =
     laidOut (headerWidths v) (startValues v (assetsIn b) (entriesIn b) (b .time) ++ tailValues b)
     ++ joined (λ i. laidOut (assetWidths v) (assetValues (assetAt (b .assets) i))) (assetsIn b)
-    ++ joined (λ i. laidOut (entryWidths v) (entryValues (getD (b .entries) i noEntry))) (entriesIn b)
+    ++ joined (λ i. laidOut (entryWidths v) (entryValues v (getD (b .entries) i noEntry))) (entriesIn b)
     ++ joined (λ p. laidOut (playerWidths v) (playerValues (playerAt (b .players) p))) 16
 
 -- their number
@@ -282,9 +296,31 @@ bookAs v s = record {
   players = playerTable v s (playersFrom v s);
 }
 
--- "Older images have those fields 0": the book by the layout of the image's own version
+-- the entry with these marks
+abbrev pub withMarks : ℕ → Entry → Entry
+withMarks marks e = record {
+  limits = e .limits;
+  meters = record {
+    count = e .meters .count;
+    timed = e .meters .timed;
+    first = e .meters .first;
+    seconds = e .meters .seconds;
+    started = e .meters .started;
+    marks = marks;
+  };
+}
+
+-- the first n entries with a mark for each player that has them open
+unfoldable pub markedEntries : List Player → List Entry → ℕ → List Entry
+markedEntries ps es n = listed (λ i. withMarks (marksOf ps i) (getD es i noEntry)) n ++ drop n es
+
+-- order 7: "Older images get marks set from their open uses." They are set before the rules are judged; 24 to 26 do not look at them.
+unfoldable pub marked : ℕ → Book → Book
+marked v b = cond (leb 4 v) b (changed b (b .time) (markedEntries (b .players) (b .entries) (entriesIn b)) (b .players))
+
+-- "Older images have those fields 0", but for the marks: the book by the layout of the image's own version
 unfoldable pub bookIn : List ℕ → Book
-bookIn s = bookAs (versionIn s) s
+bookIn s = marked (versionIn s) (bookAs (versionIn s) s)
 
 -- "Order: 20 below 11 bytes, 21 mark, 22 version, 23 a number above 64 or a late time, 20 wrong length, 24 asset rules,
 -- 25 entry rules, 26 players, 27 meters." 0 if none is broken.
@@ -307,11 +343,11 @@ readBook held s = cond (eqb (readCode s) 0) (bookIn s) held
 
 -- ## What holds of any value of the program's types
 
--- what version v can say of a book: each number fits its width there, and one that it lacks is 0
+-- what version v can say of a book: each number fits its width there, and one that it lacks is 0, but for the marks, which are set
 pub record SaidBy (v : ℕ) (b : Book) : Type 0 where
   pub header : Fit (headerTail v) (tailValues b)
   pub assets : (i : ℕ) → Fit (assetWidths v) (assetValues (assetAt (b .assets) i))
-  pub entries : (i : ℕ) → Fit (entryWidths v) (entryValues (getD (b .entries) i noEntry))
+  pub entries : (i : ℕ) → Fit (entryWidths v) (entryValues v (getD (b .entries) i noEntry))
   pub players : (p : ℕ) → Fit (playerWidths v) (playerValues (playerAt (b .players) p))
 
 -- each number of a book fits its type: its width in the newest layout

@@ -7,6 +7,7 @@ use mathlib.Core.List.{List, [], _∷_}
 use mathlib.Core.Option.{Option, none, some}
 use lib.Dec.{leb, ltb, eqb}
 use Rattle.numbers.specs.Count.{one}
+use Rattle.numbers.specs.Bits.{maskOf}
 use Rattle.book.specs.declared.Limits.{Limits}
 use Rattle.book.specs.declared.Answer.{Answer}
 use Rattle.book.specs.declared.Event.{Event}
@@ -153,6 +154,22 @@ spentTimed T us i l = sumOf (countsTimed (λ p. T) (l .timer) i) us
 abbrev pub spentSeconds : List Use → ℕ → ℕ
 spentSeconds us i = sumOf (countsSeconds i) us
 
+-- order 7 of document 02, "the ledger's open uses": those of entry i that are open at T
+abbrev pub countsOpen : ℕ → ℕ → Use → ℕ
+countsOpen T i u = one (eqb (u .entry) i && isOpen T u)
+
+abbrev pub openTogether : ℕ → List Use → ℕ → ℕ
+openTogether T us i = sumOf (countsOpen T i) us
+
+-- whether a player's latest use, if it has one, is of entry i and open at T
+abbrev pub openBy : ℕ → ℕ → Option Use → Bool
+openBy T i none = false
+openBy T i (some u) = eqb (u .entry) i && isOpen T u
+
+-- "one mark for each of the 16 players, bit p for player p": those who have entry i open, each judged at its time
+unfoldable pub marksBy : (ℕ → ℕ) → List Use → ℕ → ℕ
+marksBy at us i = maskOf (λ p. openBy (at p) i (latest p us)) 16
+
 -- the smaller of those present
 abbrev pub sooner : ℕ → Option ℕ → ℕ
 sooner b none = b
@@ -180,6 +197,7 @@ pub data Ground : Type 0 where
   before-start : Ground
   after-end : Ground
   switch-off : Ground
+  threshold-full : Ground
 
 -- at the event's time T, whether that ground stands against entry i:
 -- "An entry is *spent* at T if, of what is flagged, spent count, spent timed or spent seconds has reached its limit, or
@@ -187,6 +205,7 @@ pub data Ground : Type 0 where
 -- Order 2 of document 02: "Count, timed, interval and accumulated may now be 0 when flagged; such an entry is ... spent in the ledger".
 -- What is spent has reached 0 from the start; an interval of 0 is over though it has no start.
 -- Order 3: "With the switch off a tracked entry is grantable only with mark 1"; the book's switch is passed in.
+-- Order 7: "By the ledger's open uses a full threshold makes an entry not grantable."
 unfoldable pub stands : ℕ → Event → List Use → ℕ → Limits → Ground → Bool
 stands switch e us i l count-spent = flagged countFlag l && leb (l .count) (spentCount us i)
 stands switch e us i l timed-spent = flagged timedFlag l && leb (l .timed) (spentTimed (e .time) us i l)
@@ -196,6 +215,7 @@ stands switch e us i l interval-zero = flagged intervalFlag l && eqb (l .interva
 stands switch e us i l before-start = flagged startFlag l && ltb (e .time) (l .start)
 stands switch e us i l after-end = flagged endFlag l && ltb (l .end) (e .time)
 stands switch e us i l switch-off = eqb (l .tracked) 1 && not (eqb switch 1) && not (eqb (l .mark) 1)
+stands switch e us i l threshold-full = not (eqb (l .threshold) 0) && leb (l .threshold) (openTogether (e .time) us i)
 
 -- ## The report
 

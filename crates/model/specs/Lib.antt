@@ -16,3 +16,4 @@ pub mod Run
 pub mod Saved
 pub mod Exact
 pub mod Renewed
+pub mod Marked

@@ -1,18 +1,19 @@
 -- The only ways in which an event changes an entry, and settling.
 -- Document 01, section "Events". Quotations are that document's.
-use Prim.Native.Nat.{ℕ, _+_, _-_}
+use Prim.Native.Nat.{ℕ, suc, _+_, _-_}
 use mathlib.Core.Bool.{Bool, true, false, _&&_, cond}
 use mathlib.Core.List.{List, [], _∷_}
 use lib.ListN.{set}
 use lib.Dec.{leb, ltb, eqb}
 use Rattle.numbers.specs.Count.{one}
+use Rattle.numbers.specs.Bits.{putBit}
 use Rattle.book.specs.declared.Limits.{Limits}
 use Rattle.book.specs.declared.Meters.{Meters}
 use Rattle.book.specs.declared.Entry.{Entry}
 use Rattle.book.specs.declared.Open.{Open}
 use Rattle.book.specs.declared.Player.{Player}
 use Rattle.book.specs.Blank.{closed}
-use Rattle.model.specs.Book.{limitsAt, metersAt, flagged}
+use Rattle.model.specs.Book.{limitsAt, metersAt, flagged, momentary}
 use Rattle.model.specs.Book.{countFlag, timedFlag, intervalFlag, accumulatedFlag}
 
 -- ## The only ways in which an event changes an entry
@@ -34,14 +35,16 @@ isStarted m = eqb (m .started) 1
 abbrev pub intervalFrom : ℕ → Meters → ℕ
 intervalFrom t m = cond (isStarted m) (m .first) t
 
--- begin at t until u: "Used count and used timed rise by 1, used seconds by until − t, an interval starts."
-unfoldable pub begun : ℕ → ℕ → Limits → Meters → Meters
-begun t u l m = record {
+-- player p begins at t until u: "Used count and used timed rise by 1, used seconds by until − t, an interval starts."; order 7: "one mark
+-- for each of the 16 players" who have it open, and of a momentary use "nothing opens"
+unfoldable pub begun : ℕ → ℕ → ℕ → Limits → Meters → Meters
+begun p t u l m = record {
   count = m .count + where-flagged (flagged countFlag l) 1;
   timed = m .timed + where-flagged (flagged timedFlag l) 1;
   first = where-flagged (flagged intervalFlag l) (intervalFrom t m);
   seconds = m .seconds + where-flagged (flagged accumulatedFlag l) (u - t);
   started = one (flagged intervalFlag l);
+  marks = cond (momentary (l .kind)) (m .marks) (putBit p true (m .marks));
 }
 
 -- continue from until u to v: "used seconds rise by the difference"
@@ -52,17 +55,19 @@ continued u v l m = record {
   first = m .first;
   seconds = m .seconds + where-flagged (flagged accumulatedFlag l) (v - u);
   started = m .started;
+  marks = m .marks;
 }
 
--- a use that began at b, with its seconds counted until u, ends at e: "until − t seconds go back";
--- "When a use ends, however it ends, with end − begin < timer, its timed count goes back. A count never does."
-unfoldable pub ended : ℕ → ℕ → ℕ → Limits → Meters → Meters
-ended b u e l m = record {
+-- a use of player p that began at b, with its seconds counted until u, ends at e: "until − t seconds go back";
+-- "When a use ends, however it ends, with end − begin < timer, its timed count goes back. A count never does."; order 7: the mark goes too
+unfoldable pub ended : ℕ → ℕ → ℕ → ℕ → Limits → Meters → Meters
+ended p b u e l m = record {
   count = m .count;
   timed = m .timed - where-flagged (flagged timedFlag l && ltb (e - b) (l .timer)) 1;
   first = m .first;
   seconds = m .seconds - where-flagged (flagged accumulatedFlag l) (u - e);
   started = m .started;
+  marks = putBit p false (m .marks);
 }
 
 -- ## Settling
@@ -78,11 +83,15 @@ expired t o = isOn o && leb (o .until) t
 unfoldable pub shut : ℕ → Player → Player
 shut t p = record { last = p .last; current = cond (expired t (p .current)) closed (p .current) }
 
--- the entries after one player's use is settled
-unfoldable pub released : ℕ → Open → List Entry → List Entry
-released t o es = cond (expired t o) (amend (o .entry) (ended (o .begin) (o .until) (o .until)) es) es
+-- the entries after player p's use is settled
+unfoldable pub released : ℕ → ℕ → Open → List Entry → List Entry
+released t p o es = cond (expired t o) (amend (o .entry) (ended p (o .begin) (o .until) (o .until)) es) es
 
--- the entries after the players' uses are settled in turn
-unfoldable pub settled : ℕ → List Player → List Entry → List Entry
-settled t [] es = es
-settled t (p ∷ ps) es = settled t ps (released t (p .current) es)
+-- the entries after the uses of the players from number p on are settled in turn
+unfoldable pub settledFrom : ℕ → ℕ → List Player → List Entry → List Entry
+settledFrom t p [] es = es
+settledFrom t p (x ∷ ps) es = settledFrom t (suc p) ps (released t p (x .current) es)
+
+-- the entries after all players' uses are settled
+abbrev pub settled : ℕ → List Player → List Entry → List Entry
+settled t ps es = settledFrom t 0 ps es

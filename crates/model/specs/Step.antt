@@ -46,15 +46,16 @@ pub record Done : Type 0 where
 abbrev pub unchanged : ℕ → List Entry → Open → Done
 unchanged code es o = record { answer = refusal code; entries = es; current = o }
 
--- what a begin at t for an asset does with the choice; `none` is the code if nothing is grantable. Order 3 of document 02: "The content, an
+-- what a begin for an asset does with the choice; `none` is the code if nothing is grantable. Order 3 of document 02: "The content, an
 -- asset of the book, is kept with every open use", and it is "the asset its begin asked for".
-abbrev pub granted : ℕ → ℕ → ℕ → List Entry → Open → Choice → Done
-granted none t asset es o nobody = unchanged none es o
-granted none t asset es o (chosen i) =
+abbrev pub granted : ℕ → Ask → ℕ → List Entry → Open → Choice → Done
+granted none ask asset es o nobody = unchanged none es o
+granted none ask asset es o (chosen i) =
+    let t : ℕ = ask .time in
     let u : ℕ = grantUntil t (limitsAt es i) (metersAt es i) in
     record {
       answer = record { code = 0; entry = i; until = u };
-      entries = amend i (begun t u) es;
+      entries = amend i (begun (ask .player) t u) es;
       current = cond (momentary (limitsAt es i .kind)) o (record { on = 1; entry = i; begin = t; until = u; content = asset });
     }
 
@@ -64,7 +65,7 @@ doBegin c es o ask asset kind =
     cond (isOn o) (unchanged 11 es o)
     (cond (not (usable c asset)) (unchanged 10 es o)
     (cond (not (anyOf (suits c es asset kind) (c .entryCount))) (unchanged 12 es o)
-    (granted (noneGrantable c es ask asset kind) (ask .time) asset es o (choose c es ask asset kind))))
+    (granted (noneGrantable c es ask asset kind) ask asset es o (choose c es ask asset kind))))
 
 -- the new until of the open use
 abbrev pub more : List Entry → Open → ℕ → ℕ
@@ -85,23 +86,23 @@ doContinue es o t =
     (cond (leb (more es o t) (o .until)) (unchanged 15 es o)
     (lengthened (more es o t) es o))
 
--- a stop at t
-abbrev pub halted : ℕ → List Entry → Open → Done
-halted t es o = record {
-  answer = record { code = 0; entry = o .entry; until = t };
-  entries = amend (o .entry) (ended (o .begin) (o .until) t) es;
+-- a stop
+abbrev pub halted : Ask → List Entry → Open → Done
+halted ask es o = record {
+  answer = record { code = 0; entry = o .entry; until = ask .time };
+  entries = amend (o .entry) (ended (ask .player) (o .begin) (o .until) (ask .time)) es;
   current = closed;
 }
 
 -- "**Stop**: 14 if nothing is open. The use ends at t; until − t seconds go back. Answer: its entry, until t."
-unfoldable pub doStop : List Entry → Open → ℕ → Done
-doStop es o t = cond (not (isOn o)) (unchanged 14 es o) (halted t es o)
+unfoldable pub doStop : List Entry → Open → Ask → Done
+doStop es o ask = cond (not (isOn o)) (unchanged 14 es o) (halted ask es o)
 
 -- what the operation does
 unfoldable pub done : Request → Catalog → List Entry → Open → Ask → Done
 done (Begin kind asset) c es o ask = doBegin c es o ask asset (kindNumber kind)
 done Continue c es o ask = doContinue es o (ask .time)
-done Stop c es o ask = doStop es o (ask .time)
+done Stop c es o ask = doStop es o ask
 
 -- ## The step
 

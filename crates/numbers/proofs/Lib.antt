@@ -2,5 +2,6 @@
 pub mod Tests
 pub mod TableLaws
 pub mod Loops
+pub mod BitLaws
 pub mod FieldLaws
 pub mod BufferLaws

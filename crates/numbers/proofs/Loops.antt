@@ -1,6 +1,6 @@
 -- What the proof of a counting loop cites about the definitions of `Count`: what one turn adds, and what holds at the end.
-use Prim.Native.Nat.{ℕ, suc, _+_, _-_, _<_}
-use mathlib.Core.Path.{_≡_, sym, _∙_}
+use Prim.Native.Nat.{ℕ, suc, _+_, _-_, _<_, zero, _≤_}
+use mathlib.Core.Path.{_≡_, sym, _∙_, refl, ap₂}
 use mathlib.Core.Bool.{Bool, true, false, _&&_}
 use mathlib.Core.List.{List, _++_, map}
 use native.Mathlib.Numerals.{add-one}
@@ -10,7 +10,8 @@ use lib.ListN.{length, set, replicate, length-map}
 use lib.Seq.{set-at, append-snoc}
 use borrow.Author.Tests.{lt-ltb, le-ltb}
 use Rattle.numbers.specs.Count.{all, first, sum, listed}
-use Rattle.numbers.proofs.TableLaws.{length-listed}
+use Rattle.numbers.proofs.TableLaws.{length-listed, below-or-not}
+use Rattle.numbers.proofs.Tests.{on-same}
 
 pub all-turn : (f : ℕ → Bool) (i : ℕ) → all f (i + 1) ≡ all f i && f i
 unfolding all
@@ -52,3 +53,26 @@ module _ {A : Type 0} (f : ℕ → A) where
 -- the length of an array of structs, known from ownership
 pub length-mapped : (X Y : Type 0) (f : X → Y) (l : List X) (n : ℕ) → length (map f l) ≡ n → length l ≡ n
 length-mapped X Y f l n p = sym (length-map l f) ∙ p
+
+-- ## Sums
+
+pub sum-same : (f g : ℕ → ℕ) (n : ℕ) → ((p : ℕ) → p < n → f p ≡ g p) → sum f n ≡ sum g n
+unfolding sum
+sum-same f g zero h = refl
+sum-same f g (suc n) h = ap₂ _+_ (sum-same f g n (λ p l. h p (omega arith))) (h n (omega arith))
+
+pub sum-most : (f g : ℕ → ℕ) (n : ℕ) → ((p : ℕ) → p < n → f p ≤ g p) → sum f n ≤ sum g n
+unfolding sum
+sum-most f g zero h = omega arith
+sum-most f g (suc n) h = omega (arith, sum-most f g n (λ p l. h p (omega arith)), h n (omega arith))
+
+-- two sums whose terms differ at p alone
+pub sum-change : (f g : ℕ → ℕ) (p n : ℕ) → ((q : ℕ) → (q ≡ p → ⊥) → g q ≡ f q) → p < n → sum g n + f p ≡ sum f n + g p
+unfolding sum
+sum-change f g p zero h l = absurd (omega arith)
+sum-change f g p (suc n) h l = on-same n p
+    (λ e. let s = sum-same g f n (λ q w. h q (λ z. absurd (omega (arith, z, e)))) in rw (e, ← e) (omega (arith, s)))
+    (λ d. let s = sum-change f g p n h (below l d) in let t = h n d in omega (arith, s, t))
+  where
+    below : p < suc n → (n ≡ p → ⊥) → p < n
+    below k d = below-or-not p n (λ h. h) (λ h. absurd (d (omega arith)))

@@ -1,8 +1,10 @@
-// Numbers: read from bytes, most significant byte first; picked by a test; the smaller of two; a difference that stops at 0.
+// Numbers: read from bytes, most significant byte first; picked by a test; the smaller of two; a difference that stops at 0; the bits
+// of a mask.
 ghost use mathlib.Core.Path.{_≡_};
 ghost use mathlib.Core.Bool.{cond};
-ghost use Prim.Native.Nat.{_+_, _*_, _-_, min};
+ghost use Prim.Native.Nat.{_+_, _*_, _-_, _^_, _<_, min};
 ghost use mathlib.Core.List.{[], _∷_};
+ghost use Rattle.numbers.specs.Bits.{ones, putBit};
 ghost use Rattle.numbers.specs.Count.{one};
 ghost use Rattle.numbers.specs.Fields.{bits16, bits32, numberAt};
 
@@ -89,4 +91,42 @@ pub fn min_wide(a: u64, b: u64) -> u64
     ensures { λ r. ⌜ r ≡ min a b ⌝ }
 {
     if a < b { a } else { b }
+}
+
+// How many of the 16 bits of a mask are set.
+// Rules out: bits above the 16 counted, the last bit left out.
+pub fn ones(m: u32) -> u32
+    ensures { λ r. ⌜ r ≡ ones m ⌝ }
+{
+    let mut n: u32 = 0;
+    let mut rest = m;
+    let mut p: usize = 0;
+    while p < 16 {
+        n = n + rest % 2;
+        rest = rest / 2;
+        p = p + 1;
+    }
+    n
+}
+
+fn weight(p: u32) -> u32
+    requires { ⌜ p < 16 ⌝ }
+    ensures { λ r. ⌜ r ≡ 2 ^ p ⌝ }
+{
+    1 << p
+}
+
+// The 16 bits of a mask, with bit p as told.
+// Rules out: a bit added that is set already, another bit lost, a bit above the 16.
+pub fn with_bit(m: u32, p: u8, on: bool) -> u32
+    ensures { λ r. ⌜ r ≡ putBit p on m ⌝ }
+{
+    let low = m % 65536;
+    let k = p as u32;
+    if 16 <= k {
+        return low;
+    }
+    let w = weight(k);
+    let rest = low - pick32(low / w % 2 == 1, w, 0);
+    rest + pick32(on, w, 0)
 }

@@ -5,11 +5,12 @@
 ghost use mathlib.Core.Path.{_≡_};
 ghost use Prim.Native.Nat.{_-_};
 ghost use lib.Dec.{ltb};
-ghost use Rattle.model.specs.Book.{grantLength, momentary};
+ghost use Rattle.model.specs.Book.{grantLength, isGroup, momentary};
 ghost use Rattle.model.specs.Record.{kindNumber};
 ghost use Rattle.model.specs.Gate.{sameRequest, inLine, gate};
 ghost use Rattle.model.specs.Step.{noted};
-ghost use Rattle.model.specs.Choice.{groundsOf, grantable, lastMoment, ranksBefore, cap, leastUntil};
+ghost use Rattle.model.specs.Choice.{fails, groundsOf, grantable, lastMoment, ranksBefore, cap, leastUntil};
+ghost use Rattle.numbers.specs.Bits.{ones};
 ghost use Rattle.model.specs.Meters.{where-flagged};
 ghost use Rattle.rules.specs.Codes.{beginCode};
 ghost use Rattle.rules.specs.Line.{outOfLine};
@@ -28,6 +29,7 @@ use book::NO_END;
 use book::Rank;
 use book::Request;
 use numbers::min_wide;
+use numbers::ones;
 use numbers::pick32;
 use numbers::pick64;
 use numbers::saturating_sub;
@@ -200,9 +202,20 @@ pub fn momentary(kind: u8) -> bool
     (4 <= kind) & (kind <= 5)
 }
 
+// Whether as many players have the entry open as its threshold allows.
+// Rules out: a threshold of 0 that is full, one player more than the threshold, a player's mark left out.
+pub fn threshold_full(l: Limits, m: Meters) -> bool
+    ensures { λ r. ⌜ r ≡ fails (isGroup l) (ltb (ones (m .marks)) (l .threshold)) ⌝ }
+{
+    if l.threshold == 0 {
+        return false;
+    }
+    !(ones(m.marks) < l.threshold)
+}
+
 // What stands against granting an entry to who asks.
 // Rules out: end taken as excluded, a limit tested without its flag, a sum that wraps, an interval of 0 that is granted once, a tracked
-// entry granted with the switch off and no mark.
+// entry granted with the switch off and no mark, a full threshold passed over.
 pub fn grounds_of(l: Limits, m: Meters, ask: Ask) -> Grounds
     ensures { λ r. ⌜ r ≡ groundsOf ask l m ⌝ }
 {
@@ -212,6 +225,7 @@ pub fn grounds_of(l: Limits, m: Meters, ask: Ask) -> Grounds
     let due = first + interval;
     let now = t as u64;
     let f = flags_of(l);
+    let full = threshold_full(l, m);
     Grounds {
         countspent: f.count & !(m.count < l.count),
         timedspent: f.timed & !(m.timed < l.timed),
@@ -221,6 +235,7 @@ pub fn grounds_of(l: Limits, m: Meters, ask: Ask) -> Grounds
         secondsspent: f.accumulated & !(m.seconds < l.accumulated),
         intervalzero: f.interval & !(0 < l.interval),
         switchoff: (l.tracked == 1) & !((ask.switch == 1) | (l.mark == 1)),
+        thresholdfull: full,
     }
 }
 
@@ -237,6 +252,7 @@ pub fn grantable(l: Limits, m: Meters, ask: Ask) -> bool
         & !g.secondsspent
         & !g.intervalzero
         & !g.switchoff
+        & !g.thresholdfull
 }
 
 // The smaller of end + 1 and, if the interval has started, first + interval; NO_END if there is neither.

@@ -14,8 +14,9 @@ use Rattle.book.specs.declared.Book.{Book}
 use Rattle.book.specs.Blank.{noPlayer}
 use Rattle.book.specs.Changed.{changed}
 use Rattle.model.specs.Book.{playerAt}
-use Rattle.model.specs.Meters.{shut, expired, amend, ended, released, settled}
+use Rattle.model.specs.Meters.{shut, expired, amend, ended, released, settledFrom, settled}
 use Rattle.model.specs.Step.{openAt}
+use Rattle.model.proofs.Ledger.Concrete.{settled-both}
 
 -- a book with other entries and players
 abbrev pub with : Book → List Entry → List Player → Book
@@ -33,15 +34,14 @@ map-append : {A B : Type 0} (f : A → B) (xs ys : List A) → map f (xs ++ ys) 
 map-append f [] ys = refl
 map-append f (x ∷ xs) ys = ap (λ (r : List _). f x ∷ r) (map-append f xs ys)
 
-settled-append : (t : ℕ) (ps qs : List Player) (es : List Entry) → settled t (ps ++ qs) es ≡ settled t qs (settled t ps es)
-unfolding settled
-settled-append t [] qs es = refl
-settled-append t (p ∷ ps) qs es = settled-append t ps qs (released t (p .current) es)
-
 settled-next : (t i : ℕ) (ps : List Player) (es : List Entry) → i < length ps
-    → settled t (take (i + 1) ps) es ≡ released t (openAt ps i) (settled t (take i ps) es)
-unfolding settled
-settled-next t i ps es h = rw (add-one, take-suc ps i noPlayer h) (settled-append t (take i ps) (playerAt ps i ∷ []) es)
+    → settled t (take (i + 1) ps) es ≡ released t i (openAt ps i) (settled t (take i ps) es)
+unfolding settledFrom
+settled-next t i ps es h =
+    let n : 0 + length (take i ps) ≡ i = omega (arith, length-take-le i ps (omega arith)) in
+    rw (add-one, take-suc ps i noPlayer h)
+    (settled-both t 0 (take i ps) (playerAt ps i ∷ []) es
+    ∙ ap (λ (q : ℕ). released t q (openAt ps i) (settled t (take i ps) es)) n)
 
 mapped-length : (t i : ℕ) (ps : List Player) → i < length ps → length (map (shut t) (take i ps)) ≡ i
 mapped-length t i ps h = length-map (take i ps) (shut t) ∙ length-take-le i ps (omega arith)
@@ -63,7 +63,7 @@ players-next t i ps h =
 
 -- player i of a book settled
 abbrev pub settleOne : ℕ → ℕ → Book → Book
-settleOne t i n = with n (released t (openAt (n .players) i) (n .entries)) (set (n .players) i (shut t (playerAt (n .players) i)))
+settleOne t i n = with n (released t i (openAt (n .players) i) (n .entries)) (set (n .players) i (shut t (playerAt (n .players) i)))
 
 -- one turn of the loop
 pub settle-turn : (t i : ℕ) (b : Book) → i < length (b .players) → settleOne t i (settledTo t i b) ≡ settledTo t (i + 1) b
@@ -73,11 +73,11 @@ settle-turn t i b h =
     let m = map (shut t) (take i ps) ++ drop i ps in
     let es = settled t (take i ps) (b .entries) in
     ap₂ (with b)
-    (ap (λ (x : Player). released t (x .current) es) (player-next t i ps h) ∙ sym (settled-next t i ps (b .entries) h))
+    (ap (λ (x : Player). released t i (x .current) es) (player-next t i ps h) ∙ sym (settled-next t i ps (b .entries) h))
     (ap (λ (x : Player). set m i (shut t x)) (player-next t i ps h) ∙ players-next t i ps h)
 
 pub settle-none : (t : ℕ) (b : Book) → b ≡ settledTo t 0 b
-unfolding settledTo settled
+unfolding settledTo settledFrom
 settle-none t b = refl
 
 pub settle-all : (t : ℕ) (b n : Book) (i : ℕ) → n ≡ settledTo t i b → length (b .players) ≤ i → n ≡ settledBook t b
@@ -85,23 +85,10 @@ unfolding settledTo settledBook
 settle-all t b n i e h = e ∙ rw (take-all i (b .players) h, drop-of-length-le (b .players) h, append-nil)
 
 -- a use of a position that no book has changes nothing
-pub released-out : (t : ℕ) (o : Open) (es : List Entry) → length es ≤ o .entry → released t o es ≡ es
+pub released-out : (t p : ℕ) (o : Open) (es : List Entry) → length es ≤ o .entry → released t p o es ≡ es
 unfolding released amend
-released-out t o es h = go (expired t o)
+released-out t p o es h = go (expired t o)
   where
-    go : (w : Bool) → cond w (amend (o .entry) (ended (o .begin) (o .until) (o .until)) es) es ≡ es
+    go : (w : Bool) → cond w (amend (o .entry) (ended p (o .begin) (o .until) (o .until)) es) es ≡ es
     go true = set-out es (o .entry) _ h
     go false = refl
-
-released-length : (t : ℕ) (o : Open) (es : List Entry) → length (released t o es) ≡ length es
-unfolding released amend
-released-length t o es = go (expired t o)
-  where
-    go : (w : Bool) → length (cond w (amend (o .entry) (ended (o .begin) (o .until) (o .until)) es) es) ≡ length es
-    go true = length-set es (o .entry) _
-    go false = refl
-
-pub settled-length : (t : ℕ) (ps : List Player) (es : List Entry) → length (settled t ps es) ≡ length es
-unfolding settled
-settled-length t [] es = refl
-settled-length t (p ∷ ps) es = settled-length t ps (released t (p .current) es) ∙ released-length t (p .current) es

@@ -76,14 +76,14 @@ module _ (c : Catalog) (es : List Entry) (o : Open) (ask : Ask) (asset kind : �
 
       module _ (s : anyOf (suits c es asset kind) (c .entryCount) ≡ true) (k : ℕ) (e : k ≡ best .at) where
         begin-choice : doBegin c es o ask asset kind
-            ≡ granted (noneGrantable c es ask asset kind) (ask .time) asset es o (choose c es ask asset kind)
+            ≡ granted (noneGrantable c es ask asset kind) ask asset es o (choose c es ask asset kind)
         unfolding doBegin
         begin-choice = rw (off, u, s)
 
         pub begin-none : c .entryCount ≤ 64 → 64 ≤ k → doBegin c es o ask asset kind ≡ unchanged (noneGrantable c es ask asset kind) es o
         begin-none h p =
             begin-choice
-            ∙ ap (granted (noneGrantable c es ask asset kind) (ask .time) asset es o) (best-nobody c es ask asset kind h (omega arith))
+            ∙ ap (granted (noneGrantable c es ask asset kind) ask asset es o) (best-nobody c es ask asset kind h (omega arith))
 
         pub begin-grants : (part : Effect) → k < 64 → ask .time ≤ latestTime → part ≡ beginOn k asset ask (limitsAt es k) (metersAt es k) o
             → placed k part es ≡ doBegin c es o ask asset kind
@@ -91,7 +91,7 @@ module _ (c : Catalog) (es : List Entry) (o : Open) (ask : Ask) (asset kind : �
             let w = best-some c es ask asset kind (omega arith) in
             let g : grantable ask (limitsAt es k) (metersAt es k) ≡ true = rw e (w .1) in
             ap (λ (x : Effect). placed k x es) q ∙ begin-placed k asset (noneGrantable c es ask asset kind) ask es o g h
-            ∙ sym (begin-choice ∙ ap (granted (noneGrantable c es ask asset kind) (ask .time) asset es o) (w .0 ∙ ap chosen (sym e)))
+            ∙ sym (begin-choice ∙ ap (granted (noneGrantable c es ask asset kind) ask asset es o) (w .0 ∙ ap chosen (sym e)))
 
   -- the same by the code that is returned: `us`, `su` and `sw` are what the code found, and k the position chosen
   module _ (us su sw : Bool) (k code : ℕ)

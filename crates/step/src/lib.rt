@@ -57,6 +57,7 @@ fn settle_all(b: Book, t: u32) -> Book
     while i < 16 {
         let p = n.players[i];
         let o = p.current;
+        let who = i as u8;
         let k = o.entry as usize;
         if k < 64 {
             let x = n.entries[k];
@@ -64,7 +65,7 @@ fn settle_all(b: Book, t: u32) -> Book
             let m = x.meters;
             let y = Entry {
                 limits: l,
-                meters: uses::released_meters(l, m, o, t),
+                meters: uses::released_meters(l, m, o, who, t),
             };
             n.entries[k] = y;
         }
@@ -84,6 +85,7 @@ fn refused_act(code: u8, o: Open) -> Act
         first: 0,
         seconds: 0,
         started: 0,
+        marks: 0,
     };
     Act {
         at: 64,
@@ -128,8 +130,8 @@ fn go_on(b: Book, o: Open, t: u32) -> Act
     }
 }
 
-fn stop(b: Book, o: Open, t: u32) -> Act
-    ensures { λ r. ⌜ placed (r .at) (r .part) (b .entries) ≡ doStop (b .entries) o t ⌝ }
+fn stop(b: Book, o: Open, ask: Ask) -> Act
+    ensures { λ r. ⌜ placed (r .at) (r .part) (b .entries) ≡ doStop (b .entries) o ask ⌝ }
 {
     let k = o.entry as usize;
     let entries = b.entries;
@@ -138,7 +140,7 @@ fn stop(b: Book, o: Open, t: u32) -> Act
     let m = x.meters;
     Act {
         at: k,
-        part: uses::stop_on(l, m, o, t),
+        part: uses::stop_on(l, m, o, ask.player, ask.time),
     }
 }
 
@@ -149,7 +151,7 @@ fn operate(b: Book, o: Open, q: Request, ask: Ask) -> Act
     match q {
         Request::Begin(kind, asset) => begin(b, o, asset, rules::kind_number(kind), ask),
         Request::Continue => go_on(b, o, ask.time),
-        Request::Stop => stop(b, o, ask.time),
+        Request::Stop => stop(b, o, ask),
     }
 }
 

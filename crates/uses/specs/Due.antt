@@ -12,7 +12,7 @@ use Rattle.book.specs.declared.Player.{Player}
 use Rattle.book.specs.declared.Open.{Open}
 use Rattle.model.specs.Book.{playerAt}
 use Rattle.model.specs.Choice.{anyOf}
-use Rattle.model.specs.Meters.{expired, shut, released, settled}
+use Rattle.model.specs.Meters.{expired, shut, released, settledFrom, settled}
 
 unfoldable pub dueAt : ℕ → List Player → ℕ → Bool
 dueAt t ps i = expired t (playerAt ps i .current)
@@ -37,23 +37,23 @@ shut-same : (t : ℕ) (p : Player) → expired t (p .current) ≡ false → shut
 unfolding shut
 shut-same t p h = rw h
 
-released-same : (t : ℕ) (o : Open) (es : List Entry) → expired t o ≡ false → released t o es ≡ es
+released-same : (t q : ℕ) (o : Open) (es : List Entry) → expired t o ≡ false → released t q o es ≡ es
 unfolding released
-released-same t o es h = rw h
+released-same t q o es h = rw h
 
 none-from :
-    (t : ℕ) (ps : List Player) (es : List Entry) (n : ℕ) →
+    (t q : ℕ) (ps : List Player) (es : List Entry) (n : ℕ) →
     length ps ≤ n →
     anyOf (dueAt t ps) n ≡ false →
-    (map (shut t) ps ≡ ps) × (settled t ps es ≡ es)
-unfolding dueAt settled
-none-from t [] es n h e = (refl, refl)
-none-from t (p ∷ ps) es zero h e = absurd (omega arith)
-none-from t (p ∷ ps) es (suc n) h e =
+    (map (shut t) ps ≡ ps) × (settledFrom t q ps es ≡ es)
+unfolding dueAt settledFrom
+none-from t q [] es n h e = (refl, refl)
+none-from t q (p ∷ ps) es zero h e = absurd (omega arith)
+none-from t q (p ∷ ps) es (suc n) h e =
     let d = neither (expired t (p .current)) (anyOf (dueAt t ps) n) (sym (any-of-first (dueAt t (p ∷ ps)) n) ∙ e) in
-    let rest = none-from t ps es n (omega arith) (d .1) in (
+    let rest = none-from t (suc q) ps es n (omega arith) (d .1) in (
       ap₂ (λ (q : Player) (qs : List Player). q ∷ qs) (shut-same t p (d .0)) (rest .0),
-      ap (λ (l : List Entry). settled t ps l) (released-same t (p .current) es (d .0)) ∙ rest .1,
+      ap (λ (l : List Entry). settledFrom t (suc q) ps l) (released-same t q (p .current) es (d .0)) ∙ rest .1,
     )
 
 -- "each open use of any player with until ≤ t ends": none, so settling leaves players and entries as they are
@@ -63,4 +63,4 @@ pub none-due :
     anyDue t ps ≡ false →
     (map (shut t) ps ≡ ps) × (settled t ps es ≡ es)
 unfolding anyDue
-none-due t ps es h e = none-from t ps es 16 (omega arith) e
+none-due t ps es h e = none-from t 0 ps es 16 (omega arith) e

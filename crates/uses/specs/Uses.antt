@@ -24,18 +24,18 @@ use Rattle.uses.specs.declared.Effect.{Effect}
 abbrev pub kept : ℕ → Meters → Open → Effect
 kept code m o = record { answer = refusal code; meters = m; current = o }
 
--- what a begin at t for an asset leaves of entry i
-abbrev pub begunOn : ℕ → ℕ → ℕ → Limits → Meters → Open → Effect
-begunOn i asset t l m o = record {
-  answer = record { code = 0; entry = i; until = grantUntil t l m };
-  meters = begun t (grantUntil t l m) l m;
+-- what a begin for an asset leaves of entry i
+abbrev pub begunOn : ℕ → ℕ → Ask → Limits → Meters → Open → Effect
+begunOn i asset ask l m o = record {
+  answer = record { code = 0; entry = i; until = grantUntil (ask .time) l m };
+  meters = begun (ask .player) (ask .time) (grantUntil (ask .time) l m) l m;
   current = cond (momentary (l .kind)) o
-      (record { on = 1; entry = i; begin = t; until = grantUntil t l m; content = asset });
+      (record { on = 1; entry = i; begin = ask .time; until = grantUntil (ask .time) l m; content = asset });
 }
 
 -- a begin on entry i
 unfoldable pub beginOn : ℕ → ℕ → Ask → Limits → Meters → Open → Effect
-beginOn i asset ask l m o = cond (grantable ask l m && leb (ask .time) latestTime) (begunOn i asset (ask .time) l m o) (kept 13 m o)
+beginOn i asset ask l m o = cond (grantable ask l m && leb (ask .time) latestTime) (begunOn i asset ask l m o) (kept 13 m o)
 
 -- whether a continue at t gets more time
 abbrev pub lengthens : ℕ → Limits → Meters → Open → Bool
@@ -51,18 +51,18 @@ continueOn t l m o =
       current = record { on = 1; entry = o .entry; begin = o .begin; until = moreUntil t (o .until) l m; content = o .content };
     }))
 
-unfoldable pub stopOn : ℕ → Limits → Meters → Open → Effect
-stopOn t l m o =
+unfoldable pub stopOn : ℕ → ℕ → Limits → Meters → Open → Effect
+stopOn p t l m o =
     cond (not (isOn o)) (kept 14 m o)
     (record {
       answer = record { code = 0; entry = o .entry; until = t };
-      meters = ended (o .begin) (o .until) t l m;
+      meters = ended p (o .begin) (o .until) t l m;
       current = closed;
     })
 
--- the meters of the entry of a use, settled at t
-unfoldable pub releasedOn : ℕ → Limits → Meters → Open → Meters
-releasedOn t l m o = cond (expired t o) (ended (o .begin) (o .until) (o .until) l m) m
+-- the meters of the entry of player p's use, settled at t
+unfoldable pub releasedOn : ℕ → ℕ → Limits → Meters → Open → Meters
+releasedOn p t l m o = cond (expired t o) (ended p (o .begin) (o .until) (o .until) l m) m
 
 -- ## Put back into the entries
 
@@ -87,7 +87,7 @@ pub begin-on-granted :
     (i asset : ℕ) (ask : Ask) (l : Limits) (m : Meters) (o : Open) →
     grantable ask l m ≡ true →
     ask .time ≤ latestTime →
-    beginOn i asset ask l m o ≡ begunOn i asset (ask .time) l m o
+    beginOn i asset ask l m o ≡ begunOn i asset ask l m o
 unfolding beginOn
 begin-on-granted i asset ask l m o g h = rw (g, le-leb (ask .time) latestTime h)
 
@@ -95,7 +95,7 @@ pub begin-placed :
     (i asset none : ℕ) (ask : Ask) (es : List Entry) (o : Open) →
     grantable ask (limitsAt es i) (metersAt es i) ≡ true →
     ask .time ≤ latestTime →
-    placed i (beginOn i asset ask (limitsAt es i) (metersAt es i) o) es ≡ granted none (ask .time) asset es o (chosen i)
+    placed i (beginOn i asset ask (limitsAt es i) (metersAt es i) o) es ≡ granted none ask asset es o (chosen i)
 unfolding placed stored amend
 begin-placed i asset none ask es o g h = rw (begin-on-granted i asset ask (limitsAt es i) (metersAt es i) o g h)
 
@@ -130,43 +130,43 @@ unfolding continueOn doContinue
 continue-placed t es o h = rw (le-leb t latestTime h) (continue-cases (isOn o) (leb (more es o t) (o .until)) t es o)
 
 stop-cases :
-    (on : Bool) (t : ℕ) (es : List Entry) (o : Open) →
+    (on : Bool) (ask : Ask) (es : List Entry) (o : Open) →
     placed (o .entry)
     (cond (not on) (kept 14 (metersAt es (o .entry)) o)
     (record {
-      answer = record { code = 0; entry = o .entry; until = t };
-      meters = ended (o .begin) (o .until) t (limitsAt es (o .entry)) (metersAt es (o .entry));
+      answer = record { code = 0; entry = o .entry; until = ask .time };
+      meters = ended (ask .player) (o .begin) (o .until) (ask .time) (limitsAt es (o .entry)) (metersAt es (o .entry));
       current = closed;
     }))
     es
     ≡ cond (not on) (unchanged 14 es o)
     (record {
-      answer = record { code = 0; entry = o .entry; until = t };
-      entries = amend (o .entry) (ended (o .begin) (o .until) t) es;
+      answer = record { code = 0; entry = o .entry; until = ask .time };
+      entries = amend (o .entry) (ended (ask .player) (o .begin) (o .until) (ask .time)) es;
       current = closed;
     })
 unfolding placed stored amend
-stop-cases false t es o = ap (λ (x : List Entry). unchanged 14 x o) (stored-same (o .entry) es)
-stop-cases true t es o = refl
+stop-cases false ask es o = ap (λ (x : List Entry). unchanged 14 x o) (stored-same (o .entry) es)
+stop-cases true ask es o = refl
 
 pub stop-placed :
-    (t : ℕ) (es : List Entry) (o : Open) →
-    placed (o .entry) (stopOn t (limitsAt es (o .entry)) (metersAt es (o .entry)) o) es ≡ doStop es o t
+    (ask : Ask) (es : List Entry) (o : Open) →
+    placed (o .entry) (stopOn (ask .player) (ask .time) (limitsAt es (o .entry)) (metersAt es (o .entry)) o) es ≡ doStop es o ask
 unfolding stopOn doStop
-stop-placed t es o = stop-cases (isOn o) t es o
+stop-placed ask es o = stop-cases (isOn o) ask es o
 
 release-cases :
-    (w : Bool) (t : ℕ) (es : List Entry) (o : Open) →
-    stored (o .entry) (cond w (ended (o .begin) (o .until) (o .until) (limitsAt es (o .entry)) (metersAt es (o .entry)))
+    (w : Bool) (p : ℕ) (es : List Entry) (o : Open) →
+    stored (o .entry) (cond w (ended p (o .begin) (o .until) (o .until) (limitsAt es (o .entry)) (metersAt es (o .entry)))
     (metersAt es (o .entry))) es
-    ≡ cond w (amend (o .entry) (ended (o .begin) (o .until) (o .until)) es) es
+    ≡ cond w (amend (o .entry) (ended p (o .begin) (o .until) (o .until)) es) es
 unfolding stored amend
-release-cases true t es o = refl
-release-cases false t es o = set-getD es (o .entry) noEntry
+release-cases true p es o = refl
+release-cases false p es o = set-getD es (o .entry) noEntry
 
 -- the settling of one use, by the meters of its entry
 pub released-stored :
-    (t : ℕ) (es : List Entry) (o : Open) →
-    stored (o .entry) (releasedOn t (limitsAt es (o .entry)) (metersAt es (o .entry)) o) es ≡ released t o es
+    (t p : ℕ) (es : List Entry) (o : Open) →
+    stored (o .entry) (releasedOn p t (limitsAt es (o .entry)) (metersAt es (o .entry)) o) es ≡ released t p o es
 unfolding releasedOn released
-released-stored t es o = release-cases (expired t o) t es o
+released-stored t p es o = release-cases (expired t o) p es o

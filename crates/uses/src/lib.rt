@@ -22,6 +22,7 @@ use book::refusal;
 use numbers::one;
 use numbers::pick32;
 use numbers::saturating_sub;
+use numbers::with_bit;
 use rules::begin_code;
 use rules::flags_of;
 use rules::grantable;
@@ -77,10 +78,10 @@ fn more_until(l: Limits, m: Meters, old: u32, t: u32) -> u32
     least_until(t, old, l, m) as u32
 }
 
-// Rules out: a first that a later begin overwrites, a meter that rises without its flag.
-fn begun_meters(l: Limits, m: Meters, t: u32, until: u32) -> Meters
+// Rules out: a first that a later begin overwrites, a meter that rises without its flag, a mark for a momentary use.
+fn begun_meters(l: Limits, m: Meters, player: u8, t: u32, until: u32) -> Meters
     requires { ⌜ Room t until l m ⌝ }
-    ensures { λ r. ⌜ r ≡ begun t until l m ⌝ }
+    ensures { λ r. ⌜ r ≡ begun player t until l m ⌝ }
 {
     let f = flags_of(l);
     let first = pick32(m.started == 1, m.first, t);
@@ -90,6 +91,7 @@ fn begun_meters(l: Limits, m: Meters, t: u32, until: u32) -> Meters
         first: when(f.interval, first),
         seconds: m.seconds + when(f.accumulated, saturating_sub(until, t)),
         started: one(f.interval),
+        marks: pick32(momentary(l.kind), m.marks, with_bit(m.marks, player, true)),
     }
 }
 
@@ -103,9 +105,9 @@ fn continued_meters(l: Limits, m: Meters, old: u32, until: u32) -> Meters
     n
 }
 
-// Rules out: a count that goes back, a timed count that stays after a short use, seconds that stay after a stop.
-pub fn ended_meters(l: Limits, m: Meters, begin: u32, until: u32, end: u32) -> Meters
-    ensures { λ r. ⌜ r ≡ ended begin until end l m ⌝ }
+// Rules out: a count that goes back, a timed count that stays after a short use, seconds that stay after a stop, a mark that stays.
+pub fn ended_meters(l: Limits, m: Meters, player: u8, begin: u32, until: u32, end: u32) -> Meters
+    ensures { λ r. ⌜ r ≡ ended player begin until end l m ⌝ }
 {
     let f = flags_of(l);
     let short = saturating_sub(end, begin) < l.timer;
@@ -115,6 +117,7 @@ pub fn ended_meters(l: Limits, m: Meters, begin: u32, until: u32, end: u32) -> M
         first: m.first,
         seconds: saturating_sub(m.seconds, when(f.accumulated, saturating_sub(until, end))),
         started: m.started,
+        marks: with_bit(m.marks, player, false),
     }
 }
 
@@ -132,7 +135,7 @@ pub fn begin_on(l: Limits, m: Meters, o: Open, i: u8, asset: u16, ask: Ask) -> E
         return kept(none, m, o);
     }
     let until = grant_until(l, m, t);
-    let begun = begun_meters(l, m, t, until);
+    let begun = begun_meters(l, m, ask.player, t, until);
     let use_begun = Open {
         on: 1,
         entry: i,
@@ -184,13 +187,13 @@ pub fn continue_on(l: Limits, m: Meters, o: Open, t: u32) -> Effect
 }
 
 // Rules out: a use that stays open, the old until in the answer.
-pub fn stop_on(l: Limits, m: Meters, o: Open, t: u32) -> Effect
-    ensures { λ r. ⌜ r ≡ stopOn t l m o ⌝ }
+pub fn stop_on(l: Limits, m: Meters, o: Open, player: u8, t: u32) -> Effect
+    ensures { λ r. ⌜ r ≡ stopOn player t l m o ⌝ }
 {
     if !(o.on == 1) {
         return kept(14, m, o);
     }
-    let meters = ended_meters(l, m, o.begin, o.until, t);
+    let meters = ended_meters(l, m, player, o.begin, o.until, t);
     Effect {
         answer: Answer {
             code: 0,
@@ -223,10 +226,10 @@ pub fn shut_player(p: Player, t: u32) -> Player
 }
 
 // Rules out: an end at t instead of its until.
-pub fn released_meters(l: Limits, m: Meters, o: Open, t: u32) -> Meters
-    ensures { λ r. ⌜ r ≡ releasedOn t l m o ⌝ }
+pub fn released_meters(l: Limits, m: Meters, o: Open, player: u8, t: u32) -> Meters
+    ensures { λ r. ⌜ r ≡ releasedOn player t l m o ⌝ }
 {
-    let ended = ended_meters(l, m, o.begin, o.until, o.until);
+    let ended = ended_meters(l, m, player, o.begin, o.until, o.until);
     pick_meters(due(o, t), ended, m)
 }
 

@@ -1,5 +1,6 @@
 -- What a caller without the book's structs sees of a book, as lists of numbers of 32 bits. The fields of an asset and an entry are in image
--- order (`assetValues` and `entryValues` of `Image`); here is what is in no image, and a player's, whose number has 64 bits.
+-- order (`assetValues` of `Image`, and `entryValues` of its newest version); here is what is in no image, and a player's, whose number
+-- has 64 bits.
 use Prim.Native.Nat.{ℕ, _-_}
 use mathlib.Core.Bool.{Bool, cond}
 use mathlib.Core.List.{List, [], _∷_, _++_, map}
@@ -48,7 +49,7 @@ leftValues t switch e =
     ∷ left (flagged 32 (e .limits)) (e .limits .accumulated) (e .meters .seconds)
     ∷ []
 
--- the grounds against an entry, for who asks and when, in the order of document 01's words, order 3's last: 1 for one that stands,
--- otherwise 0
+-- the grounds against an entry, for who asks and when, in the order of document 01's words, then order 3's and order 7's: 1 for one that
+-- stands, otherwise 0
 unfoldable pub groundValues : Ask → Entry → List ℕ
 groundValues ask e = map one (groundList (groundsOf ask (e .limits) (e .meters)))

@@ -2,7 +2,7 @@
 // what is left of an entry, and what stands against granting it.
 ghost use mathlib.Core.Path.{_≡_};
 ghost use Rattle.numbers.specs.Count.{one};
-ghost use Rattle.model.specs.Image.{assetValues, entryValues};
+ghost use Rattle.model.specs.Image.{newest, assetValues, entryValues};
 ghost use Rattle.views.specs.Views.{bookValues, groundValues, left, leftValues, playerView, viewTime};
 use book::Ask;
 use book::Asset;
@@ -37,9 +37,10 @@ pub fn asset_values(a: Asset) -> [u32; 3]
     [a.number as u32, a.inherit as u32, a.key as u32]
 }
 
+// In the order of the newest image.
 // Rules out: a limit and its meter swapped, a field left out.
-pub fn entry_values(e: Entry) -> [u32; 19]
-    ensures { λ r. ⌜ r ≡ entryValues e ⌝ }
+pub fn entry_values(e: Entry) -> [u32; 21]
+    ensures { λ r. ⌜ r ≡ entryValues newest e ⌝ }
 {
     let l = e.limits;
     let m = e.meters;
@@ -63,6 +64,8 @@ pub fn entry_values(e: Entry) -> [u32; 19]
         l.tracked,
         l.timedvalue,
         l.mark,
+        l.threshold,
+        m.marks,
     ]
 }
 
@@ -114,7 +117,7 @@ fn left_of(flag: bool, most: u32, used: u32) -> u32
 }
 
 // What is left of an entry at a time when no use is due any more, under the book's switch.
-// Rules out: what is used for what is left, an entry out of its dates reported as grantable.
+// Rules out: what is used for what is left, an entry out of its dates or with its threshold full reported as grantable.
 pub fn left_values(e: Entry, time: u32, switch: u32) -> [u32; 4]
     ensures { λ r. ⌜ r ≡ leftValues time switch e ⌝ }
 {
@@ -136,9 +139,9 @@ pub fn left_values(e: Entry, time: u32, switch: u32) -> [u32; 4]
 }
 
 // What stands against granting an entry to who asks, at a time when no use is due any more: 1 for a ground that stands, otherwise 0,
-// in the order of document 01's words, the switch last.
+// in the order of document 01's words, then the switch and the threshold.
 // Rules out: two grounds swapped, a ground that is reported only where no other stands.
-pub fn ground_values(e: Entry, ask: Ask) -> [u32; 8]
+pub fn ground_values(e: Entry, ask: Ask) -> [u32; 9]
     ensures { λ r. ⌜ r ≡ groundValues ask e ⌝ }
 {
     let l = e.limits;
@@ -153,5 +156,6 @@ pub fn ground_values(e: Entry, ask: Ask) -> [u32; 8]
         number(g.secondsspent),
         number(g.intervalzero),
         number(g.switchoff),
+        number(g.thresholdfull),
     ]
 }

@@ -6,7 +6,7 @@ use mathlib.Core.List.{List}
 use Rattle.xml_model.specs.Import.{Import}
 use Rattle.xml_model.specs.Text.{progressOf, readingOf}
 use Rattle.xml_model.proofs.Legal.{reading-fresh, reading-legal, reading-typed, reading-image, reading-demand3, reading-code}
-use Rattle.xml_model.proofs.Legal.{reading-unmetered, reading-most, refused-nothing}
+use Rattle.xml_model.proofs.Legal.{reading-unmetered, reading-ungrouped, reading-most, refused-nothing}
 use Rattle.xml_model.proofs.Counts.{counts-same}
 use Rattle.xml_model.proofs.Decides.{reading-decides, agree-bytes, cut}
 
@@ -24,6 +24,7 @@ import = record {
   typed = reading-typed;
   demand3 = reading-demand3;
   unmetered = reading-unmetered;
+  ungrouped = reading-ungrouped;
   readsBack = reading-image;
   refused = refused-nothing;
   decides = λ s z n g. reading-decides s z (same-code s n) g;

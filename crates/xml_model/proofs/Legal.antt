@@ -9,7 +9,7 @@ use lib.ListN.{length}
 use lib.Dec.{eqb, leb, ltb}
 use Rattle.book.specs.declared.Book.{Book}
 use Rattle.book.specs.Blank.{noBook}
-use Rattle.model.specs.Book.{Fresh, Legal}
+use Rattle.model.specs.Book.{limitsAt, Fresh, Legal}
 use Rattle.model.specs.Image.{Typed, image, readCode, readBook}
 use Rattle.model.specs.Demand3.{Demand3}
 use Rattle.model.proofs.Image.RoundTrip.{demand2}
@@ -27,7 +27,7 @@ use Rattle.xml_model.specs.Text.{Frame, Verdict, leadsTo, entered, opene
 use Rattle.xml_model.specs.Text.{unitStep, go, follow, finish, root, progressOf, readingOf}
 use Rattle.xml_model.proofs.Repeats.{repeat-ind}
 use Rattle.xml_model.proofs.LegalBook.{fresh-typed}
-use Rattle.xml_model.specs.Import.{Code, not-formed, not-accepted, Unmetered}
+use Rattle.xml_model.specs.Import.{Code, not-formed, not-accepted, Unmetered, Ungrouped}
 use Rattle.xml_model.proofs.LegalCodes.{on-cond, stuck-code, unit-code}
 use Rattle.xml_model.proofs.LegalState.{Good, Sound, SoundDone, blank-good, sound-ok, sound-no, no-sound, then-sound}
 use Rattle.xml_model.proofs.LegalState.{counted-sound, opening-sound, closing-sound, ok-sound}
@@ -171,11 +171,17 @@ pub reading-typed : (s : List ℕ) → Typed (readingOf s .book)
 unfolding readingOf
 reading-typed s =
     let g = progress-sound s .good in
-    fresh-typed (progressOf s .state .book) (g .legal) (g .fresh) (g .unmetered) (g .inherits)
+    fresh-typed (progressOf s .state .book) (g .legal) (g .fresh) (g .plain) (g .inherits)
 
 pub reading-unmetered : (s : List ℕ) → Unmetered (readingOf s .book)
 unfolding readingOf
-reading-unmetered s = progress-sound s .good .unmetered
+reading-unmetered s =
+    let p = progress-sound s .good .plain in
+    record { switch = p .switch; entries = λ i. p .entries i .0 }
+
+pub reading-ungrouped : (s : List ℕ) (i : ℕ) → Ungrouped (limitsAt (readingOf s .book .entries) i)
+unfolding readingOf
+reading-ungrouped s i = progress-sound s .good .plain .entries i .1
 
 -- written as an image and read back, whatever book was held before, it is the same book
 pub reading-image : (held : Book) (s : List ℕ)

@@ -11,7 +11,8 @@ use borrow.Author.Tests.{eqb-true, eq-eqb, ltb-true, lt-ltb, leb-true}
 use Rattle.numbers.specs.Count.{first, sum, one}
 use Rattle.numbers.specs.Fields.{Fit}
 use Rattle.numbers.proofs.FieldLaws.{zeros-fit}
-use Rattle.numbers.proofs.Loops.{first-found}
+use Rattle.numbers.proofs.BitLaws.{mask-none}
+use Rattle.numbers.proofs.Loops.{first-found, sum-same}
 use Rattle.numbers.proofs.TableLaws.{below-or-not}
 use Rattle.numbers.proofs.Tests.{on-same, eqb-self, and-right, and-both, Pass, row-passed, all-below}
 use Rattle.book.specs.declared.Asset.{Asset}
@@ -22,20 +23,28 @@ use Rattle.book.specs.declared.Book.{Book}
 use Rattle.book.specs.Blank.{noAsset, noMeters, noEntry, noPlayer}
 use Rattle.model.specs.Book.{assetAt, limitsAt, metersAt, playerAt, assetsIn, entriesIn, assetPosition, inBook, between}
 use Rattle.model.specs.Book.{assetLegal, assetsLegal, limitsLegal, entriesLegal, playerBlank, playerLegal}
-use Rattle.model.specs.Book.{switchLegal, opens, lasts, openUses, openSeconds, ruleBroken, Legal, Fresh}
+use Rattle.model.specs.Book.{switchLegal, opens, lasts, openUses, openSeconds, marksOf, ruleBroken, Legal, Fresh}
 use Rattle.model.specs.Image.{newest, assetWidths, assetValues, entryWidths, entryValues, playerWidths, Typed}
 use Rattle.model.proofs.Ledger.WellFormed.{limit-most, ranges-tests, limits-tests}
 use Rattle.model.proofs.Demand3.Suitable.{first-found as first-holds}
 use Rattle.model.proofs.Legal.Renewed.{unused-meters}
-use Rattle.model.proofs.Legal.Facts.{all-of, sum-same}
+use Rattle.model.proofs.Legal.Facts.{all-of}
 use Rattle.model.proofs.Legal.Rules.{lawfulIn, playerPasses, meter-to, stages-from, stages-to, entries-counted}
 use Rattle.xml_model.specs.declared.State.{State}
-use Rattle.xml_model.specs.Import.{Untracked, Unmetered}
+use Rattle.xml_model.specs.Import.{Untracked, Ungrouped}
 use Rattle.xml_model.specs.State.{withOneAsset, howMany, assetFor, limitsFor, forAsset, kindLegal, filled, withEntries}
 
 -- a number of an asset that fits its type. The rules bound the number of each asset, but not the number that it inherits from.
 abbrev pub Small : ℕ → Type 0
 Small x = x < 65536
+
+-- what no text tells: of an entry's limits, and of a book
+abbrev pub Untold : Limits → Type 0
+Untold l = Untracked l × Ungrouped l
+
+pub record Plain (b : Book) : Type 0 where
+  pub switch : b .switch ≡ 0
+  pub entries : (i : ℕ) → Untold (limitsAt (b .entries) i)
 
 -- ## Searches for a number
 
@@ -62,6 +71,10 @@ no-seconds b h i =
     sum-same (λ p. cond (opens i (playerAt (b .players) p .current)) (lasts (playerAt (b .players) p .current)) 0) (λ p. 0) 16
     (λ p l. rw (h .players p))
 
+no-marks : (b : Book) → Fresh b → (i : ℕ) → marksOf (b .players) i ≡ 0
+unfolding marksOf opens
+no-marks b h i = mask-none (λ p. opens i (playerAt (b .players) p .current)) 16 (λ p l. rw (h .players p))
+
 blank-passes : (b : Book) → playerPasses b noPlayer ≡ true
 unfolding playerLegal playerBlank
 blank-passes b = refl
@@ -74,7 +87,7 @@ fresh-rules b h w a e =
       switch = w;
       players = λ p k. subst (λ (x : Player). playerPasses b x ≡ true) (sym (h .players p)) (blank-passes b);
       meters = λ i k. meter-to b i
-          (rw (h .meters i, no-uses b h i, no-seconds b h i) (unused-meters (b .time) (limitsAt (b .entries) i)));
+          (rw (h .meters i, no-uses b h i, no-seconds b h i, no-marks b h i) (unused-meters (b .time) (limitsAt (b .entries) i)));
     })
 
 -- ## What the tests say
@@ -168,9 +181,9 @@ module _ (b : Book) (a : Asset) (h : Legal b) (room : assetsIn b < 64)
   unfolding withOneAsset
   asset-fresh f = record { time = f .time; meters = f .meters; players = f .players }
 
-  pub asset-unmetered : Unmetered b → Unmetered new
+  pub asset-plain : Plain b → Plain new
   unfolding withOneAsset
-  asset-unmetered u = record { switch = u .switch; entries = u .entries }
+  asset-plain u = record { switch = u .switch; entries = u .entries }
 
   switch-new : switchLegal new ≡ true
   unfolding withOneAsset switchLegal
@@ -270,18 +283,18 @@ module _ (kind : ℕ) (st : State) (h : Legal (st .book)) (f : Fresh (st .book))
   unfolding withEntries
   entries-fresh = record { time = f .time; meters = all-unused; players = f .players }
 
-  new-untracked : Untracked (st .limits) → (i : ℕ) → Untracked (limitsFor kind st i)
+  new-untold : Untold (st .limits) → (i : ℕ) → Untold (limitsFor kind st i)
   unfolding limitsFor forAsset
-  new-untracked own i = own
+  new-untold own i = own
 
-  pub entries-unmetered : Untracked (st .limits) → Unmetered held → Unmetered more
+  pub entries-plain : Untold (st .limits) → Plain held → Plain more
   unfolding withEntries
-  entries-unmetered own u = record {
+  entries-plain own u = record {
     switch = u .switch;
     entries = λ i.
         below-or-not i (entriesIn held + howMany st)
-        (filled-each one-of (entriesIn held) (held .entries) (λ e. Untracked (e .limits)) (λ j l. u .entries j) (howMany st)
-        (omega (arith, room, h .entrySlots)) (λ j l. new-untracked own j) i)
+        (filled-each one-of (entriesIn held) (held .entries) (λ e. Untold (e .limits)) (λ j l. u .entries j) (howMany st)
+        (omega (arith, room, h .entrySlots)) (λ j l. new-untold own j) i)
         (λ l. rw (filled-behind one-of (entriesIn held) (held .entries) (howMany st) i l) (u .entries i));
   }
 
@@ -318,8 +331,8 @@ module _ (kind : ℕ) (st : State) (h : Legal (st .book)) (f : Fresh (st .book))
 between-most : (a z v : ℕ) → between a z v ≡ true → v ≤ z
 between-most a z v e = leb-true v z (and-right (leb a v) (leb v z) e)
 
-limits-fit : (known : Bool) (l : Limits) → limitsLegal known l ≡ true → Small (l .asset) → Untracked l
-    → Fit (entryWidths newest) (entryValues (record { limits = l; meters = noMeters }))
+limits-fit : (known : Bool) (l : Limits) → limitsLegal known l ≡ true → Small (l .asset) → Untold l
+    → Fit (entryWidths newest) (entryValues newest (record { limits = l; meters = noMeters }))
 limits-fit known l e a u =
     let t = limits-tests known l e in
     let r = ranges-tests l (t .1 .1 .1 .1 .0) in
@@ -336,9 +349,10 @@ limits-fit known l e a u =
       limit-most _ _ (l .end) (r .1 .1 .1 .1 .0),
       limit-most _ _ (l .interval) (r .1 .1 .1 .1 .1 .0),
       limit-most _ _ (l .accumulated) (r .1 .1 .1 .1 .1 .1 .0),
-      u .0,
+      u .0 .0,
+      u .0 .1,
+      u .0 .2,
       u .1,
-      u .2,
     )
 
 module _ (b : Book) (h : Legal b) where
@@ -366,7 +380,7 @@ module _ (b : Book) (h : Legal b) where
       omega (arith, inherit, number-small i l, leb-true (assetAt (b .assets) i .key) 1 (t .1 .1 .0)))
       (λ l. rw (h .assetsBlank i (omega (arith, assets-counted b h, l))) (zeros-fit (assetWidths newest)))
 
-  entry-fits : Fresh b → Unmetered b → (i : ℕ) → Fit (entryWidths newest) (entryValues (getD (b .entries) i noEntry))
+  entry-fits : Fresh b → Plain b → (i : ℕ) → Fit (entryWidths newest) (entryValues newest (getD (b .entries) i noEntry))
   entry-fits f u i =
       below-or-not i (entriesIn b)
       (λ l.
@@ -376,7 +390,7 @@ module _ (b : Book) (h : Legal b) where
       (limits-fit known (limitsAt (b .entries) i) t (in-small _ (limits-tests known (limitsAt (b .entries) i) t .1 .0)) (u .entries i)))
       (λ l. rw (h .entriesBlank i (omega (arith, entries-counted b h, l))) (zeros-fit (entryWidths newest)))
 
-  pub fresh-typed : Fresh b → Unmetered b → ((i : ℕ) → Small (assetAt (b .assets) i .inherit)) → Typed b
+  pub fresh-typed : Fresh b → Plain b → ((i : ℕ) → Small (assetAt (b .assets) i .inherit)) → Typed b
   fresh-typed f u inherits = record {
     header = omega (arith, u .switch);
     assets = λ i. asset-fits i (inherits i);

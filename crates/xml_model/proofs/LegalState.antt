@@ -32,9 +32,9 @@ use Rattle.xml_model.specs.State.{counted, idsIn, idPosition, isGiven, n
 use Rattle.xml_model.specs.State.{objectAlone, withTimer, withLimit}
 use Rattle.xml_model.specs.State.{stored, textDone, keyDone, withOneAsset, assetDone, howMany, kindLegal}
 use Rattle.xml_model.specs.State.{withEntries, kindDone, containerDone, closing}
-use Rattle.xml_model.specs.Import.{Code, accepted, not-accepted, too-much, Untracked, Unmetered}
-use Rattle.xml_model.proofs.LegalBook.{Small, asset-fresh, asset-legal, asset-unmetered, asset-inherits}
-use Rattle.xml_model.proofs.LegalBook.{entries-fresh, entries-legal, entries-unmetered}
+use Rattle.xml_model.specs.Import.{Code, accepted, not-accepted, too-much}
+use Rattle.xml_model.proofs.LegalBook.{Small, Untold, Plain, asset-fresh, asset-legal, asset-plain, asset-inherits}
+use Rattle.xml_model.proofs.LegalBook.{entries-fresh, entries-legal, entries-plain}
 use Rattle.xml_model.proofs.LegalCodes.{on-cond}
 
 -- ## What is kept
@@ -43,8 +43,8 @@ use Rattle.xml_model.proofs.LegalCodes.{on-cond}
 pub record Kept (b : Book) (l : Limits) (inherit elements : ℕ) : Type 0 where
   pub fresh : Fresh b
   pub legal : Legal b
-  pub unmetered : Unmetered b
-  pub untracked : Untracked l
+  pub plain : Plain b
+  pub untold : Untold l
   pub inherits : (i : ℕ) → Small (assetAt (b .assets) i .inherit)
   pub open-inherit : Small inherit
   pub most : elements ≤ 256
@@ -61,13 +61,18 @@ pub record Sound (c : ℕ) (st : State) : Type 0 where
 abbrev pub SoundDone : Done → Type 0
 SoundDone d = Sound (d .code) (d .state)
 
+-- the open limits of a new kind
+object-untold : (x : ℕ) → Untold (objectAlone x)
+unfolding objectAlone
+object-untold x = ((refl, refl, refl), refl)
+
 pub blank-good : Good blank
-unfolding blank
+unfolding blank objectAlone
 blank-good = record {
   fresh = noBook-fresh;
   legal = noBook-legal;
-  unmetered = record { switch = refl; entries = λ i. rw (blanks 64 i noEntry) (refl, refl, refl) };
-  untracked = (refl, refl, refl);
+  plain = record { switch = refl; entries = λ i. rw (blanks 64 i noEntry) (object-untold 0) };
+  untold = object-untold 0;
   inherits = λ i. rw (blanks 64 i noAsset) (omega arith);
   open-inherit = omega arith;
   most = omega arith;
@@ -103,35 +108,35 @@ unfolding withAsset
 asset-good a i st g k = record {
   fresh = g .fresh;
   legal = g .legal;
-  unmetered = g .unmetered;
-  untracked = g .untracked;
+  plain = g .plain;
+  untold = g .untold;
   inherits = g .inherits;
   open-inherit = k;
   most = g .most;
 }
 
 -- other open limits
-limits-good : (l : Limits) (st : State) → Good st → Untracked l → Good (withLimits l st)
+limits-good : (l : Limits) (st : State) → Good st → Untold l → Good (withLimits l st)
 unfolding withLimits
 limits-good l st g k = record {
   fresh = g .fresh;
   legal = g .legal;
-  unmetered = g .unmetered;
-  untracked = k;
+  plain = g .plain;
+  untold = k;
   inherits = g .inherits;
   open-inherit = g .open-inherit;
   most = g .most;
 }
 
 -- another book
-book-good : (b : Book) (st : State) → Good st → Fresh b → Legal b → Unmetered b → ((i : ℕ) → Small (assetAt (b .assets) i .inherit))
+book-good : (b : Book) (st : State) → Good st → Fresh b → Legal b → Plain b → ((i : ℕ) → Small (assetAt (b .assets) i .inherit))
     → Good (withBook b st)
 unfolding withBook
 book-good b st g f l u k = record {
   fresh = f;
   legal = l;
-  unmetered = u;
-  untracked = g .untracked;
+  plain = u;
+  untold = g .untold;
   inherits = k;
   open-inherit = g .open-inherit;
   most = g .most;
@@ -145,8 +150,8 @@ counted-sound st g =
     (λ q. ok-sound (withElements (st .elements + 1) st) (record {
       fresh = g .fresh;
       legal = g .legal;
-      unmetered = g .unmetered;
-      untracked = g .untracked;
+      plain = g .plain;
+      untold = g .untold;
       inherits = g .inherits;
       open-inherit = g .open-inherit;
       most = omega (arith, ltb-true (st .elements) 256 q);
@@ -156,13 +161,13 @@ counted-sound st g =
 -- ## Opening
 
 begun-good : (role : ℕ) (r : Range) (st : State) → Good st → Good (begun role r st)
-unfolding begun withReferences objectAlone
+unfolding begun withReferences
 begun-good role r st g =
     on-cond Good (eqb role assetRole) _ _
     (λ q. asset-good noAsset _ st g (omega arith))
     (λ q. on-cond Good (eqb role permissionRole) _ _
     (λ w. g)
-    (λ w. on-cond Good (isKind role) _ _ (λ z. limits-good _ st g (refl, refl, refl)) (λ z. g)))
+    (λ w. on-cond Good (isKind role) _ _ (λ z. limits-good _ st g (object-untold (st .limits .object))) (λ z. g)))
 
 id-sound : (s : List ℕ) (r : Range) (st : State) → Good st → SoundDone (newId s r st)
 unfolding newId withIds
@@ -187,7 +192,7 @@ unfolding withTimerOf withTimer
 timer-sound s r role st g =
     on-cond SoundDone (eqb role timedCountRole && isGiven r) _ _
     (λ q. on-cond SoundDone (numberIn 0 mostTimes (part s (r .from) (r .to)) .valid) _ _
-    (λ w. ok-sound _ (limits-good _ st g (g .untracked))) (λ w. refused))
+    (λ w. ok-sound _ (limits-good _ st g (g .untold))) (λ w. refused))
     (λ q. ok-sound st g)
 
 pub opening-sound : (s : List ℕ) (t : Tag) (role : ℕ) (st : State) → Good st → SoundDone (opening s t role st)
@@ -225,17 +230,17 @@ unfolding valueOf
 value-small role v e = rw e (uid-small v)
 
 stored-good : (role x : ℕ) (st : State) → Good st → (role ≡ inheritUidRole → Small x) → Good (stored role x st)
-unfolding stored objectAlone withLimit
+unfolding stored withLimit
 stored-good role x st g k =
     on-cond Good (eqb role versionRole) _ _
     (λ q. g)
     (λ q. on-cond Good (eqb role objectUidRole) _ _
-    (λ w. limits-good _ st g (refl, refl, refl))
+    (λ w. limits-good _ st g (object-untold x))
     (λ w. on-cond Good (eqb role assetUidRole) _ _
     (λ y. asset-good _ _ st g (g .open-inherit))
     (λ y. on-cond Good (eqb role inheritUidRole) _ _
     (λ z. asset-good _ _ st g (k (eqb-true role inheritUidRole z)))
-    (λ z. limits-good _ st g (g .untracked)))))
+    (λ z. limits-good _ st g (g .untold)))))
 
 text-sound : (role : ℕ) (v : List ℕ) (st : State) → Good st → SoundDone (textDone role v st)
 unfolding textDone
@@ -263,7 +268,7 @@ asset-sound st g =
     ok-sound _ (book-good (withOneAsset (st .asset) b) st g
     (asset-fresh b (st .asset) (g .legal) room test (g .fresh))
     (asset-legal b (st .asset) (g .legal) room test (g .fresh))
-    (asset-unmetered b (st .asset) (g .legal) room test (g .unmetered))
+    (asset-plain b (st .asset) (g .legal) room test (g .plain))
     (asset-inherits b (st .asset) (g .legal) room test (g .inherits) (g .open-inherit)))))
 
 kind-sound : (kind : ℕ) (st : State) → Good st → SoundDone (kindDone kind st)
@@ -279,7 +284,7 @@ kind-sound kind st g =
     ok-sound _ (book-good (withEntries kind st (st .book)) st g
     (entries-fresh kind st (g .legal) (g .fresh) room test)
     (entries-legal kind st (g .legal) (g .fresh) room test)
-    (entries-unmetered kind st (g .legal) (g .fresh) room test (g .untracked) (g .unmetered))
+    (entries-plain kind st (g .legal) (g .fresh) room test (g .untold) (g .plain))
     (g .inherits))))
 
 container-sound : (role : ℕ) (st : State) → Good st → SoundDone (containerDone role st)

@@ -36,6 +36,10 @@ pub record Unmetered (b : Book) : Type 0 where
   pub switch : b .switch ≡ 0
   pub entries : (i : ℕ) → Untracked (limitsAt (b .entries) i)
 
+-- Nor of order 7: an entry has no threshold.
+abbrev pub Ungrouped : Limits → Type 0
+Ungrouped l = l .threshold ≡ 0
+
 pub record Import : Type 0 where
   -- no other answer
   pub answers : (s : List ℕ) → Code (readingOf s .code)
@@ -53,6 +57,8 @@ pub record Import : Type 0 where
   pub demand3 : (s : List ℕ) → Demand3 (readingOf s .book)
   -- with the switch off and no entry tracked, order 3 changes nothing of what is read
   pub unmetered : (s : List ℕ) → Unmetered (readingOf s .book)
+  -- order 7 adds no element, so every text's entries have threshold 0
+  pub ungrouped : (s : List ℕ) (i : ℕ) → Ungrouped (limitsAt (readingOf s .book .entries) i)
   -- its image is accepted and read back as the same book, whatever book was held before
   pub readsBack : (held : Book) (s : List ℕ)
       → (readCode (image (readingOf s .book)) ≡ 0) × (readBook held (image (readingOf s .book)) ≡ readingOf s .book)

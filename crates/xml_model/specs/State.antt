@@ -198,6 +198,7 @@ objectAlone x = record {
   tracked = 0;
   timedvalue = 0;
   mark = 0;
+  threshold = 0;
 }
 
 unfoldable pub withTimer : ℕ → Limits → Limits
@@ -216,6 +217,7 @@ withTimer x l = record {
   tracked = l .tracked;
   timedvalue = l .timedvalue;
   mark = l .mark;
+  threshold = l .threshold;
 }
 
 unfoldable pub flagOf : ℕ → ℕ
@@ -248,6 +250,7 @@ withLimit role x l = record {
   tracked = l .tracked;
   timedvalue = l .timedvalue;
   mark = l .mark;
+  threshold = l .threshold;
 }
 
 -- the limits for an asset, as an entry of that kind
@@ -267,6 +270,7 @@ forAsset kind asset l = record {
   tracked = l .tracked;
   timedvalue = l .timedvalue;
   mark = l .mark;
+  threshold = l .threshold;
 }
 
 -- ## Opening

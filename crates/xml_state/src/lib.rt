@@ -142,6 +142,7 @@ fn object_alone(x: u16) -> Limits
         tracked: 0,
         timedvalue: 0,
         mark: 0,
+        threshold: 0,
     }
 }
 
@@ -205,6 +206,7 @@ fn with_limit(role: u8, x: u32, l: Limits) -> Limits
         tracked: l.tracked,
         timedvalue: l.timedvalue,
         mark: l.mark,
+        threshold: l.threshold,
     }
 }
 

@@ -50,7 +50,8 @@ use Rattle.index.specs.Places.{reachAt}
 use Rattle.text.specs.Lines.{lineEnd, lineBuffer}
 use Rattle.uses.specs.declared.Effect.{Effect}
 use Rattle.uses.specs.Uses.{placed, stored}
-use Rattle.step.specs.Settle.{settledBook, settledTo, settle-none, settle-turn, settled-length, settleOne, with}
+use Rattle.step.specs.Settle.{settledBook, settledTo, settle-none, settle-turn, settleOne, with}
+use Rattle.model.proofs.Ledger.Concrete.{settled-size}
 use Rattle.metering.specs.Good.{goodLines, goodAfter, good-raised}
 use Rattle.metering.specs.Recording.{due-none, requestLine, requestSeconds, refused-kept}
 use Rattle.step.specs.Lines.{linesTaken}
@@ -744,6 +745,9 @@ mul-x c = search needs
 element-copy-out-x : tie.Need-element-copy-out-x Inv-loop2 μ-loop2 Inv-loop3 μ-loop3 Inv-loop μ-loop
 element-copy-out-x c = search needs
 
+cast-who : tie.Need-cast-who Inv-loop2 μ-loop2 Inv-loop3 μ-loop3 Inv-loop μ-loop
+cast-who c = search needs
+
 ended-meters-requires :
     tie.Need-ended-meters-requires Inv-loop2 μ-loop2 Inv-loop3 μ-loop3 Inv-loop μ-loop
 ended-meters-requires c κs = tt
@@ -833,7 +837,7 @@ loop2-again c =
     let es = l .book .entries in
     let o = openAt ps (l .p) in
     let ht = is-admitted start .early in
-    let len : length es ≡ 64 = ap (λ (m : Book). length (m .entries)) (l .inv .1) ∙ settled-length t (take (l .p) (b .players))
+    let len : length es ≡ 64 = ap (λ (m : Book). length (m .entries)) (l .inv .1) ∙ settled-size t (take (l .p) (b .players))
     (b .entries) ∙ g .inv .3 in
     let few : l .p < length (b .players) = omega (arith, g .inv .4) in
     let here : l .p < length ps = omega (arith, l .inv .5) in
@@ -847,7 +851,7 @@ loop2-again c =
     (λ w.
     let d : expired t o ≡ true = sym due ∙ le-leb (getD (l .ends) (l .p) 0) t (w .0 .taken) in
     let put : Meters → Book = λ x. with (l .book) (set es (o .entry) (record { limits = limitsAt es (o .entry); meters = x })) ps in
-    let inner : (w .4 .book ≡ with (l .book) (released t o es) ps) × (w .4 .rows ≡ rowsFor (w .4 .book)) × (w .4 .report ≡ onto) ×
+    let inner : (w .4 .book ≡ with (l .book) (released t (l .p) o es) ps) × (w .4 .rows ≡ rowsFor (w .4 .book)) × (w .4 .report ≡ onto) ×
     (Good (w .4 .good) (w .4 .report)) =
     ⊎-elim
     (λ v.
@@ -857,7 +861,7 @@ loop2-again c =
     let z : Line = raised (limitsAt es (o .entry)) (o .until - o .begin) (lineAt (l .report) line) in
     let hr : r ≡ z = v .10 .ensures ∙ ap (λ (m : ℕ). raised (limitsAt es (o .entry)) m (lineAt (l .report) line)) (v .8 .ensures) in
     let to : w .4 .report ≡ set (l .report) line z = v .13 ∙ ap (set (l .report) line) hr in (
-      v .12 ∙ ap put (v .4 .ensures) ∙ ap (λ (x : List Entry). with (l .book) x ps) (released-due t o es d),
+      v .12 ∙ ap put (v .4 .ensures) ∙ ap (λ (x : List Entry). with (l .book) x ps) (released-due t (l .p) o es d),
       v .14 ∙ rows-next es (l .rows) (o .entry) y (v .5 .result) (l .inv .3) (v .5 .ensures) ∙ ap rowsFor (sym (v .12)),
       to ∙ lines-raised b (g .report) t (l .p) few (l .book) (l .inv .1) (l .report) (l .inv .6) (given .b .assets) (sym (g .inv .6)) d
           line (v .6 .ensures) (o .until - o .begin) refl (v .7 .taken),
@@ -872,7 +876,7 @@ loop2-again c =
     (λ x. ⊎-elim
     (λ v.
     let y : Entry = record { limits = limitsAt es (o .entry); meters = v .4 .result } in (
-      v .8 ∙ ap put (v .4 .ensures) ∙ ap (λ (x : List Entry). with (l .book) x ps) (released-due t o es d),
+      v .8 ∙ ap put (v .4 .ensures) ∙ ap (λ (x : List Entry). with (l .book) x ps) (released-due t (l .p) o es d),
       v .10 ∙ rows-next es (l .rows) (o .entry) y (v .5 .result) (l .inv .3) (v .5 .ensures) ∙ ap rowsFor (sym (v .8)),
       v .9 ∙ lines-kept b (g .report) t (l .p) few (l .book) (l .inv .1) (l .report) (l .inv .6) (given .b .assets) (sym (g .inv .6)) d
           (v .6 .result) (v .6 .ensures) (v .7 .left),
@@ -882,7 +886,7 @@ loop2-again c =
       ),
     ))
     (λ v. (
-      v .1 ∙ ap (λ (x : List Entry). with (l .book) x ps) (released-far t o es (omega (arith, v .0 .left, len))),
+      v .1 ∙ ap (λ (x : List Entry). with (l .book) x ps) (released-far t (l .p) o es (omega (arith, v .0 .left, len))),
       v .3 ∙ l .inv .3 ∙ ap rowsFor (sym (v .1)),
       v .2 ∙ lines-out b (g .report) t (l .p) few (l .book) (l .inv .1) (l .report) (l .inv .6) (given .b .assets) (sym (g .inv .6)) d
           (omega (arith, v .0 .left, g .inv .3)),
@@ -911,8 +915,8 @@ loop2-again c =
     (λ w.
     let d : expired t o ≡ false = sym due ∙ lt-leb (getD (l .ends) (l .p) 0) t (w .0 .left) in (
       w .2
-          ∙ ap (λ (x : List Entry). with (l .book) x ps) (released-still t o es d)
-          ∙ ap (with (l .book) (released t o es)) (shut-not t (l .p) ps d),
+          ∙ ap (λ (x : List Entry). with (l .book) x ps) (released-still t (l .p) o es d)
+          ∙ ap (with (l .book) (released t (l .p) o es)) (shut-not t (l .p) ps d),
       w .4 ∙ l .inv .3 ∙ ap rowsFor (sym (w .2)),
       w .5 ∙ l .inv .4 ∙ ap endsFor (sym (w .2)),
       w .7 ∙ w .1 .ensures ∙ ap (min (l .next)) (kept-end ps (l .ends) (l .inv .4) (l .p) here) ∙ end-on t (l .p) b (l .book) (l .next)
@@ -1275,6 +1279,7 @@ answer-block-spec =
     cast-k
     mul-x
     element-copy-out-x
+    cast-who
     ended-meters-requires
     mul-y
     element-set-from-y

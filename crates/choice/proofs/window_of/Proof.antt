@@ -8,6 +8,9 @@ use Rattle.choice.proofs.window_of.Tie as tie
 flags-of-requires : tie.Need-flags-of-requires
 flags-of-requires c κs = search needs
 
+threshold-full-requires : tie.Need-threshold-full-requires
+threshold-full-requires c κs = search needs
+
 last-moment-requires : tie.Need-last-moment-requires
 last-moment-requires c κs = search needs
 
@@ -19,8 +22,9 @@ unfolding windowOf spent flagsOf
 returns c = rw (
   c .pick64 .ensures,
   c .before .last-moment .ensures,
-  c .before .before .before .before .before .before .before .before .before .before .before .before .before .flags-of .ensures,
+  c .before .before .threshold-full .ensures,
+  c .before .before .before .before .before .before .before .before .before .before .before .before .before .before .flags-of .ensures,
 )
 
 pub window-of-spec : {M : Type 1} → statement M
-window-of-spec = tie.close (tie.spec flags-of-requires last-moment-requires pick64-requires returns)
+window-of-spec = tie.close (tie.spec flags-of-requires threshold-full-requires last-moment-requires pick64-requires returns)

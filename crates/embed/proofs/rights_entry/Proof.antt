@@ -5,7 +5,7 @@ use lib.ListN.{getD}
 use borrow.Author.Tests.{lt-ltb, le-ltb}
 use Rattle.book.specs.declared.Book.{Book}
 use Rattle.book.specs.Blank.{noEntry}
-use Rattle.model.specs.Image.{entryValues}
+use Rattle.model.specs.Image.{newest, entryValues}
 use Rattle.embed.specs.Seen.{hasEntry, entrySeen}
 use Rattle.embed.proofs.SeenLeft.{entry-there, seen-refused, seen-absent, seen-given}
 use borrow.Author.Needs.{needs}
@@ -66,7 +66,7 @@ returns-3 c =
     _ _ _ (sym (load .0) ∙ at-test .if1 .left)
     (entry-there s _ _ (a .position) (load .1) (at-count .at-most-64 .ensures) ∙ lt-ltb _ _ (at-end .if2 .left))
     (at-values .entry-values .ensures
-    ∙ ap entryValues (at-entry .entry-at .ensures ∙ ap (λ (b : Book). getD (b .entries) (a .position) noEntry) (load .1)))
+    ∙ ap (entryValues newest) (at-entry .entry-at .ensures ∙ ap (λ (b : Book). getD (b .entries) (a .position) noEntry) (load .1)))
     (c .before .before .fill32 .ensures)
 
 pub rights-entry-spec : {M : Type 1} → statement M

@@ -5,12 +5,6 @@ use borrow.Author.Needs.{needs}
 use Rattle.image_meters.proofs.meters_cover.Statement.{statement}
 use Rattle.image_meters.proofs.meters_cover.Tie as tie
 
-cast-count : tie.Need-cast-count
-cast-count c = search needs
-
-cast-timed : tie.Need-cast-timed
-cast-timed c = search needs
-
 cast-used : tie.Need-cast-used
 cast-used c = search needs
 
@@ -19,7 +13,7 @@ flags-of-requires c κs = search needs
 
 returns : tie.Need-returns
 unfolding metersCover flagsOf
-returns c = rw (c .before .before .before .flags-of .ensures)
+returns c = rw (c .before .before .before .before .before .flags-of .ensures)
 
 pub meters-cover-spec : {M : Type 1} → statement M
-meters-cover-spec = tie.close (tie.spec cast-count cast-timed cast-used flags-of-requires returns)
+meters-cover-spec = tie.close (tie.spec cast-used flags-of-requires returns)

@@ -18,7 +18,7 @@ add-added32 c = search needs
 added32-requires : tie.Need-added32-requires
 added32-requires c κs h =
     let z = c .before .before in
-    let e = player-two (z .args .v) h in
+    let e = player-two (z .args .v) (omega arith) in
     omega (arith, e, c .wider .ensures, z .pre .3)
 
 add-read8 : tie.Need-add-read8
@@ -55,7 +55,7 @@ returns c =
       entry = (c .before .before .read82 .ensures ∙ ap (λ (k : ℕ). numberAt bits8 (15 + k) s) o) i;
       begin = (c .before .read32 .ensures ∙ ap (λ (k : ℕ). numberAt bits32 (16 + k) s) o) i;
       until = (c .read322 .ensures ∙ ap (λ (k : ℕ). numberAt bits32 (20 + k) s) o) i;
-      content = (c .before .before .before .before .added32 .ensures ∙ ap (λ (k : ℕ). added (z .args .v) (24 + k) s) o) i;
+      content = (c .before .before .before .before .added32 .ensures ∙ ap (λ (k : ℕ). added (z .args .v) 2 (24 + k) s) o) i;
     })
     ∙ open-read s (z .args .v) (z .pre .0) (z .pre .1)
 

@@ -1,16 +1,13 @@
 -- `put_entry` writes the pieces of an entry one after the other.
-use mathlib.Core.Path.{_≡_, refl, sym, ap, _∙_}
-use Prim.Native.Nat.{_+_, _≤_}
-use mathlib.Core.List.{_++_}
+use mathlib.Core.Path.{ap, _∙_}
 use native.Mathlib.Omega.{arith}
 use borrow.Author.Needs.{needs}
 use denote.Ref.{now}
-use lib.ListN.{length, length-append}
 use Rattle.numbers.specs.Buffer.{lay}
-use Rattle.numbers.proofs.BufferLaws.{lay-more}
-use Rattle.model.specs.Image.{newest, entrySize}
-use Rattle.image_pieces.specs.Pieces.{limitsBytes, metersBytes, trackBytes, limits-shut, meters-shut, track-shut, limits-length}
-use Rattle.image_pieces.specs.Pieces.{meters-length, track-length, entry-pieces}
+use Rattle.model.specs.Image.{entrySize}
+use Rattle.image_pieces.specs.Pieces.{limits-shut, meters-shut, track-shut, group-shut}
+use Rattle.image_pieces.specs.Pieces.{limits-length, meters-length, track-length, group-length, entry-pieces}
+use Rattle.image_write.specs.Puts.{piece, joint}
 use Rattle.image_write.proofs.put_entry.Statement.{statement}
 use Rattle.image_write.proofs.put_entry.Tie as tie
 
@@ -22,6 +19,9 @@ meters-bytes-requires c κs = search needs
 
 track-bytes-requires : tie.Need-track-bytes-requires
 track-bytes-requires c κs = search needs
+
+group-bytes-requires : tie.Need-group-bytes-requires
+group-bytes-requires c κs = search needs
 
 slice-aggregate-put : tie.Need-slice-aggregate-put
 slice-aggregate-put c = search needs
@@ -44,45 +44,35 @@ put-requires-3 : tie.Need-put-requires-3
 unfolding entrySize
 put-requires-3 c κs = search needs
 
+slice-aggregate-put-4 : tie.Need-slice-aggregate-put-4
+slice-aggregate-put-4 c = search needs
+
+put-requires-4 : tie.Need-put-requires-4
+unfolding entrySize
+put-requires-4 c κs = search needs
+
 same-length : tie.Need-same-length
 same-length c = search needs
 
 returns : tie.Need-returns
 unfolding entrySize
 returns c =
-    let a = c .before .before .before .before .before .before .before .before .before .before .before .before .before .before .before
-    .before .before .before .before .before .before .args in
-    let old = now (a .buf) in
-    let room : a .at + entrySize newest ≤ length old = c .before .before .before .before .before .before .before .before .before .before
-    .before .before .before .before .before .before .before .before .before .before .before .pre in
-    let lb = c .before .before .before .before .before .before .before .before .before .before .before .before .before .before .before
-    .before .before .limits-bytes in
-    let mb = c .before .before .before .before .before .before .before .before .before .before .before .before .before .before .before
-    .before .meters-bytes in
-    let tb = c .before .before .before .before .before .before .before .before .before .before .before .before .before .before .before
-    .track-bytes in
-    let p = c .before .before .before .before .before .before .before .before .before .before .before .before .put in
-    let q = c .before .before .before .before .before .before .before .put2 in
-    let r = c .before .before .put3 in
-    let l : lb .result ≡ limitsBytes (a .e .limits) = lb .ensures ∙ limits-shut _ in
-    let m : mb .result ≡ metersBytes (a .e .meters) = mb .ensures ∙ meters-shut _ in
-    let t : tb .result ≡ trackBytes (a .e .limits) = tb .ensures ∙ track-shut _ in
-    let nl : length (lb .result) ≡ 34 = ap length l ∙ limits-length _ in
-    let nm : length (mb .result) ≡ 17 = ap length m ∙ meters-length _ in
-    let nt : length (tb .result) ≡ 12 = ap length t ∙ track-length _ in
-    let two : q .last .0 ≡ lay old (a .at) (lb .result ++ mb .result) =
-    q .ensures .1
-    ∙ lay-more old _ (lb .result) (mb .result) (a .at) (p .result) (p .ensures .1) (sym (p .ensures .0))
-    (omega (arith, room, p .ensures .0, nl, nm)) in
-    let both : length (lb .result ++ mb .result) ≡ 51 = length-append (lb .result) (mb .result) ∙ omega (arith, nl, nm) in
-    let three : r .last .0 ≡ lay old (a .at) (lb .result ++ mb .result ++ tb .result) =
-    r .ensures .1
-    ∙ lay-more old _ (lb .result ++ mb .result) (tb .result) (a .at) (q .result) two
-    (omega (arith, both, p .ensures .0, q .ensures .0, nl, nm))
-    (omega (arith, room, p .ensures .0, q .ensures .0, nl, nm, nt)) in (
-      omega (arith, p .ensures .0, q .ensures .0, r .ensures .0, nl, nm, nt),
-      three ∙ ap (lay old (a .at)) ((rw (l, m, t) refl) ∙ entry-pieces (a .e)),
-    )
+    let at-group = c .before .before in
+    let at-track = at-group .before .before .before .before .before in
+    let at-meters = at-track .before .before .before .before .before in
+    let at-limits = at-meters .before .before .before .before .before in
+    let gb = at-limits .before .before .before in
+    let tb = gb .before in
+    let mb = tb .before in
+    let lb = mb .before in
+    let z = lb .before .before .before .before in
+    let limits = piece (lb .limits-bytes .ensures ∙ limits-shut _) (limits-length _) (at-limits .put .ensures) in
+    let meters = piece (mb .meters-bytes .ensures ∙ meters-shut _) (meters-length _) (at-meters .put2 .ensures) in
+    let track = piece (tb .track-bytes .ensures ∙ track-shut _) (track-length _) (at-track .put3 .ensures) in
+    let group = piece (gb .group-bytes .ensures ∙ group-shut _) (group-length _) (at-group .put4 .ensures) in
+    let whole =
+    joint (joint (joint limits meters (omega (arith, z .pre))) track (omega (arith, z .pre))) group (omega (arith, z .pre)) in
+    (whole .next, whole .laid ∙ ap (lay (now (z .args .buf)) (z .args .at)) (entry-pieces (z .args .e)))
 
 pub put-entry-spec : {M : Type 1} → statement M
 put-entry-spec =
@@ -91,11 +81,14 @@ put-entry-spec =
     limits-bytes-requires
     meters-bytes-requires
     track-bytes-requires
+    group-bytes-requires
     slice-aggregate-put
     put-requires
     slice-aggregate-put-2
     put-requires-2
     slice-aggregate-put-3
     put-requires-3
+    slice-aggregate-put-4
+    put-requires-4
     same-length
     returns)

@@ -1,15 +1,10 @@
 -- `put_header` writes the pieces of the header one after the other.
-use mathlib.Core.Path.{_≡_, refl, sym, ap, _∙_}
-use Prim.Native.Nat.{_≤_}
-use mathlib.Core.List.{_++_}
+use mathlib.Core.Path.{_∙_}
 use native.Mathlib.Omega.{arith}
 use borrow.Author.Needs.{needs}
-use denote.Ref.{now}
-use lib.ListN.{length}
-use Rattle.numbers.specs.Buffer.{lay}
-use Rattle.numbers.proofs.BufferLaws.{lay-more}
-use Rattle.model.specs.Image.{newest, headerSize}
-use Rattle.image_pieces.specs.Pieces.{startBytes, numberBytes, start-shut, number-shut, start-length, number-length}
+use Rattle.model.specs.Image.{headerSize}
+use Rattle.image_pieces.specs.Pieces.{start-shut, number-shut, start-length, number-length}
+use Rattle.image_write.specs.Puts.{piece, joint}
 use Rattle.image_write.proofs.put_header.Statement.{statement}
 use Rattle.image_write.proofs.put_header.Tie as tie
 
@@ -39,23 +34,18 @@ same-length c = search needs
 returns : tie.Need-returns
 unfolding headerSize
 returns c =
-    let a = c .before .before .before .before .before .before .before .before .before .before .before .before .before .args in
-    let old = now (a .buf) in
-    let room : headerSize newest ≤ length old = c .before .before .before .before .before .before .before .before .before .before .before
-    .before .before .pre in
-    let lb = c .before .before .before .before .before .before .before .before .before .before .before .header-bytes in
-    let mb = c .before .before .before .before .before .before .before .before .before .before .number-bytes in
-    let p = c .before .before .before .before .before .before .before .put in
-    let q = c .before .before .put2 in
-    let l : lb .result ≡ startBytes (a .assets) (a .entries) (a .time) = lb .ensures ∙ start-shut (a .assets) (a .entries) (a .time) in
-    let m : mb .result ≡ numberBytes (a .switch) = mb .ensures ∙ number-shut _ in
-    let nl : length (lb .result) ≡ 11 = ap length l ∙ start-length (a .assets) (a .entries) (a .time) in
-    let nm : length (mb .result) ≡ 4 = ap length m ∙ number-length _ in
-    let two : q .last .0 ≡ lay old 0 (lb .result ++ mb .result) =
-    q .ensures .1
-    ∙ lay-more old _ (lb .result) (mb .result) 0 (p .result) (p .ensures .1) (sym (p .ensures .0))
-    (omega (arith, room, p .ensures .0, nl, nm)) in
-    (omega (arith, p .ensures .0, q .ensures .0, nl, nm), two ∙ ap (lay old 0) (rw (l, m) refl))
+    let at-tail = c .before .before in
+    let at-start = at-tail .before .before .before .before .before in
+    let nb = at-start .before .before .before in
+    let hb = nb .before in
+    let z = hb .before .before in
+    let a = z .args in
+    let start =
+    piece (hb .header-bytes .ensures ∙ start-shut (a .assets) (a .entries) (a .time)) (start-length (a .assets) (a .entries) (a .time))
+    (at-start .put .ensures) in
+    let tail = piece (nb .number-bytes .ensures ∙ number-shut _) (number-length _) (at-tail .put2 .ensures) in
+    let whole = joint start tail (omega (arith, z .pre)) in
+    (whole .next, whole .laid)
 
 pub put-header-spec : {M : Type 1} → statement M
 put-header-spec =

@@ -1,16 +1,12 @@
 -- `put_player` writes the pieces of a player one after the other.
-use mathlib.Core.Path.{_≡_, refl, sym, ap, _∙_}
-use Prim.Native.Nat.{_+_, _≤_}
-use mathlib.Core.List.{_++_}
+use mathlib.Core.Path.{ap, _∙_}
 use native.Mathlib.Omega.{arith}
 use borrow.Author.Needs.{needs}
 use denote.Ref.{now}
-use lib.ListN.{length, length-append}
 use Rattle.numbers.specs.Buffer.{lay}
-use Rattle.numbers.proofs.BufferLaws.{lay-more}
-use Rattle.model.specs.Image.{newest, playerSize}
-use Rattle.image_pieces.specs.Pieces.{lastBytes, openBytes, numberBytes, last-shut, open-shut, number-shut, last-length, open-length}
-use Rattle.image_pieces.specs.Pieces.{number-length, player-pieces}
+use Rattle.model.specs.Image.{playerSize}
+use Rattle.image_pieces.specs.Pieces.{last-shut, open-shut, number-shut, last-length, open-length, number-length, player-pieces}
+use Rattle.image_write.specs.Puts.{piece, joint}
 use Rattle.image_write.proofs.put_player.Statement.{statement}
 use Rattle.image_write.proofs.put_player.Tie as tie
 
@@ -50,39 +46,18 @@ same-length c = search needs
 returns : tie.Need-returns
 unfolding playerSize
 returns c =
-    let a = c .before .before .before .before .before .before .before .before .before .before .before .before .before .before .before
-    .before .before .before .before .before .before .args in
-    let old = now (a .buf) in
-    let room : a .at + playerSize newest ≤ length old = c .before .before .before .before .before .before .before .before .before .before
-    .before .before .before .before .before .before .before .before .before .before .before .pre in
-    let lb = c .before .before .before .before .before .before .before .before .before .before .before .before .before .before .before
-    .before .before .last-bytes in
-    let mb = c .before .before .before .before .before .before .before .before .before .before .before .before .before .before .before
-    .before .open-bytes in
-    let tb = c .before .before .before .before .before .before .before .before .before .before .before .before .before .before .before
-    .number-bytes in
-    let p = c .before .before .before .before .before .before .before .before .before .before .before .before .put in
-    let q = c .before .before .before .before .before .before .before .put2 in
-    let r = c .before .before .put3 in
-    let l : lb .result ≡ lastBytes (a .p .last) = lb .ensures ∙ last-shut _ in
-    let m : mb .result ≡ openBytes (a .p .current) = mb .ensures ∙ open-shut _ in
-    let t : tb .result ≡ numberBytes (a .p .current .content) = tb .ensures ∙ number-shut _ in
-    let nl : length (lb .result) ≡ 18 = ap length l ∙ last-length _ in
-    let nm : length (mb .result) ≡ 10 = ap length m ∙ open-length _ in
-    let nt : length (tb .result) ≡ 4 = ap length t ∙ number-length _ in
-    let two : q .last .0 ≡ lay old (a .at) (lb .result ++ mb .result) =
-    q .ensures .1
-    ∙ lay-more old _ (lb .result) (mb .result) (a .at) (p .result) (p .ensures .1) (sym (p .ensures .0))
-    (omega (arith, room, p .ensures .0, nl, nm)) in
-    let both : length (lb .result ++ mb .result) ≡ 28 = length-append (lb .result) (mb .result) ∙ omega (arith, nl, nm) in
-    let three : r .last .0 ≡ lay old (a .at) (lb .result ++ mb .result ++ tb .result) =
-    r .ensures .1
-    ∙ lay-more old _ (lb .result ++ mb .result) (tb .result) (a .at) (q .result) two
-    (omega (arith, both, p .ensures .0, q .ensures .0, nl, nm))
-    (omega (arith, room, p .ensures .0, q .ensures .0, nl, nm, nt)) in (
-      omega (arith, p .ensures .0, q .ensures .0, r .ensures .0, nl, nm, nt),
-      three ∙ ap (lay old (a .at)) ((rw (l, m, t) refl) ∙ player-pieces (a .p)),
-    )
+    let at-content = c .before .before in
+    let at-current = at-content .before .before .before .before .before in
+    let at-last = at-current .before .before .before .before .before in
+    let nb = at-last .before .before .before in
+    let ob = nb .before in
+    let lb = ob .before in
+    let z = lb .before .before .before .before in
+    let last = piece (lb .last-bytes .ensures ∙ last-shut _) (last-length _) (at-last .put .ensures) in
+    let current = piece (ob .open-bytes .ensures ∙ open-shut _) (open-length _) (at-current .put2 .ensures) in
+    let content = piece (nb .number-bytes .ensures ∙ number-shut _) (number-length _) (at-content .put3 .ensures) in
+    let whole = joint (joint last current (omega (arith, z .pre))) content (omega (arith, z .pre)) in
+    (whole .next, whole .laid ∙ ap (lay (now (z .args .buf)) (z .args .at)) (player-pieces (z .args .p)))
 
 pub put-player-spec : {M : Type 1} → statement M
 put-player-spec =

@@ -121,7 +121,7 @@ begin-did c es o t asset kind =
     on-test (not (anyOf (suits c es asset kind) (c .entryCount))) (λ u. rw (q, r, u) (kept 12 (omega arith) (omega arith) refl)) (λ u.
     rw (q, r, u) (go _ (choose c es t asset kind)))))
   where
-    go : (o′ : Open) (x : Choice) → Did es o′ (granted (noneGrantable c es t asset kind) (t .time) asset es o′ x)
+    go : (o′ : Open) (x : Choice) → Did es o′ (granted (noneGrantable c es t asset kind) t asset es o′ x)
     go o′ nobody =
         on-test (anyOf (failsForSwitch c es t asset kind) (c .entryCount))
         (λ q. rw q (kept-43 refl))
@@ -192,8 +192,8 @@ begin-opens c es o t asset kind z =
     code = on-test (anyOf (failsForSwitch c es t asset kind) (c .entryCount)) (λ q. inr (rw q)) (λ q. inl (rw q))
 
     go : (o′ : Open) (x : Choice) → choose c es t asset kind ≡ x
-        → granted (noneGrantable c es t asset kind) (t .time) asset es o′ x .answer .code ≡ 0
-        → Opened o′ (t .time) asset kind (granted (noneGrantable c es t asset kind) (t .time) asset es o′ x)
+        → granted (noneGrantable c es t asset kind) t asset es o′ x .answer .code ≡ 0
+        → Opened o′ (t .time) asset kind (granted (noneGrantable c es t asset kind) t asset es o′ x)
     go o′ nobody e y = absurd (none (noneGrantable c es t asset kind) code y)
     go o′ (chosen i) e y =
         let s : Sure (allowed c es t asset kind) (c .entryCount) i = choose-sound _ (goesBefore es asset) (c .entryCount) i e in
@@ -220,7 +220,7 @@ continue-opens es o t z =
     on-test (leb (more es o t) (o .until)) (λ r. absurd (no-code 15 (omega arith) (rw (q, r) at z))) (λ r.
     (not-false (isOn o) q, rw (q, r))))
 
-stop-opens : (es : List Entry) (o : Open) (t : ℕ) → doStop es o t .answer .code ≡ 0 → doStop es o t .current ≡ closed
+stop-opens : (es : List Entry) (o : Open) (t : Ask) → doStop es o t .answer .code ≡ 0 → doStop es o t .current ≡ closed
 unfolding doStop
 stop-opens es o t z =
     on-test (not (isOn o)) (λ q. absurd (no-code 14 (omega arith) (rw q at z))) (λ q. rw q)
@@ -588,8 +588,8 @@ module _ (b : Book) (ls : List Line) (s : List ℕ) where
     halted : askedOperation s ≡ 3 → d .answer .code ≡ 0 → d .current ≡ closed
     unfolding eventIn requestOf done
     halted h z =
-        let q : d ≡ doStop es o (askedTime s) = done-as Stop (rw h) in
-        ap (λ (x : Done). x .current) q ∙ stop-opens es o (askedTime s) (sym (ap (λ (x : Done). x .answer .code) q) ∙ z)
+        let q : d ≡ doStop es o (asks b e) = done-as Stop (rw h) in
+        ap (λ (x : Done). x .current) q ∙ stop-opens es o (asks b e) (sym (ap (λ (x : Done). x .answer .code) q) ∙ z)
 
     opens : d .answer .code ≡ 0 → length (b .players) ≡ 16 → Opens b s new
     unfolding takenStep eventIn

@@ -1,7 +1,7 @@
 -- A taken event, by the ledger: whether its player has a use open, and hence the answer to a continue and to a stop.
 -- The rules look at the player's latest use; all earlier ones have ended.
 use mathlib.Core.Path.{_≡_, refl, ap, _∙_}
-use Prim.Native.Nat.{ℕ, _≤_}
+use Prim.Native.Nat.{ℕ, _≤_, _<_}
 use mathlib.Core.Bool.{true, false}
 use mathlib.Core.Logic.{_⊎_, inl, inr}
 use mathlib.Core.List.{List, [], _∷_, map}
@@ -27,8 +27,9 @@ use Rattle.model.specs.Step.{refusal, more, doContinue, doStop, done, la
 use Rattle.model.specs.Gate.{gate}
 use Rattle.model.specs.Ledger.{Use, Account, resent, calledTaken, latest, isOpen}
 use Rattle.model.specs.Demand3.{State, Takes, NothingOpen, SomeOpen, IsLeast, filled, Lengthened, Continues, Stops, heldIn}
+use Rattle.model.specs.Demand3.{Every, figures}
 use Rattle.model.proofs.Ledger.Facts.{on-test, on-same, clash}
-use Rattle.model.proofs.Ledger.Sums.{ShutFor, all-latest, all-shut, latest-player}
+use Rattle.model.proofs.Ledger.Sums.{ShutFor, Tidy, all-map, all-latest, all-shut, latest-player}
 use Rattle.model.proofs.Ledger.Invariant.{Invariant, heldAs, held-cases, more-ge}
 use Rattle.model.proofs.Ledger.Concrete.{settled-held}
 use Rattle.model.proofs.Ledger.Steps.{Inv, gate-refuse, gate-take, gate-resend, resent-is}
@@ -96,6 +97,19 @@ module _ (s : State) (e : Event) (h : Inv (s .book) (s .account)) (t : Takes s e
       rw (settled-filled (B .time) (e .time) (B .entries) (B .players) (s .account .uses) later (h .held)) at
       (settled-held (B .time) (e .time) (B .entries) (B .players) (s .account .uses) later (h .held))
 
+  -- each use is of an entry and of a player that the book has
+  seated : Every (λ u. (u .entry < length (B .entries)) × (u .player < 16)) (s .account .uses)
+  seated = all-map (λ u w. (w .entry, omega (arith, w .player, h .formed .players))) (s .account .uses) (h .held .sound)
+
+  pub figures-at : (i : ℕ) → metersAt F i ≡ figures (λ p. e .time) (s .account .uses) i (limitsAt (B .entries) i)
+  figures-at = filled-meters (e .time) (s .account .uses) (B .entries) (all-map (λ u w. w .0) (s .account .uses) seated)
+
+  pub tidy-now : Tidy (e .time) (s .account .uses)
+  tidy-now = now .tidy
+
+  pub players-below : Every (λ u. u .player < 16) (s .account .uses)
+  players-below = all-map (λ u w. w .1) (s .account .uses) seated
+
   -- nothing open, by the latest use and by all uses
   pub idle-on : isOn O ≡ false → Idle
   idle-on q =
@@ -133,8 +147,7 @@ module _ (s : State) (e : Event) (h : Inv (s .book) (s .account)) (t : Takes s e
   new-least u =
       rw (
         filled-limits (e .time) (s .account .uses) 0 (B .entries) (u .entry),
-        filled-meters (e .time) (s .account .uses) (B .entries)
-            (u .entry),
+        figures-at (u .entry),
       )
       (until-least (e .time) (s .account .uses) (u .entry) (limitsAt (B .entries) (u .entry)) (u .until))
 
@@ -196,9 +209,9 @@ module _ (s : State) (e : Event) (h : Inv (s .book) (s .account)) (t : Takes s e
   -- ## Stop
 
   module _ (x : e .request ≡ Stop) where
-    stop-is : (o : Open) → O ≡ o → step B e .answer ≡ doStop F o (e .time) .answer
+    stop-is : (o : Open) → O ≡ o → step B e .answer ≡ doStop F o (asks B e) .answer
     unfolding done
-    stop-is o c = answer-is Stop x ∙ ap (λ (y : Open). doStop F y (e .time) .answer) c
+    stop-is o c = answer-is Stop x ∙ ap (λ (y : Open). doStop F y (asks B e) .answer) c
 
     stop-closed : O ≡ closed → step B e .answer ≡ refusal 14
     unfolding doStop

@@ -1,11 +1,11 @@
 -- What holds of every list of events: the invariant after it, hence the limits, and the answers from the ledger alone.
 -- Resends struck out leave the other answers and the book as they were.
 use mathlib.Core.Path.{_≡_, refl, sym, ap, _∙_}
-use Prim.Native.Nat.{ℕ, zero, suc, _+_, _≤_, zero-le}
+use Prim.Native.Nat.{ℕ, zero, suc, _+_, _≤_, zero-le, _<_}
 use mathlib.Core.Bool.{Bool, true, false, not, and-false}
 use mathlib.Core.List.{List, [], _∷_, map}
 use mathlib.Core.Option.{Option, none, some, Option·none-ne-some}
-use lib.ListN.{length}
+use lib.ListN.{length, List·getD-eq-default}
 use lib.Seq.{ext-getD}
 use lib.Dec.{eqb}
 use native.Mathlib.Omega.{arith}
@@ -34,17 +34,21 @@ use Rattle.model.specs.Report.{Arrival, good, admitted, receive, linesLe
 use Rattle.model.specs.Gate.{gate}
 use Rattle.model.specs.Record.{decoded}
 use Rattle.model.specs.Ledger.{Use, Account, empty, latestTaken, resent, timeOf, latest, sumOf, counts, countsTimed, countsSeconds}
-use Rattle.model.specs.Ledger.{earliest, sooner, noteArrival}
+use Rattle.model.specs.Ledger.{earliest, sooner, noteArrival, marksBy}
 use Rattle.model.specs.Demand3.{State, advance, after, Every, startOr, isSome, figures, filledFrom, filled, UseInside, Limited}
 use Rattle.model.specs.Demand3.{readResend, isResend, struck, kept, heldIn, lastOf, predictBy, predict, predicted}
 use Rattle.model.specs.History.{answers, final, handed, handedLines, recordAnswers, recordFinal, recordLines}
 use Rattle.model.proofs.Ledger.Facts.{on-test, clash, and-left, and-right, eqb-self, flag-on, meters-path}
-use Rattle.model.proofs.Ledger.Sums.{all-both}
+use Rattle.model.proofs.Ledger.Sums.{all-map, all-both}
+use Rattle.model.proofs.Ledger.Marks.{no-marks, marks-together}
 use Rattle.model.proofs.Ledger.Invariant.{Invariant, Sound, Spanned, Dated, all-earliest}
 use Rattle.model.proofs.Ledger.Concrete.{settled-held, settled-limits, settled-size}
 use Rattle.model.proofs.Ledger.WellFormed.{WellFormed, Static, static-self, static-trans, catalog-static, admitted-static}
 use Rattle.model.proofs.Ledger.WellFormed.{receive-static}
 use Rattle.model.proofs.Ledger.Steps.{Inv, gate-take, resent-is, note-skip, receive-keeps}
+use Rattle.numbers.specs.Bits.{ones}
+use Rattle.numbers.proofs.BitLaws.{ones-zero}
+use Rattle.numbers.proofs.TableLaws.{below-or-not}
 
 -- ## The invariant holds after every list
 
@@ -55,7 +59,7 @@ flag-zero false = refl
 figures-none : (at : ℕ → ℕ) (i : ℕ) (l : Limits) → noMeters ≡ figures at [] i l
 unfolding figures sumOf earliest
 figures-none at i l = meters-path (flag-zero (flagged 1 l)) (flag-zero (flagged 2 l)) (ap one (sym (and-false (flagged 16 l))))
-    (flag-zero (flagged 16 l)) (flag-zero (flagged 32 l))
+    (flag-zero (flagged 16 l)) (flag-zero (flagged 32 l)) (sym (no-marks at [] 0 i tt (omega arith)))
 
 pub fresh-inv : (b : Book) → WellFormed b → Fresh b → Inv b empty
 unfolding timeOf latestTaken latest
@@ -69,7 +73,12 @@ fresh-inv b g f = record {
     tidy = tt;
     sound = tt;
     spans = tt;
-    within = λ i. rw (f .meters i) (record { count = λ x. zero-le; timed = λ x. zero-le; seconds = λ x. zero-le });
+    within = λ i. rw (f .meters i) (record {
+      count = λ x. zero-le;
+      timed = λ x. zero-le;
+      seconds = λ x. zero-le;
+      together = λ x. omega (arith, ones-zero);
+    });
   };
   formed = g;
 }
@@ -127,10 +136,10 @@ use-inside l us u z p = record {
   };
 }
 
-pub limited : (T k n : ℕ) (es : List Entry) (met : ℕ → Meters) (opn : ℕ → Open) (us : List Use) → Invariant T k n (limitsAt es) met opn
-    us → Limited T us es
+pub limited : (T k n : ℕ) (es : List Entry) (met : ℕ → Meters) (opn : ℕ → Open) (us : List Use) → k ≤ 16
+    → Invariant T k n (limitsAt es) met opn us → Limited T us es
 unfolding figures
-limited T k n es met opn us h = record {
+limited T k n es met opn us few h = record {
   count = λ i f. omega (
     arith,
     ap (λ (m : Meters). m .count) (h .meters i),
@@ -150,6 +159,12 @@ limited T k n es met opn us h = record {
     flag-on (flagged 32 (limitsAt es i))
         (sumOf (countsSeconds i) us) f,
     h .within i .seconds f,
+  );
+  together = λ i f. omega (
+    arith,
+    ap (λ (m : Meters). ones (m .marks)) (h .meters i),
+    marks-together T i us (h .tidy) (all-map {P = Sound T k n (limitsAt es)} (λ u w. omega (arith, w .player)) us (h .sound)),
+    h .within i .together f,
   );
   inside =
       all-both {P = λ u. UseFits (limitsAt es (u .entry)) (earliest (u .entry) us) u}
@@ -222,19 +237,33 @@ filled-limits T us q [] i = refl
 filled-limits T us q (x ∷ es) zero = refl
 filled-limits T us q (x ∷ es) (suc i) = filled-limits T us (suc q) es i
 
-figures-blank : (at : ℕ → ℕ) (us : List Use) (i : ℕ) → noMeters ≡ figures at us i noLimits
-unfolding figures flagged
-figures-blank at us i = refl
-
-filled-from : (T : ℕ) (us : List Use) (q : ℕ) (es : List Entry) (i : ℕ) → metersAt (filledFrom T us q es) i ≡ figures (λ p. T) us
-    (q + i) (limitsAt es i)
+filled-from : (T : ℕ) (us : List Use) (q : ℕ) (es : List Entry) (i : ℕ) → i < length es → metersAt (filledFrom T us q es) i ≡ figures
+    (λ p. T) us (q + i) (limitsAt es i)
 unfolding filledFrom
-filled-from T us q [] i = figures-blank (λ p. T) us (q + i)
-filled-from T us q (x ∷ es) zero = rw (add-zero q)
-filled-from T us q (x ∷ es) (suc i) = let y : q + suc i ≡ suc q + i = omega arith in rw y (filled-from T us (suc q) es i)
+filled-from T us q [] i h = absurd (omega arith)
+filled-from T us q (x ∷ es) zero h = rw (add-zero q)
+filled-from T us q (x ∷ es) (suc i) h =
+    let y : q + suc i ≡ suc q + i = omega arith in
+    let k : suc i < suc (length es) = h in
+    rw y (filled-from T us (suc q) es i (omega arith))
 
-pub filled-meters : (T : ℕ) (us : List Use) (es : List Entry) (i : ℕ) → metersAt (filled T us es) i ≡ figures (λ p. T) us i (limitsAt es i)
-filled-meters T us es i = filled-from T us 0 es i ∙ ap (λ (k : ℕ). figures (λ p. T) us k (limitsAt es i)) (zero-add i)
+filled-below : (T : ℕ) (us : List Use) (es : List Entry) (i : ℕ) → i < length es
+    → metersAt (filled T us es) i ≡ figures (λ p. T) us i (limitsAt es i)
+filled-below T us es i h = filled-from T us 0 es i h ∙ ap (λ (k : ℕ). figures (λ p. T) us k (limitsAt es i)) (zero-add i)
+
+figures-blank : (at : ℕ → ℕ) (us : List Use) (i : ℕ) → marksBy at us i ≡ 0 → noMeters ≡ figures at us i noLimits
+unfolding figures flagged
+figures-blank at us i e = meters-path refl refl refl refl refl (sym e)
+
+-- past the end too, if no use is of an entry there
+pub filled-meters : (T : ℕ) (us : List Use) (es : List Entry) → Every (λ u. u .entry < length es) us → (i : ℕ)
+    → metersAt (filled T us es) i ≡ figures (λ p. T) us i (limitsAt es i)
+filled-meters T us es k i =
+    below-or-not i (length es) (filled-below T us es i)
+    (λ h.
+    ap (λ (x : Entry). x .meters) (List·getD-eq-default (filled T us es) noEntry (omega (arith, filled-size T us 0 es)))
+    ∙ figures-blank (λ p. T) us i (no-marks (λ p. T) us (length es) i k h)
+    ∙ sym (ap (λ (x : Entry). figures (λ p. T) us i (x .limits)) (List·getD-eq-default es noEntry h)))
 
 entry-path : {x y : Entry} → x .limits ≡ y .limits → x .meters ≡ y .meters → x ≡ y
 entry-path p q = λ i. record { limits = p i; meters = q i }
@@ -246,7 +275,8 @@ settled-filled S T es ps us later h =
     ext-getD noEntry (settled T ps es) (filled T us es) (settled-size T ps es ∙ sym (filled-size T us 0 es))
     (λ i x. entry-path
     (settled-limits T ps es i ∙ sym (filled-limits T us 0 es i))
-    (g .meters i ∙ ap (figures (λ p. T) us i) (settled-limits T ps es i) ∙ sym (filled-meters T us es i)))
+    (g .meters i ∙ ap (figures (λ p. T) us i) (settled-limits T ps es i) ∙ sym
+    (filled-below T us es i (omega (arith, settled-size T ps es)))))
 
 -- ## The answers are those of the ledger
 
@@ -278,7 +308,8 @@ filled-same T us es fs n l =
     ext-getD noEntry (filled T us fs) (filled T us es) (filled-size T us 0 fs ∙ n ∙ sym (filled-size T us 0 es))
     (λ i x. entry-path
     (filled-limits T us 0 fs i ∙ l i ∙ sym (filled-limits T us 0 es i))
-    (filled-meters T us fs i ∙ ap (figures (λ p. T) us i) (l i) ∙ sym (filled-meters T us es i)))
+    (filled-below T us fs i (omega (arith, filled-size T us 0 fs)) ∙ ap (figures (λ p. T) us i) (l i) ∙ sym
+    (filled-below T us es i (omega (arith, filled-size T us 0 fs)))))
 
 predict-same : (b c : Book) (a : Account) (d : Decoded) → Static b c → predict c a d ≡ predict b a d
 unfolding predict predictBy

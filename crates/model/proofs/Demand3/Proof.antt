@@ -1,7 +1,7 @@
 -- Demand 3 holds of every legal fresh book.
 -- What is left for this file is begins: which of 10 to 13 each is answered, or else which entry and until.
 use mathlib.Core.Path.{_≡_, refl, sym, ap, _∙_, subst, fun-ext}
-use Prim.Native.Nat.{ℕ, _+_, _≤_}
+use Prim.Native.Nat.{ℕ, _+_, _≤_, _<_}
 use mathlib.Core.Bool.{Bool, true, false, not, _&&_, _||_}
 use mathlib.Core.List.{List, [], _∷_, map}
 use mathlib.Core.Option.{Option, none, some}
@@ -30,13 +30,15 @@ use Rattle.model.specs.Choice.{Catalog, catalogOf, usable, parentOf, sui
 use Rattle.model.specs.Choice.{allowed, goesBefore, Choice, nobody, chosen, anyOf, choose, switchOnly, failsForSwitch, noneGrantable}
 use Rattle.model.specs.Step.{refusal, granted, doBegin, done, step}
 use Rattle.model.specs.Ledger.{Use, empty, spentCount, spentTimed, spentSeconds, earliest, over, Ground, count-spent, timed-spent}
-use Rattle.model.specs.Ledger.{seconds-spent, interval-over, interval-zero, before-start, after-end, switch-off, stands}
+use Rattle.model.specs.Ledger.{seconds-spent, interval-over, interval-zero, before-start, after-end, switch-off, threshold-full}
+use Rattle.model.specs.Ledger.{stands, marksBy}
 use Rattle.model.specs.Demand3.{State, after, starting, Takes, PastChecks, InBookWithKey, Suits, OutOrSpent, Left, NoneLeft, startOr}
-use Rattle.model.specs.Demand3.{isSome, figures, filled, chosenAnswer, Granted, Chosen, Begins, heldIn, Demand3}
+use Rattle.model.specs.Demand3.{isSome, figures, filled, chosenAnswer, Granted, Chosen, Begins, heldIn, Demand3, Every}
 use Rattle.model.specs.Demand3.{ZeroLimit, zero-count, zero-timed, zero-interval, zero-accumulated, Spent, isSpent, NeverGranted}
 use Rattle.model.specs.Demand3.{ForSwitch}
 use Rattle.model.proofs.Ledger.Facts.{on-test, clash, and-left, and-right, and-both, not-positive}
-use Rattle.model.proofs.Ledger.Sums.{all-map}
+use Rattle.model.proofs.Ledger.Sums.{all-map, Tidy}
+use Rattle.model.proofs.Ledger.Marks.{marks-together}
 use Rattle.model.proofs.Ledger.Figures.{earliest-le}
 use Rattle.model.proofs.Ledger.Concrete.{held-ext, choose-sound, choose-none, none-choose}
 use Rattle.model.proofs.Ledger.WellFormed.{legal-formed, static-self}
@@ -45,11 +47,13 @@ use Rattle.model.proofs.Ledger.Steps.{Inv, gate-take}
 use Rattle.model.proofs.Demand3.Suitable.{any-sure, sure-any, usable-in, in-usable, suits-to, to-suits}
 use Rattle.model.proofs.Demand3.Choice.{choose-first, weightAt, before-weight, precedes}
 use Rattle.model.proofs.Demand3.Until.{grant-until}
-use Rattle.model.proofs.Demand3.Current.{taking, answer-is, idle-on, on-idle, some-on, on-some, continues, stops}
+use Rattle.model.proofs.Demand3.Current.{taking, answer-is, figures-at, tidy-now, players-below, idle-on, on-idle, some-on}
+use Rattle.model.proofs.Demand3.Current.{on-some, continues, stops}
 use Rattle.model.proofs.Demand3.History.{fresh-inv, after-inv, after-static, limited, struck-answers, struck-book, filled-limits}
-use Rattle.model.proofs.Demand3.History.{filled-meters, answers-predicted, record-answers, record-final, record-lines}
+use Rattle.model.proofs.Demand3.History.{answers-predicted, record-answers, record-final, record-lines}
 use Rattle.model.proofs.Demand3.Gains.{lent-of, gains-of, reported-of}
 use Rattle.model.proofs.Demand3.Zeros.{from-zeros, zeros-good, handed-good}
+use Rattle.numbers.specs.Bits.{ones}
 
 -- ## Grantable by the ledger
 
@@ -85,10 +89,12 @@ named g interval-zero = g .intervalzero
 named g before-start = g .beforestart
 named g after-end = g .afterend
 named g switch-off = g .switchoff
+named g threshold-full = g .thresholdfull
 
 -- the names in the order of `groundList`
 abbrev names : List Ground
-names = count-spent ∷ timed-spent ∷ before-start ∷ after-end ∷ interval-over ∷ seconds-spent ∷ interval-zero ∷ switch-off ∷ []
+names = count-spent ∷ timed-spent ∷ before-start ∷ after-end ∷ interval-over ∷ seconds-spent ∷ interval-zero ∷ switch-off
+    ∷ threshold-full ∷ []
 
 some-stands : (f : Ground → Bool) (gs : List Ground) → eqb (howMany (map f gs)) 0 ≡ false → (g : Ground) × (f g ≡ true)
 some-stands f [] e = clash refl e
@@ -107,14 +113,28 @@ isSwitch interval-zero = false
 isSwitch before-start = false
 isSwitch after-end = false
 isSwitch switch-off = true
+isSwitch threshold-full = false
 
 module _ (b : Book) (e : Event) (us : List Use) (i : ℕ) (l : Limits) where
   -- the rules' grounds on the ledger's figures
   abbrev figured : Grounds
   figured = groundsOf (asks b e) l (figures (λ p. e .time) us i l)
 
+  abbrev able : Bool
+  able = grantable (asks b e) l (figures (λ p. e .time) us i l)
+
+  -- the switch stands alone, by rules and ledger
+  abbrev alone : Bool
+  alone = switchOnly (asks b e) l (figures (λ p. e .time) us i l)
+
+-- the uses of a ledger as the invariant has them
+record Orderly (T : ℕ) (us : List Use) : Type 0 where
+  tidy : Tidy T us
+  players : Every (λ u. u .player < 16) us
+
+module _ (b : Book) (e : Event) (us : List Use) (orderly : Orderly (e .time) us) (i : ℕ) (l : Limits) where
   -- each is the ledger's
-  same-ground : (g : Ground) → named figured g ≡ stands (b .switch) e us i l g
+  same-ground : (g : Ground) → named (figured b e us i l) g ≡ stands (b .switch) e us i l g
   unfolding groundsOf figures stands
   same-ground count-spent = meter-spent (flagged 1 l) (spentCount us i) (l .count)
   same-ground timed-spent = meter-spent (flagged 2 l) (spentTimed (e .time) us i l) (l .timed)
@@ -124,18 +144,19 @@ module _ (b : Book) (e : Event) (us : List Use) (i : ℕ) (l : Limits) where
   same-ground before-start = ap (λ (b : Bool). flagged 4 l && b) (not-leb (l .start) (e .time))
   same-ground after-end = ap (λ (b : Bool). flagged 8 l && b) (not-leb (e .time) (l .end))
   same-ground switch-off = neither-of (eqb (l .tracked) 1) (eqb (b .switch) 1) (eqb (l .mark) 1)
+  same-ground threshold-full =
+      ap (λ (b : Bool). not (eqb (l .threshold) 0) && b)
+      (not-ltb (ones (marksBy (λ p. e .time) us i)) (l .threshold)
+      ∙ ap (leb (l .threshold)) (marks-together (e .time) i us (orderly .tidy) (orderly .players)))
 
-  abbrev able : Bool
-  able = grantable (asks b e) l (figures (λ p. e .time) us i l)
-
-  able-left : able ≡ true → (g : Ground) → stands (b .switch) e us i l g ≡ false
+  able-left : able b e us i l ≡ true → (g : Ground) → stands (b .switch) e us i l g ≡ false
   unfolding grantable
   able-left h g = sym (same-ground g) ∙ off g
     where
-      none : Fail (groundList figured)
-      none = none-pass (groundList figured) h
+      none : Fail (groundList (figured b e us i l))
+      none = none-pass (groundList (figured b e us i l)) h
 
-      off : (g : Ground) → named figured g ≡ false
+      off : (g : Ground) → named (figured b e us i l) g ≡ false
       off count-spent = none .0
       off timed-spent = none .1 .0
       off before-start = none .1 .1 .0
@@ -144,30 +165,27 @@ module _ (b : Book) (e : Event) (us : List Use) (i : ℕ) (l : Limits) where
       off seconds-spent = none .1 .1 .1 .1 .1 .0
       off interval-zero = none .1 .1 .1 .1 .1 .1 .0
       off switch-off = none .1 .1 .1 .1 .1 .1 .1 .0
+      off threshold-full = none .1 .1 .1 .1 .1 .1 .1 .1 .0
 
-  unable-stands : able ≡ false → (g : Ground) × (stands (b .switch) e us i l g ≡ true)
+  unable-stands : able b e us i l ≡ false → (g : Ground) × (stands (b .switch) e us i l g ≡ true)
   unfolding grantable
-  unable-stands h = let x = some-stands (named figured) names h in (x .0, sym (same-ground (x .0)) ∙ x .1)
+  unable-stands h = let x = some-stands (named (figured b e us i l)) names h in (x .0, sym (same-ground (x .0)) ∙ x .1)
 
-  -- the switch stands alone, by rules and ledger
-  abbrev alone : Bool
-  alone = switchOnly (asks b e) l (figures (λ p. e .time) us i l)
-
-  alone-stands : alone ≡ true → stands (b .switch) e us i l switch-off ≡ true
+  alone-stands : alone b e us i l ≡ true → stands (b .switch) e us i l switch-off ≡ true
   unfolding switchOnly
-  alone-stands h = sym (same-ground switch-off) ∙ and-left (figured .switchoff) _ h
+  alone-stands h = sym (same-ground switch-off) ∙ and-left (figured b e us i l .switchoff) _ h
 
-  alone-only : alone ≡ true → (g : Ground) → stands (b .switch) e us i l g ≡ true → g ≡ switch-off
+  alone-only : alone b e us i l ≡ true → (g : Ground) → stands (b .switch) e us i l g ≡ true → g ≡ switch-off
   unfolding switchOnly
   alone-only h g z = go g (same-ground g ∙ z)
     where
-      on : one (figured .switchoff) ≡ 1
-      on = ap one (and-left (figured .switchoff) _ h)
+      on : one (figured b e us i l .switchoff) ≡ 1
+      on = ap one (and-left (figured b e us i l .switchoff) _ h)
 
-      sum-one : howMany (groundList figured) ≡ 1
-      sum-one = eqb-true _ 1 (and-right (figured .switchoff) _ h)
+      sum-one : howMany (groundList (figured b e us i l)) ≡ 1
+      sum-one = eqb-true _ 1 (and-right (figured b e us i l .switchoff) _ h)
 
-      go : (g : Ground) → named figured g ≡ true → g ≡ switch-off
+      go : (g : Ground) → named (figured b e us i l) g ≡ true → g ≡ switch-off
       go switch-off q = refl
       go count-spent q = absurd (omega (arith, on, sum-one, ap one q))
       go timed-spent q = absurd (omega (arith, on, sum-one, ap one q))
@@ -176,17 +194,18 @@ module _ (b : Book) (e : Event) (us : List Use) (i : ℕ) (l : Limits) where
       go interval-zero q = absurd (omega (arith, on, sum-one, ap one q))
       go before-start q = absurd (omega (arith, on, sum-one, ap one q))
       go after-end q = absurd (omega (arith, on, sum-one, ap one q))
+      go threshold-full q = absurd (omega (arith, on, sum-one, ap one q))
 
   is-alone : stands (b .switch) e us i l switch-off ≡ true → ((g : Ground) → stands (b .switch) e us i l g ≡ true → g ≡ switch-off)
-      → alone ≡ true
+      → alone b e us i l ≡ true
   unfolding switchOnly
   is-alone h only =
-      let on : figured .switchoff ≡ true = same-ground switch-off ∙ h in
-      let off : (g : Ground) → isSwitch g ≡ false → one (named figured g) ≡ 0 = λ g n.
-      on-test (named figured g)
+      let on : (figured b e us i l) .switchoff ≡ true = same-ground switch-off ∙ h in
+      let off : (g : Ground) → isSwitch g ≡ false → one (named (figured b e us i l) g) ≡ 0 = λ g n.
+      on-test (named (figured b e us i l) g)
       (λ q. clash (ap isSwitch (only g (sym (same-ground g) ∙ q))) n)
       (λ q. ap one q) in
-      and-both on (eq-eqb (howMany (groundList figured)) 1 (omega (
+      and-both on (eq-eqb (howMany (groundList (figured b e us i l))) 1 (omega (
         arith,
         ap one on,
         off count-spent refl,
@@ -196,12 +215,13 @@ module _ (b : Book) (e : Event) (us : List Use) (i : ℕ) (l : Limits) where
         off interval-zero refl,
         off before-start refl,
         off after-end refl,
+        off threshold-full refl,
       )))
 
 -- ## A begin, once all players are settled
 
-granted-answer : (code t asset : ℕ) (es : List Entry) (o : Open) (c : Choice)
-    → granted code t asset es o c .answer ≡ chosenAnswer code t es c
+granted-answer : (code : ℕ) (t : Ask) (asset : ℕ) (es : List Entry) (o : Open) (c : Choice)
+    → granted code t asset es o c .answer ≡ chosenAnswer code (t .time) es c
 granted-answer code t asset es o nobody = refl
 granted-answer code t asset es o (chosen i) = refl
 
@@ -222,7 +242,7 @@ way c es o t asset kind =
     on-test (usable c asset)
     (λ r.
     on-test (anyOf (suits c es asset kind) (c .entryCount))
-    (λ u. is-past q r u (rw (q, r, u) (granted-answer _ (t .time) asset es _ (choose c es t asset kind))))
+    (λ u. is-past q r u (rw (q, r, u) (granted-answer _ t asset es _ (choose c es t asset kind))))
     (λ u. is-unsuited q r u (rw (q, r, u))))
     (λ r. is-unknown q r (rw (q, r))))
 
@@ -271,19 +291,24 @@ module _ (s : State) (e : Event) (h : Inv (s .book) (s .account)) (kind : Kind) 
 
   -- ## The choice
 
+  orderly : Orderly (e .time) (s .account .uses)
+  orderly = record { tidy = tidy-now s e h t; players = players-below s e h t }
+
   -- entry j is grantable by the ledger's figures
   abbrev ableAt : ℕ → Bool
   ableAt j = able B e (s .account .uses) j (limitsAt (B .entries) j)
 
   allowed-is : (j : ℕ) → allowed (catalogOf B) F (asks B e) asset (kindNumber kind) j
       ≡ (suits (catalogOf B) (B .entries) asset (kindNumber kind) j && ableAt j)
-  allowed-is j = rw (filled-limits (e .time) (s .account .uses) 0 (B .entries) j, filled-meters (e .time) (s .account .uses) (B .entries) j)
+  allowed-is j = rw (filled-limits (e .time) (s .account .uses) 0 (B .entries) j, figures-at s e h t j)
 
   left-at : (j : ℕ) → ableAt j ≡ true → Left e s j
-  left-at j = able-left B e (s .account .uses) j (limitsAt (B .entries) j)
+  left-at j = able-left B e (s .account .uses) orderly j (limitsAt (B .entries) j)
 
   unable-out : (j : ℕ) → ableAt j ≡ false → OutOrSpent e s j
-  unable-out j q = let x = unable-stands B e (s .account .uses) j (limitsAt (B .entries) j) q in record { ground = x .0; holds = x .1 }
+  unable-out j q =
+      let x = unable-stands B e (s .account .uses) orderly j (limitsAt (B .entries) j) q in
+      record { ground = x .0; holds = x .1 }
 
   left-able : (j : ℕ) → Left e s j → ableAt j ≡ true
   left-able j f = on-test (ableAt j) (λ q. q) (λ q. let o = unable-out j q in clash (o .holds) (f (o .ground)))
@@ -310,9 +335,9 @@ module _ (s : State) (e : Event) (h : Inv (s .book) (s .account)) (kind : Kind) 
   goes-is i j =
       rw (
         filled-limits (e .time) (s .account .uses) 0 (B .entries) i,
-        filled-meters (e .time) (s .account .uses) (B .entries) i,
+        figures-at s e h t i,
         filled-limits (e .time) (s .account .uses) 0 (B .entries) j,
-        filled-meters (e .time) (s .account .uses) (B .entries) j,
+        figures-at s e h t j,
       )
       (before-weight (B .entries) (s .account .uses) asset (h .formed .limits) soon (e .time) i j)
 
@@ -327,7 +352,7 @@ module _ (s : State) (e : Event) (h : Inv (s .book) (s .account)) (kind : Kind) 
 
   switch-is : (j : ℕ) → switchAt j
       ≡ (suits (catalogOf B) (B .entries) asset (kindNumber kind) j && alone B e (s .account .uses) j (limitsAt (B .entries) j))
-  switch-is j = rw (filled-limits (e .time) (s .account .uses) 0 (B .entries) j, filled-meters (e .time) (s .account .uses) (B .entries) j)
+  switch-is j = rw (filled-limits (e .time) (s .account .uses) 0 (B .entries) j, figures-at s e h t j)
 
   for-switch : anyOf switchAt (entriesIn B) ≡ true → ForSwitch s e asset (kindNumber kind)
   for-switch q =
@@ -338,15 +363,15 @@ module _ (s : State) (e : Event) (h : Inv (s .book) (s .account)) (kind : Kind) 
         entry = y .0;
         suits = suits-to B (h .formed) asset (kindNumber kind) (y .0) (y .1 .below)
             (and-left (suits (catalogOf B) (B .entries) asset (kindNumber kind) (y .0)) _ z);
-        stands = alone-stands B e (s .account .uses) (y .0) (limitsAt (B .entries) (y .0)) a;
-        only = alone-only B e (s .account .uses) (y .0) (limitsAt (B .entries) (y .0)) a;
+        stands = alone-stands B e (s .account .uses) orderly (y .0) (limitsAt (B .entries) (y .0)) a;
+        only = alone-only B e (s .account .uses) orderly (y .0) (limitsAt (B .entries) (y .0)) a;
       }
 
   switch-for : ForSwitch s e asset (kindNumber kind) → anyOf switchAt (entriesIn B) ≡ true
   switch-for f =
       sure-any switchAt (entriesIn B) (f .entry) (f .suits .below)
       (switch-is (f .entry) ∙ and-both (to-suits B (h .formed) asset (kindNumber kind) (f .entry) (f .suits))
-      (is-alone B e (s .account .uses) (f .entry) (limitsAt (B .entries) (f .entry)) (f .stands) (f .only)))
+      (is-alone B e (s .account .uses) orderly (f .entry) (limitsAt (B .entries) (f .entry)) (f .stands) (f .only)))
 
   code-43 : ForSwitch s e asset (kindNumber kind) → N ≡ 43
   unfolding noneGrantable catalogOf
@@ -408,7 +433,7 @@ module _ (s : State) (e : Event) (h : Inv (s .book) (s .account)) (kind : Kind) 
               (choose-first _ _ weighs goes-is (entriesIn B) i q j (w .below)
               (allowed-is j ∙ and-both (to-suits B (h .formed) asset (kindNumber kind) j w) (left-able j l)));
           until =
-              rw (filled-limits (e .time) (s .account .uses) 0 (B .entries) i, filled-meters (e .time) (s .account .uses) (B .entries) i)
+              rw (filled-limits (e .time) (s .account .uses) 0 (B .entries) i, figures-at s e h t i)
               (grant-until (e .time) (s .account .uses) i (limitsAt (B .entries) i) kind (v .kind-is));
         }
 
@@ -555,7 +580,7 @@ demand3 b g f =
       time = λ xs. h xs .time;
       limits = λ xs.
           rw (← h xs .time)
-          (limited _ _ _ (b .entries) _ _ _
+          (limited _ _ _ (b .entries) _ _ _ (omega (arith, h xs .formed .players))
           (held-ext refl refl (λ i. sym (after-static xs (starting b) .limits i)) (λ i. refl) (λ p. refl) (h xs .held)));
       lent = λ xs x. lent-of (after (starting b) xs) x;
       checked = λ xs e. checked (after (starting b) xs) e (h xs);

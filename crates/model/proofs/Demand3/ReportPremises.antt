@@ -23,65 +23,28 @@ use Rattle.model.specs.History.{handed, handedLines}
 use Rattle.model.specs.Run.{zeroLines}
 use Rattle.model.specs.Ledger.{latestTaken, resent, calledTaken, timeOf, revise, posted, note, noteArrival, isOpen, sumOf, earliest}
 use Rattle.model.specs.Ledger.{Ground, count-spent, timed-spent, seconds-spent, interval-over, interval-zero, before-start, after-end}
-use Rattle.model.specs.Ledger.{switch-off, stands}
+use Rattle.model.specs.Ledger.{switch-off, threshold-full, stands}
 use Rattle.model.specs.Demand1.{same-boot, GoodList}
 use Rattle.model.specs.Demand3.{State, advance, after, starting, Takes, Suits, own, MayChoose, against, OutOrSpent, NoneLeft}
 use Rattle.model.specs.Demand3.{ForSwitch, Begins, isResend, Demand3}
 use Rattle.model.proofs.Examples.Afternoon.{asset, event, granted}
 use Rattle.model.proofs.Examples.Report.{tracked, line}
 use Rattle.model.proofs.Examples.Computes.{events-run, legal-run}
-use Rattle.model.proofs.Demand3.Proof.{demand3}
+use Rattle.model.proofs.Demand3.OneEntry.{alone, demanded}
 
 -- ## The book
 
 -- asset 5; entry 0 plays it 9 times, tracked with timed value 10 and without the mark
 abbrev book : ℕ → Book
-book switch = record {
-  time = 0;
-  switch = switch;
-  assetcount = 1;
-  entrycount = 1;
-  assets = asset 5 1 0 ∷ replicate 63 noAsset;
-  entries = tracked 5 1 9 10 0 ∷ replicate 63 noEntry;
-  players = replicate 16 noPlayer;
-}
-
-module _ (switch : ℕ) (rules : ruleBroken (book switch) ≡ 0) where
-  assets-blank : (i : ℕ) → 1 ≤ i → assetAt (book switch .assets) i ≡ noAsset
-  assets-blank zero h = absurd (omega arith)
-  assets-blank (suc i) h = blanks 63 i noAsset
-
-  entries-blank : (i : ℕ) → 1 ≤ i → getD (book switch .entries) i noEntry ≡ noEntry
-  entries-blank zero h = absurd (omega arith)
-  entries-blank (suc i) h = blanks 63 i noEntry
-
-  legal : Legal (book switch)
-  legal = record {
-    assetSlots = refl;
-    entrySlots = refl;
-    playerSlots = refl;
-    assetCount = omega arith;
-    entryCount = omega arith;
-    time = omega arith;
-    assetsBlank = assets-blank;
-    entriesBlank = entries-blank;
-    rules = rules;
-  }
-
-  unused : (i : ℕ) → metersAt (book switch .entries) i ≡ noMeters
-  unused zero = refl
-  unused (suc i) = ap (λ (e : Entry). e .meters) (blanks 63 i noEntry)
-
-  demanded : Demand3 (book switch)
-  demanded = demand3 (book switch) legal (record { time = refl; meters = unused; players = λ p. blanks 16 p noPlayer })
+book switch = alone switch (tracked 5 1 9 10 0)
 
 on : Demand3 (book 1)
 unfolding legal-run
-on = demanded 1 refl
+on = demanded 1 (tracked 5 1 9 10 0) refl refl
 
 off : Demand3 (book 0)
 unfolding legal-run
-off = demanded 0 refl
+off = demanded 0 (tracked 5 1 9 10 0) refl refl
 
 -- ## The switch on: uses that end
 
@@ -130,6 +93,7 @@ only-switch interval-zero h = absurd (false≢true h)
 only-switch before-start h = absurd (false≢true h)
 only-switch after-end h = absurd (false≢true h)
 only-switch switch-off h = refl
+only-switch threshold-full h = absurd (false≢true h)
 
 pub for-switch : ForSwitch fresh asks 5 1
 unfolding stands

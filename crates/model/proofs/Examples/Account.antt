@@ -5,18 +5,20 @@ use Prim.Native.Nat.{ℕ}
 use mathlib.Core.Bool.{Bool, true, false}
 use mathlib.Core.List.{List, [], _∷_, map, _++_}
 use lib.ListN.{replicate}
+use Rattle.numbers.specs.Count.{sum}
+use Rattle.numbers.specs.Bits.{maskOf}
 use Rattle.book.specs.declared.Limits.{Limits}
 use Rattle.book.specs.declared.Event.{Event}
 use Rattle.book.specs.declared.Request.the-variants.{Stop}
 use Rattle.model.specs.Book.{flagged}
 use Rattle.model.specs.Ledger.{Use, empty, latestTaken, resent, calledTaken, timeOf, latest, revise, posted, note, noteArrival}
 use Rattle.model.specs.Ledger.{isOpen, sumOf, earliest, count-spent, timed-spent, seconds-spent, interval-over, interval-zero}
-use Rattle.model.specs.Ledger.{before-start, after-end, switch-off, stands}
+use Rattle.model.specs.Ledger.{before-start, after-end, switch-off, threshold-full, marksBy, stands}
 use Rattle.model.specs.Report.{Arrival}
 use Rattle.model.specs.History.{handed}
 use Rattle.model.specs.Run.{zeroLines}
 use Rattle.model.specs.Demand3.{advance, after, starting, figures, filledFrom, predictBy, predict, predicted}
-use Rattle.model.proofs.Examples.Afternoon.{start, events, expected, limits}
+use Rattle.model.proofs.Examples.Afternoon.{start, events, expected, limits, group}
 use Rattle.model.proofs.Examples.Computes.{events-run}
 
 abbrev ran : ℕ → ℕ → ℕ → ℕ → Bool → ℕ → Use
@@ -46,7 +48,7 @@ unfolding events-run latestTaken resent calledTaken revise posted note noteArriv
 uses-left = refl
 
 pub by-ledger : predicted start empty arrivals ≡ expected
-unfolding events-run latestTaken resent calledTaken timeOf latest revise posted note noteArrival isOpen sumOf earliest figures
+unfolding events-run latestTaken resent calledTaken timeOf latest revise posted note noteArrival isOpen sumOf earliest marksBy figures
     filledFrom predictBy predict predicted
 by-ledger = refl
 
@@ -83,13 +85,36 @@ pub entries-spent : judged ≡ (true ∷ false ∷ true ∷ false ∷ false ∷ 
 unfolding flagged isOpen sumOf earliest stands
 entries-spent = refl
 
+-- whether the open uses of entry i have reached a threshold at t
+abbrev full : ℕ → ℕ → ℕ → Bool
+full t i threshold = stands 0 (at t) uses i (group threshold (limits 1 1 0 0 0 0 0 0 0 0)) threshold-full
+
+-- entry 0 has one open until 160; another entry; no threshold; of the use that was stopped at 40 nothing counts, even at 39
+pub together :
+    full 159 0 1
+    ∷ full 160 0 1
+    ∷ full 159 0 2
+    ∷ full 159 1 1
+    ∷ full 159 0 0
+    ∷ full 39 0 2
+    ∷ []
+    ≡ true ∷ false ∷ false ∷ false ∷ false ∷ false ∷ []
+unfolding flagged isOpen sumOf earliest stands
+together = refl
+
+-- the marks by the ledger: player 1 has entry 0 open until 160
+pub marked : marksBy (λ p. 159) uses 0 ∷ marksBy (λ p. 160) uses 0 ∷ marksBy (λ p. 159) uses 1 ∷ [] ≡ 2 ∷ 0 ∷ 0 ∷ []
+unfolding sum maskOf latest isOpen marksBy
+marked = refl
+
 -- all grounds against an entry, in turn
 abbrev every : ℕ → ℕ → Limits → List Bool
 every t i l = map (stands 0 (at t) uses i l)
-    (count-spent ∷ timed-spent ∷ seconds-spent ∷ interval-over ∷ interval-zero ∷ before-start ∷ after-end ∷ switch-off ∷ [])
+    (count-spent ∷ timed-spent ∷ seconds-spent ∷ interval-over ∷ interval-zero ∷ before-start ∷ after-end ∷ switch-off
+    ∷ threshold-full ∷ [])
 
 abbrev nothing : List Bool
-nothing = replicate 8 false
+nothing = replicate 9 false
 
 -- an entry that was not used, and one without a flag
 pub unused : every 159 1 (limits 1 1 51 1 1 0 0 0 1 1) ≡ nothing
@@ -103,7 +128,7 @@ unlimited = refl
 -- the seconds around start and end
 pub dates :
     map (λ (t : ℕ). every t 1 (limits 1 1 12 0 0 0 100 200 0 0)) (99 ∷ 100 ∷ 200 ∷ 201 ∷ [])
-    ≡ ((replicate 5 false ++ (true ∷ false ∷ false ∷ [])) ∷ nothing ∷ nothing ∷ (replicate 6 false ++ (true ∷ false ∷ [])) ∷ [])
+    ≡ ((replicate 5 false ++ (true ∷ replicate 3 false)) ∷ nothing ∷ nothing ∷ (replicate 6 false ++ (true ∷ replicate 2 false)) ∷ [])
 unfolding flagged isOpen sumOf earliest stands
 dates = refl
 
@@ -114,10 +139,10 @@ pub zero-limits :
     ∷ every 159 1 (limits 1 1 32 0 0 0 0 0 0 0)
     ∷ every 159 1 (limits 1 1 16 0 0 0 0 0 0 0)
     ∷ []
-    ≡ ((true ∷ replicate 7 false)
-    ∷ (false ∷ true ∷ replicate 6 false)
-    ∷ (false ∷ false ∷ true ∷ replicate 5 false)
-    ∷ (false ∷ false ∷ false ∷ false ∷ true ∷ replicate 3 false)
+    ≡ ((true ∷ replicate 8 false)
+    ∷ (false ∷ true ∷ replicate 7 false)
+    ∷ (false ∷ false ∷ true ∷ replicate 6 false)
+    ∷ (false ∷ false ∷ false ∷ false ∷ true ∷ replicate 4 false)
     ∷ [])
 unfolding flagged isOpen sumOf earliest stands
 zero-limits = refl

@@ -40,6 +40,27 @@ limits asset kind flags count timed timer start end interval accumulated = recor
   tracked = 0;
   timedvalue = 0;
   mark = 0;
+  threshold = 0;
+}
+
+-- the same with a threshold
+abbrev pub group : ℕ → Limits → Limits
+group threshold l = record {
+  object = l .object;
+  asset = l .asset;
+  kind = l .kind;
+  flags = l .flags;
+  count = l .count;
+  timed = l .timed;
+  timer = l .timer;
+  start = l .start;
+  end = l .end;
+  interval = l .interval;
+  accumulated = l .accumulated;
+  tracked = l .tracked;
+  timedvalue = l .timedvalue;
+  mark = l .mark;
+  threshold = threshold;
 }
 
 -- an unused entry with these limits

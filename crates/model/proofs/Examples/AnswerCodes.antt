@@ -17,12 +17,11 @@ use Rattle.model.specs.Demand1.{refused}
 use Rattle.model.proofs.Examples.Afternoon.{asset, limits, granted}
 use Rattle.model.proofs.Examples.Computes.{events-run}
 
--- play of asset 1, timed 3 with timer 100, `timed` of them used
-abbrev pub used : ℕ → Entry
-used timed = record {
+-- play of asset 1, timed 3 with timer 100, `timed` of them used, with these marks
+abbrev pub used : ℕ → ℕ → Entry
+used timed marks = record {
   limits = limits 1 1 2 0 3 100 0 0 0 0;
-  meters = record
-      { count = 0; timed = timed; first = 0; seconds = 0; started = 0 };
+  meters = record { count = 0; timed = timed; first = 0; seconds = 0; started = 0; marks = marks };
 }
 
 -- a player whose last event had that number and request
@@ -35,14 +34,14 @@ player number operation asset kind answer current = record {
 abbrev pub running : ℕ → ℕ → Open
 running begin until = record { on = 1; entry = 0; begin = begin; until = until; content = 1 }
 
-abbrev pub book : ℕ → ℕ → Player → Player → Book
-book time timed zeroth first = record {
+abbrev pub book : ℕ → ℕ → ℕ → Player → Player → Book
+book time timed marks zeroth first = record {
   time = time;
   switch = 0;
   assetcount = 1;
   entrycount = 1;
   assets = asset 1 1 0 ∷ [];
-  entries = used timed ∷ [];
+  entries = used timed marks ∷ [];
   players = zeroth ∷ first ∷ replicate 14 noPlayer;
 }
 
@@ -51,7 +50,7 @@ abbrev pub stale : Player
 stale = player 5 1 1 1 (record { code = 7; entry = 3; until = 9 }) (running 40 90)
 
 abbrev pub odd : Book
-odd = book 100 2 stale noPlayer
+odd = book 100 2 1 stale noPlayer
 
 -- a good list for it
 abbrev pub kept : List Line
@@ -117,14 +116,14 @@ pub nothing-changed : (
 unfolding events-run
 nothing-changed = refl
 
--- Taken: number, request, answer and time are stored. The stale use ends at its until and, being shorter than the timer, gives its
--- timed count back: in both
--- cases, whichever player asks. The stop then finds nothing open; the other player's begin adds its own timed count.
+-- Taken: number, request, answer and time are stored. The stale use ends at its until, whichever player asks: its mark is cleared and,
+-- since it was shorter than the timer, its timed count goes back. The stop then finds nothing open; the other player's begin adds its own
+-- timed count and mark.
 pub stored : (met (bytes 0 6 3 0 0 100) ∷ met (bytes 1 1 1 1 1 101) ∷ []) ≡ (
-    record { answer = refused 14; book = book 100 1 (player 6 3 0 0 (refused 14) closed) noPlayer }
+    record { answer = refused 14; book = book 100 1 0 (player 6 3 0 0 (refused 14) closed) noPlayer }
     ∷ record {
       answer = granted 0 161;
-      book = book 101 2 (player 5 1 1 1 (record { code = 7; entry = 3; until = 9 }) closed)
+      book = book 101 2 2 (player 5 1 1 1 (record { code = 7; entry = 3; until = 9 }) closed)
           (player 1 1 1 1 (granted 0 161) (running 101 161));
     }
     ∷ [])

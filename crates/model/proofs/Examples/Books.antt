@@ -1,7 +1,7 @@
 -- Books that meet the premises of demand 2, from the empty one to one of the greatest size; and the reader run on images of a
 -- small book, intact and damaged, one for each of its answers. The bytes of that book are written out: a round trip alone does
 -- not notice two swapped fields.
-use Prim.Native.Nat.{ℕ, suc, _+_, _*_, _-_, _%_, _<_}
+use Prim.Native.Nat.{ℕ, suc, _+_, _*_, _-_, _/_, _%_, _<_}
 use mathlib.Core.Path.{_≡_, refl, sym, ap, subst, _∙_}
 use mathlib.Core.List.{List, [], _∷_, _++_, append-nil}
 use native.Mathlib.Omega.{arith}
@@ -51,7 +51,7 @@ noBook-typed = record {
   header = zeros-fit (headerTail newest);
   assets = λ i. subst (λ (x : Asset). Fit (assetWidths newest) (assetValues x)) (sym (blanks 64 i noAsset))
       (zeros-fit (assetWidths newest));
-  entries = λ i. subst (λ (x : Entry). Fit (entryWidths newest) (entryValues x)) (sym (blanks 64 i noEntry))
+  entries = λ i. subst (λ (x : Entry). Fit (entryWidths newest) (entryValues newest x)) (sym (blanks 64 i noEntry))
       (zeros-fit (entryWidths newest));
   players = λ i. subst (λ (x : Player). Fit (playerWidths newest) (playerValues x)) (sym (blanks 16 i noPlayer))
       (zeros-fit (playerWidths newest));
@@ -64,7 +64,7 @@ noBook-fresh = record {
   players = λ p. blanks 16 p noPlayer;
 }
 
--- ## A book of the greatest size: every slot filled, every limit flagged and used up, every player with an open use
+-- ## A book of the greatest size: every slot filled, every limit flagged and used up; all players have entry 63 open
 
 abbrev greatAsset : ℕ → Asset
 greatAsset i = record { number = 65535 - i; inherit = 65535; key = 1 }
@@ -86,8 +86,9 @@ greatEntry i = record {
     tracked = 1;
     timedvalue = 4294967295;
     mark = 1;
+    threshold = 16;
   };
-  meters = record { count = 1000000; timed = 1000000; first = 3999999990; seconds = 100000000; started = 1 };
+  meters = record { count = 1000000; timed = 1000000; first = 3999999990; seconds = 100000000; started = 1; marks = i / 63 * 65535 };
 }
 
 abbrev greatPlayer : ℕ → Player
@@ -99,7 +100,7 @@ greatPlayer p = record {
     kind = 5;
     answer = record { code = 0; entry = 63; until = 4294967295 };
   };
-  current = record { on = 1; entry = 48 + p; begin = 3999999990; until = 4000000001; content = 65535 - p };
+  current = record { on = 1; entry = 63; begin = 3999999990; until = 4000000001; content = 65535 - p };
 }
 
 unfoldable pub greatest : Book
@@ -141,13 +142,13 @@ greatest-typed = record {
   header = omega arith;
   assets = at-each (λ (x : Asset). Fit (assetWidths newest) (assetValues x)) greatAsset 64 noAsset (λ i h. omega arith)
       (zeros-fit (assetWidths newest));
-  entries = at-each (λ (x : Entry). Fit (entryWidths newest) (entryValues x)) greatEntry 64 noEntry (λ i h. omega arith)
+  entries = at-each (λ (x : Entry). Fit (entryWidths newest) (entryValues newest x)) greatEntry 64 noEntry (λ i h. omega arith)
       (zeros-fit (entryWidths newest));
   players = at-each (λ (x : Player). Fit (playerWidths newest) (playerValues x)) greatPlayer 16 noPlayer (λ i h. omega arith)
       (zeros-fit (playerWidths newest));
 }
 
--- the reader run on its 4,879 bytes
+-- the reader run on its 5,391 bytes
 pub greatest-read : readCode (image greatest) ≡ 0
 unfolding legal-run image-run greatest
 greatest-read = refl
@@ -156,11 +157,34 @@ greatest-read = refl
 pub greatest-back : readBook noBook (image greatest) ≡ greatest
 greatest-back = demand2 .readsBack noBook greatest greatest-legal greatest-typed .1
 
-pub greatest-length : lengthOf greatest ≡ 4879
+pub greatest-length : lengthOf greatest ≡ 5391
 unfolding greatest assetsIn entriesIn imageLength headerSize assetSize entrySize playerSize lengthOf
 greatest-length = refl
 
 -- ## A small book: an asset with a parent, an entry with every limit, a print without limits, one player with an open use
+
+-- the entry with every limit, by what newer versions say of it; player 0 has it open
+abbrev smallEntry : ℕ → ℕ → ℕ → ℕ → Entry
+smallEntry tracked timedvalue mark threshold = record {
+  limits = record {
+    object = 1286;
+    asset = 258;
+    kind = 2;
+    flags = 63;
+    count = 10;
+    timed = 11;
+    timer = 12;
+    start = 168496129;
+    end = 168496383;
+    interval = 200;
+    accumulated = 100000;
+    tracked = tracked;
+    timedvalue = timedvalue;
+    mark = mark;
+    threshold = threshold;
+  };
+  meters = record { count = 3; timed = 4; first = 168496130; seconds = 100; started = 1; marks = 1 };
+}
 
 unfoldable pub small : Book
 small = record {
@@ -170,25 +194,7 @@ small = record {
   entrycount = 2;
   assets = record { number = 258; inherit = 2; key = 1 } ∷ record { number = 2; inherit = 0; key = 0 } ∷ replicate 62 noAsset;
   entries =
-      record {
-        limits = record {
-          object = 1286;
-          asset = 258;
-          kind = 2;
-          flags = 63;
-          count = 10;
-          timed = 11;
-          timer = 12;
-          start = 168496129;
-          end = 168496383;
-          interval = 200;
-          accumulated = 100000;
-          tracked = 1;
-          timedvalue = 505093152;
-          mark = 1;
-        };
-        meters = record { count = 3; timed = 4; first = 168496130; seconds = 100; started = 1 };
-      }
+      smallEntry 1 505093152 1 2
       ∷ record {
         limits = record {
           object = 7;
@@ -205,6 +211,7 @@ small = record {
           tracked = 0;
           timedvalue = 0;
           mark = 0;
+          threshold = 0;
         };
         meters = noMeters;
       }
@@ -225,14 +232,15 @@ small = record {
 
 -- its bytes, one line for each of the header, the assets, the entries and the players
 pub small-bytes : image small
-    ≡ 82 ∷ 66 ∷ 75 ∷ 0 ∷ 3 ∷ 2 ∷ 2 ∷ 10 ∷ 11 ∷ 12 ∷ 13 ∷ 0 ∷ 0 ∷ 0 ∷ 1 ∷ []
+    ≡ 82 ∷ 66 ∷ 75 ∷ 0 ∷ 4 ∷ 2 ∷ 2 ∷ 10 ∷ 11 ∷ 12 ∷ 13 ∷ 0 ∷ 0 ∷ 0 ∷ 1 ∷ []
     ++ 1 ∷ 2 ∷ 0 ∷ 2 ∷ 1 ∷ []
     ++ 0 ∷ 2 ∷ 0 ∷ 0 ∷ 0 ∷ []
     ++ 5 ∷ 6 ∷ 1 ∷ 2 ∷ 2 ∷ 63 ∷ 0 ∷ 0 ∷ 0 ∷ 10 ∷ 0 ∷ 0 ∷ 0 ∷ 11 ∷ 0 ∷ 0 ∷ 0 ∷ 12 ∷ 10 ∷ 11 ∷ 12 ∷ 1 ∷ 10 ∷ 11 ∷ 12 ∷ 255 ∷ 0 ∷ 0 ∷ 0 ∷
     200 ∷ 0 ∷ 1 ∷ 134 ∷ 160
     ∷ 0 ∷ 0 ∷ 0 ∷ 3 ∷ 0 ∷ 0 ∷ 0 ∷ 4 ∷ 10 ∷ 11 ∷ 12 ∷ 2 ∷ 0 ∷ 0 ∷ 0 ∷ 100 ∷ 1
-    ∷ 0 ∷ 0 ∷ 0 ∷ 1 ∷ 30 ∷ 27 ∷ 28 ∷ 32 ∷ 0 ∷ 0 ∷ 0 ∷ 1 ∷ []
-    ++ 0 ∷ 7 ∷ 0 ∷ 2 ∷ 4 ∷ replicate 58 0
+    ∷ 0 ∷ 0 ∷ 0 ∷ 1 ∷ 30 ∷ 27 ∷ 28 ∷ 32 ∷ 0 ∷ 0 ∷ 0 ∷ 1
+    ∷ 0 ∷ 0 ∷ 0 ∷ 2 ∷ 0 ∷ 0 ∷ 0 ∷ 1 ∷ []
+    ++ 0 ∷ 7 ∷ 0 ∷ 2 ∷ 4 ∷ replicate 66 0
     ++ 33 ∷ 34 ∷ 35 ∷ 36 ∷ 17 ∷ 18 ∷ 19 ∷ 20 ∷ 1 ∷ 21 ∷ 22 ∷ 3 ∷ 0 ∷ 1 ∷ 25 ∷ 26 ∷ 27 ∷ 28 ∷ 1 ∷ 0 ∷ 10 ∷ 11 ∷ 12 ∷ 8 ∷ 10 ∷ 11 ∷ 12 ∷ 14
     ∷ 0 ∷ 0 ∷ 1 ∷ 2 ∷ []
     ++ replicate 480 0
@@ -285,7 +293,8 @@ pub damaged :
     ∷ (setAsset 0 2 2 ∷ with (inAsset 1 0 - 1) 1 ∷ setAsset 1 0 0 ∷ [])
     ∷ (setEntry 0 2 0 ∷ setEntry 0 2 4 ∷ setEntry 0 2 6 ∷ setEntry 0 3 64 ∷ setEntry 0 8 0 ∷ setEntry 1 0 0
     ∷ setEntry 1 1 9 ∷ setEntry 1 2 0 ∷ setEntry 1 4 1 ∷ setEntry 1 5 1 ∷ setEntry 1 9 1
-    ∷ setEntry 0 16 0 ∷ setEntry 0 16 2 ∷ setEntry 0 18 2 ∷ setEntry 1 16 2 ∷ setEntry 1 17 1 ∷ setEntry 1 18 1 ∷ [])
+    ∷ setEntry 0 16 0 ∷ setEntry 0 16 2 ∷ setEntry 0 18 2 ∷ setEntry 1 16 2 ∷ setEntry 1 17 1 ∷ setEntry 1 18 1
+    ∷ setEntry 0 19 17 ∷ setEntry 1 19 17 ∷ with (inEntry 0 19 - 1) 1 ∷ [])
     ∷ (setPlayer 0 1 2 ∷ setPlayer 0 1 4 ∷ setPlayer 0 3 0 ∷ setPlayer 0 3 6 ∷ setPlayer 0 4 9 ∷ setPlayer 0 4 16
     ∷ setPlayer 0 4 10 ∷ setPlayer 0 5 2 ∷ setPlayer 0 7 0 ∷ setPlayer 0 7 2 ∷ setPlayer 0 8 1 ∷ setPlayer 0 8 2
     ∷ setPlayer 1 1 1 ∷ setPlayer 1 11 1 ∷ setPlayer 0 11 3 ∷ with (headerSize newest - 1) 2 ∷ [])
@@ -293,22 +302,22 @@ pub damaged :
     ∷ setEntry 0 9 11 ∷ setEntry 0 15 0 ∷ setEntry 0 9 0 ∷ [])
     ∷ (setEntry 0 4 0 ∷ setEntry 0 5 0 ∷ setEntry 0 11 0 ∷ setEntry 0 11 11 ∷ setEntry 0 12 0 ∷ setEntry 0 12 12
     ∷ setEntry 0 14 5 ∷ with (inEntry 0 14 - 3) 1
-    ∷ setEntry 1 15 1 ∷ [])
+    ∷ setEntry 1 15 1 ∷ setEntry 0 20 0 ∷ setEntry 0 20 2 ∷ setEntry 0 20 3 ∷ setEntry 1 20 1 ∷ with (inEntry 0 20 - 2) 1 ∷ [])
     ∷ (readCode (image small) ∷ setPlayer 0 9 13 ∷ setPlayer 0 10 73 ∷ setEntry 0 7 8 ∷ setEntry 0 8 13 ∷ setEntry 0 13 8
     ∷ setEntry 0 9 12 ∷ setEntry 0 11 10 ∷ setEntry 0 12 11 ∷ setEntry 0 14 6 ∷ setPlayer 0 5 0 ∷ setEntry 1 3 1
     ∷ setEntry 1 3 2 ∷ setEntry 1 3 16 ∷ setEntry 0 17 0 ∷ setEntry 0 18 0 ∷ setEntry 1 16 1 ∷ with (inPlayer 0 11 - 1) 0
-    ∷ with (headerSize newest - 1) 0 ∷ [])
+    ∷ with (headerSize newest - 1) 0 ∷ setEntry 0 19 0 ∷ setEntry 0 19 1 ∷ setEntry 0 19 16 ∷ setEntry 1 19 16 ∷ [])
     ∷ []
     ≡ replicate 4 20
     ∷ replicate 4 21
     ∷ replicate 3 22
     ∷ replicate 3 23
     ∷ replicate 3 24
-    ∷ replicate 17 25
+    ∷ replicate 20 25
     ∷ replicate 16 26
     ∷ replicate 9 26
-    ∷ replicate 9 27
-    ∷ replicate 19 0
+    ∷ replicate 14 27
+    ∷ replicate 23 0
     ∷ []
 unfolding legal-run image-run small
 damaged = refl
@@ -326,13 +335,16 @@ pub two-faults :
     ∷ both (inPlayer 0 1) 4 (inEntry 0 11) 11
     ∷ both (inEntry 0 2) 0 (headerSize newest - 1) 2
     ∷ both (headerSize newest - 1) 2 (inEntry 0 11) 11
+    ∷ both (inEntry 0 19) 17 (inPlayer 0 1) 4
+    ∷ both (inPlayer 0 1) 4 (inEntry 0 20) 3
     ∷ []
-    ≡ 20 ∷ 24 ∷ 25 ∷ 26 ∷ 25 ∷ 26 ∷ []
+    ≡ 20 ∷ 24 ∷ 25 ∷ 26 ∷ 25 ∷ 26 ∷ 25 ∷ 26 ∷ []
 unfolding legal-run image-run small
 two-faults = refl
 
--- ## Its images of older versions, which have the lower 32 bits of the number; version 1 has no switch, track and content either
+-- ## Its images of older versions, which have no threshold; the marks are set from the open use
 
+-- versions 1 and 2 have the lower 32 bits of the number; version 1 has no switch, track and content either
 abbrev olderLast : Last
 olderLast = record {
   number = 286397204;
@@ -349,27 +361,7 @@ older = record {
   assetcount = 2;
   entrycount = 2;
   assets = small .assets;
-  entries =
-      record {
-        limits = record {
-          object = 1286;
-          asset = 258;
-          kind = 2;
-          flags = 63;
-          count = 10;
-          timed = 11;
-          timer = 12;
-          start = 168496129;
-          end = 168496383;
-          interval = 200;
-          accumulated = 100000;
-          tracked = 0;
-          timedvalue = 0;
-          mark = 0;
-        };
-        meters = record { count = 3; timed = 4; first = 168496130; seconds = 100; started = 1 };
-      }
-      ∷ drop 1 (small .entries);
+  entries = smallEntry 0 0 0 0 ∷ drop 1 (small .entries);
   players =
       record {
         last = olderLast;
@@ -391,19 +383,22 @@ pub older-book : bookIn (imageAs 1 small) ≡ older
 unfolding imageAs image-run small
 older-book = refl
 
--- the book of its image of version 2
-abbrev second : Book
-second = record {
+-- the book of its image of version 2 or 3: without the threshold, and with these players
+abbrev untilThird : List Player → Book
+untilThird players = record {
   time = small .time;
   switch = 1;
   assetcount = 2;
   entrycount = 2;
   assets = small .assets;
-  entries = small .entries;
-  players =
-      record { last = olderLast; current = record { on = 1; entry = 0; begin = 168496136; until = 168496142; content = 258 } }
-      ∷ replicate 15 noPlayer;
+  entries = smallEntry 1 505093152 1 0 ∷ drop 1 (small .entries);
+  players = players;
 }
+
+abbrev second : Book
+second = untilThird
+    (record { last = olderLast; current = record { on = 1; entry = 0; begin = 168496136; until = 168496142; content = 258 } }
+    ∷ replicate 15 noPlayer)
 
 -- 15 + 5 * 2 + 63 * 2 + 448 bytes
 pub second-length : length (imageAs 2 small) ≡ 599
@@ -417,6 +412,19 @@ second-read = refl
 pub second-book : bookIn (imageAs 2 small) ≡ second
 unfolding imageAs image-run small
 second-book = refl
+
+-- 15 + 5 * 2 + 63 * 2 + 512 bytes
+pub third-length : length (imageAs 3 small) ≡ 663
+unfolding imageAs image-run small
+third-length = refl
+
+pub third-read : readCode (imageAs 3 small) ≡ 0
+unfolding imageAs legal-run image-run small
+third-read = refl
+
+pub third-book : bookIn (imageAs 3 small) ≡ untilThird (small .players)
+unfolding imageAs image-run small
+third-book = refl
 
 -- ## What an older version can say: the premises of `Demand2.readsAs` are met by what was read from one
 

@@ -3,15 +3,17 @@
 use mathlib.Core.Path.{_≡_, refl}
 use Prim.Native.Nat.{ℕ}
 use mathlib.Core.Bool.{Bool, true, false}
-use mathlib.Core.List.{[], _∷_}
+use mathlib.Core.List.{List, [], _∷_, _++_}
 use lib.ListN.{replicate}
 use Rattle.numbers.specs.Count.{first}
 use Rattle.book.specs.declared.Asset.{Asset}
+use Rattle.book.specs.declared.Player.{Player}
 use Rattle.model.specs.Book.{grantLength, flagged, momentary, limit, assetPosition, assetLegal, rangesLegal, limitsLegal, takenCode}
-use Rattle.book.specs.Blank.{noMeters, noEntry}
+use Rattle.book.specs.Blank.{noMeters, noEntry, noLast, noPlayer}
 use Rattle.model.specs.Book.{trackLegal, contentLegal, openLegal, answerLegal, insideDates, insideInterval, useLegal, meterLegal}
-use Rattle.model.specs.Book.{startLegal, metersCover}
-use Rattle.model.proofs.Examples.Afternoon.{limits}
+use Rattle.model.specs.Book.{startLegal, metersCover, thresholdLegal, marksOf, entryMetersLegal}
+use Rattle.model.proofs.Examples.Afternoon.{limits, group}
+use Rattle.model.proofs.Examples.Computes.{legal-run}
 
 -- ## Assets
 
@@ -86,6 +88,7 @@ known object kind flags count timed timer start end interval accumulated = limit
   tracked = 0;
   timedvalue = 0;
   mark = 0;
+  threshold = 0;
 })
 
 -- "rights object number (1 to 65535), asset (in the book), kind .., flags"; "start at most end where both are flagged";
@@ -108,7 +111,7 @@ pub entries :
     ∷ limitsLegal false (limits 1 1 0 0 0 0 0 0 0 0)
     ∷ []
     ≡ true ∷ true ∷ true ∷ true ∷ false ∷ false ∷ false ∷ false ∷ false ∷ false ∷ false ∷ false ∷ false ∷ false ∷ false ∷ []
-unfolding flagged momentary limit rangesLegal limitsLegal trackLegal
+unfolding flagged momentary limit rangesLegal limitsLegal trackLegal thresholdLegal
 entries = refl
 
 -- order 3 of document 02: "tracked (1, else 0), with a timed value in seconds and the contentAccessGranted mark (0 or 1), both 0 if
@@ -129,6 +132,7 @@ track tracked value mark = trackLegal (record {
   tracked = tracked;
   timedvalue = value;
   mark = mark;
+  threshold = 0;
 })
 
 pub tracks :
@@ -143,6 +147,21 @@ pub tracks :
     ≡ true ∷ true ∷ true ∷ false ∷ false ∷ false ∷ false ∷ []
 unfolding trackLegal
 tracks = refl
+
+-- order 7: "at most that many players, 1 to 16 (0 for none)", for any kind
+abbrev together : ℕ → ℕ → Bool
+together kind threshold = limitsLegal true (group threshold (limits 1 kind 0 0 0 0 0 0 0 0))
+
+pub thresholds :
+    together 1 0
+    ∷ together 1 1
+    ∷ together 1 16
+    ∷ together 4 16
+    ∷ together 1 17
+    ∷ []
+    ≡ true ∷ true ∷ true ∷ true ∷ false ∷ []
+unfolding legal-run
+thresholds = refl
 
 -- ## Players
 
@@ -189,8 +208,9 @@ used kind flags started entry begin until = useLegal 100 2 true (record {
     tracked = 0;
     timedvalue = 0;
     mark = 0;
+    threshold = 0;
   };
-  meters = record { count = 0; timed = 0; first = 50; seconds = 0; started = started };
+  meters = record { count = 0; timed = 0; first = 50; seconds = 0; started = started; marks = 0 };
 }) (record { on = 1; entry = entry; begin = begin; until = until; content = 1 })
 
 pub uses :
@@ -234,6 +254,7 @@ content known tracked number = openLegal 100 2 known (record {
     tracked = tracked;
     timedvalue = 0;
     mark = 0;
+    threshold = 0;
   };
   meters = noMeters;
 }) (record { on = 1; entry = 1; begin = 100; until = 101; content = number })
@@ -265,7 +286,7 @@ meters = refl
 -- "started 0 or 1, first 0 if not, first ≤ book time"; book time 100
 abbrev begun : ℕ → ℕ → ℕ → Bool
 begun flags started first = startLegal 100 (limits 1 1 flags 0 0 0 0 0 0 0)
-    (record { count = 0; timed = 0; first = first; seconds = 0; started = started })
+    (record { count = 0; timed = 0; first = first; seconds = 0; started = started; marks = 0 })
 
 pub starts :
     begun 16 1 100
@@ -284,7 +305,8 @@ starts = refl
 -- two open uses of 70 seconds
 abbrev covered : ℕ → ℕ → ℕ → ℕ → Bool
 covered flags count timed seconds =
-    metersCover 2 70 (limits 1 1 flags 0 0 0 0 0 0 0) (record { count = count; timed = timed; first = 0; seconds = seconds; started = 0 })
+    metersCover 2 70 (limits 1 1 flags 0 0 0 0 0 0 0)
+    (record { count = count; timed = timed; first = 0; seconds = seconds; started = 0; marks = 0 })
 
 pub covers :
     covered 35 2 2 70
@@ -296,3 +318,37 @@ pub covers :
     ≡ true ∷ true ∷ false ∷ false ∷ false ∷ []
 unfolding flagged metersCover
 covers = refl
+
+-- order 7: "one mark for each of the 16 players, bit p for player p": players 0, 9 and 15 have entry 1 open, player 2 entry 0
+abbrev playing : ℕ → Player
+playing entry = record { last = noLast; current = record { on = 1; entry = entry; begin = 100; until = 160; content = 1 } }
+
+abbrev players : List Player
+players =
+    playing 1 ∷ noPlayer ∷ playing 0 ∷ (replicate 6 noPlayer ++ (playing 1 ∷ (replicate 5 noPlayer ++ (playing 1 ∷ []))))
+
+pub each-mark : marksOf players 0 ∷ marksOf players 1 ∷ marksOf players 2 ∷ [] ≡ 4 ∷ 33281 ∷ 0 ∷ []
+unfolding legal-run
+each-mark = refl
+
+-- "27 where marks and open uses differ or exceed a threshold": entry 1 with that threshold and these marks
+abbrev marked : ℕ → ℕ → Bool
+marked threshold marks = entryMetersLegal 100 players 1 (record {
+  limits = group threshold (limits 1 1 0 0 0 0 0 0 0 0);
+  meters = record { count = 0; timed = 0; first = 0; seconds = 0; started = 0; marks = marks };
+})
+
+-- no threshold, one of 16, and one exactly reached; one more open than the threshold; a mark too few, too many, another player's, bit 16
+pub marks :
+    marked 0 33281
+    ∷ marked 16 33281
+    ∷ marked 3 33281
+    ∷ marked 2 33281
+    ∷ marked 3 33280
+    ∷ marked 4 33283
+    ∷ marked 3 33282
+    ∷ marked 0 98817
+    ∷ []
+    ≡ true ∷ true ∷ true ∷ false ∷ false ∷ false ∷ false ∷ false ∷ []
+unfolding legal-run
+marks = refl

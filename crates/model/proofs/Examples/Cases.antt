@@ -47,7 +47,7 @@ lasting asset kind accumulated = entry asset kind 32 0 0 0 0 0 0 accumulated
 
 -- assets 1 and 2 inherit from the parent 9; 3 from 7, which is illegal; 4 from 8, which has a key; 5 from 6, which is not in the book;
 -- 7 and 8 themselves inherit from 9
-abbrev book : List Entry → ℕ → Book
+abbrev pub book : List Entry → ℕ → Book
 book entries count = record {
   time = 0;
   switch = 0;

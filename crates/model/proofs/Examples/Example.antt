@@ -74,11 +74,11 @@ assets-fit (suc (suc (suc zero))) = omega arith
 assets-fit (suc (suc (suc (suc i)))) = subst (λ (x : Asset). Fit (assetWidths newest) (assetValues x)) (sym (blanks 60 i noAsset))
     (zeros-fit (assetWidths newest))
 
-entries-fit : (i : ℕ) → Fit (entryWidths newest) (entryValues (getD (start .entries) i noEntry))
+entries-fit : (i : ℕ) → Fit (entryWidths newest) (entryValues newest (getD (start .entries) i noEntry))
 entries-fit zero = omega arith
 entries-fit (suc zero) = omega arith
 entries-fit (suc (suc zero)) = omega arith
-entries-fit (suc (suc (suc i))) = subst (λ (x : Entry). Fit (entryWidths newest) (entryValues x)) (sym (blanks 61 i noEntry))
+entries-fit (suc (suc (suc i))) = subst (λ (x : Entry). Fit (entryWidths newest) (entryValues newest x)) (sym (blanks 61 i noEntry))
     (zeros-fit (entryWidths newest))
 
 pub start-typed : Typed start

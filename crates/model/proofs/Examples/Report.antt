@@ -19,7 +19,7 @@ use Rattle.model.specs.Report.{lineBound, good, Arrival, receive, linesL
 use Rattle.model.specs.History.{answers, final, handed, handedLines}
 use Rattle.model.specs.Ledger.{latestTaken, resent, calledTaken, timeOf, revise, posted, note, noteArrival, isOpen, sumOf}
 use Rattle.model.specs.Demand3.{advance, after, starting, timesBy, secondsBy}
-use Rattle.model.proofs.Examples.Afternoon.{asset, event, granted, run}
+use Rattle.model.proofs.Examples.Afternoon.{asset, entry, event, granted, run}
 use Rattle.model.proofs.Examples.Computes.{events-run}
 
 -- an entry with a count, a timed value and the mark; tracked
@@ -40,31 +40,14 @@ tracked asset kind count value mark = record {
     tracked = 1;
     timedvalue = value;
     mark = mark;
+    threshold = 0;
   };
   meters = noMeters;
 }
 
 -- the same untracked
 abbrev plain : ℕ → ℕ → ℕ → Entry
-plain asset kind count = record {
-  limits = record {
-    object = 1;
-    asset = asset;
-    kind = kind;
-    flags = 1;
-    count = count;
-    timed = 0;
-    timer = 0;
-    start = 0;
-    end = 0;
-    interval = 0;
-    accumulated = 0;
-    tracked = 0;
-    timedvalue = 0;
-    mark = 0;
-  };
-  meters = noMeters;
-}
+plain asset kind count = entry asset kind 1 count 0 0 0 0 0 0
 
 -- assets 5 and 3 inherit from the parent 8
 abbrev book : ℕ → List Entry → ℕ → Book

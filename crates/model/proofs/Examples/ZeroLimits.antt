@@ -91,16 +91,16 @@ beside = refl
 -- the grounds against an interval that has not started, or has at 5; at 7
 abbrev grounds : ℕ → ℕ → List Bool
 grounds interval started = groundList (groundsOf (record { player = 0; time = 7; switch = 0 }) (limits 1 1 16 0 0 0 0 0 interval 0)
-    (record { count = 0; timed = 0; first = 5; seconds = 0; started = started }))
+    (record { count = 0; timed = 0; first = 5; seconds = 0; started = started; marks = 0 }))
 
 -- an interval of 0 is a ground by itself, and is over once it has started; one of 2 is over, one of 3 is not
 pub interval-grounds :
     grounds 0 0 ∷ grounds 0 1 ∷ grounds 2 0 ∷ grounds 2 1 ∷ grounds 3 1 ∷ []
-    ≡ ((replicate 6 false ++ (true ∷ false ∷ []))
-    ∷ (replicate 4 false ++ (true ∷ false ∷ true ∷ false ∷ []))
-    ∷ replicate 8 false
-    ∷ (replicate 4 false ++ (true ∷ false ∷ false ∷ false ∷ []))
-    ∷ replicate 8 false
+    ≡ ((replicate 6 false ++ (true ∷ false ∷ false ∷ []))
+    ∷ (replicate 4 false ++ (true ∷ false ∷ true ∷ false ∷ false ∷ []))
+    ∷ replicate 9 false
+    ∷ (replicate 4 false ++ (true ∷ replicate 4 false))
+    ∷ replicate 9 false
     ∷ [])
 unfolding flagged groundsOf
 interval-grounds = refl

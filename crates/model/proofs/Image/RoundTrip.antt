@@ -10,7 +10,7 @@ use lib.Seq.{take-at, drop-at, take-add, take-all}
 use lib.Dec.{ltb, leb, eqb}
 use borrow.Author.Tests.{eq-eqb, le-ltb, le-leb, lt-leb}
 use Rattle.numbers.specs.Count.{all, joined, listed}
-use Rattle.numbers.specs.Fields.{Width, size, laidOut, valuesAt, Fit}
+use Rattle.numbers.specs.Fields.{Width, bytes, bigEndian, numberAt, size, laidOut, valuesAt, Fit}
 use Rattle.numbers.proofs.FieldLaws.{values-back, field-back, values-from, values-own, fits-wider, length-laid, laid-back, laid-bytes}
 use Rattle.numbers.proofs.FieldLaws.{append-bytes, drop-bytes, zeros-said, padded, older}
 use Rattle.numbers.proofs.Tests.{row-passed, all-below}
@@ -20,16 +20,19 @@ use Rattle.book.specs.declared.Asset.{Asset}
 use Rattle.book.specs.declared.Entry.{Entry}
 use Rattle.book.specs.declared.Player.{Player}
 use Rattle.book.specs.declared.Book.{Book}
-use Rattle.book.specs.Blank.{noAsset, noEntry, noPlayer}
+use Rattle.book.specs.Blank.{noAsset, noEntry, noPlayer, noBook}
+use Rattle.book.specs.Changed.{changed}
 use Rattle.model.specs.Book.{assetAt, playerAt, assetsIn, entriesIn, latestTime, between, ruleBroken, Legal}
 use Rattle.model.specs.Image.{headerStart, headerTail, headerWidths, startValues, tailValues, newest, assetWidths, assetValues}
 use Rattle.model.specs.Image.{assetOf, entryWidths, entryValues, entryOf, playerWidths, playerValues, playerOf, imageLength}
 use Rattle.model.specs.Image.{headerBytes, assetBytes, entryBytes, playerBytes, image, imageAs, headerSize, assetSize, entrySize, playerSize}
 use Rattle.model.specs.Image.{lengthOf, writeAnswer, writeBuffer, markIn, versionIn, assetCountIn, entryCountIn, timeIn, assetIn}
 use Rattle.model.specs.Image.{entryIn, playerIn, assetTable, entryTable, playerTable, entriesFrom, playersFrom, tailIn, bookAs}
+use Rattle.model.specs.Image.{marked}
 use Rattle.model.specs.Image.{bookIn, headerBroken, readCode, readBook, SaidBy, Typed, Bytes}
 use Rattle.model.specs.Demand2.{Demand2}
 use Rattle.model.proofs.Image.Header.{by-version, HeaderPassed, header-passed, accepted-stages, accepted-book, refused-book}
+use Rattle.model.proofs.Image.Marks.{entrySaid, entryRead, marked-table, legal-marks, entry-kept, marks-fit, marks-typed}
 
 -- ## One table of records of any layout
 
@@ -48,16 +51,33 @@ module _ {A : Type 0} (ws : List Width) (values : A → List ℕ) (of : List ℕ
       ap (λ (vs : List ℕ). getD vs k 0) (values-back ws 0 (values (f i)) [] (drop (size ws) s) refl fit)
       ∙ field-back ws (values (f i)) fit k)
 
-module _ {A : Type 0} (ws : List Width) (values : A → List ℕ) (of : List ℕ → A)
-    (again : (o : ℕ) (s : List ℕ) → laidOut ws (values (of (valuesAt ws o s))) ≡ laidOut ws (valuesAt ws o s)) where
-  -- the records read from a table are written as the bytes of the table
-  table-back : (f : ℕ → A) (n o : ℕ) (s : List ℕ) → ((k : ℕ) → getD s k 0 < 256) → o + size ws * n ≤ length s
-      → ((i : ℕ) → i < n → f i ≡ of (valuesAt ws 0 (drop (o + size ws * i) s)))
-      → joined (λ (k : ℕ). laidOut ws (values (f k))) n ≡ take (size ws * n) (drop o s)
-  table-back f n o s b h same =
-      joined-same (λ (k : ℕ). laidOut ws (values (f k))) (λ (k : ℕ). take (size ws) (drop (o + size ws * k) s)) n (λ i q.
-      ap (λ (x : A). laidOut ws (values x)) (same i q)
-      ∙ again 0 (drop (o + size ws * i) s) ∙ ap (laidOut ws) (values-from ws (o + size ws * i) s)
+-- the values that were read by an older layout, with 0 for those that it lacks, are laid out by it as those that were read
+laid-own : (ws xs : List Width) (o : ℕ) (s : List ℕ) → length ws ≤ length xs
+    → laidOut ws (padded xs (λ k. getD (valuesAt ws o s) k 0)) ≡ laidOut ws (valuesAt ws o s)
+laid-own [] xs o s h = refl
+laid-own (w ∷ ws) [] o s h = absurd (omega arith)
+laid-own (w ∷ ws) (x ∷ xs) o s h = ap (λ (l : List ℕ). bigEndian w (numberAt w o s) ++ l) (laid-own ws xs (o + bytes w) s (omega arith))
+
+-- a table at an offset, whose records f say what was read there by the layout ws
+module _ {A : Type 0} (ws xs : List Width) (few : length ws ≤ length xs) (values : A → List ℕ) (f : ℕ → A)
+    (o : ℕ) (s : List ℕ) (b : Bytes s)
+    (says : (i : ℕ) → values (f i) ≡ padded xs (λ k. getD (valuesAt ws 0 (drop (o + size ws * i) s)) k 0)) where
+  -- the contents of every slot are what the layout can say
+  slots-said : (n k i : ℕ) (d : A) → Fit ws (values d) → Fit ws (values (getD (listed f n ++ replicate k d) i d))
+  slots-said n k i d blank = below-or-not i n
+      (λ h. subst (λ (x : A). Fit ws (values x)) (sym (listed-at f n i d (replicate k d) h))
+      (subst (Fit ws) (sym (says i)) (values-own ws xs 0 (drop (o + size ws * i) s) few (drop-bytes (o + size ws * i) s b))))
+      (λ h. subst (λ (x : A). Fit ws (values x)) (sym (blank-at f n i k d h)) blank)
+
+  -- the records are written as the bytes of the table
+  table-back : (n : ℕ) (rest : List A) (d : A) → o + size ws * n ≤ length s
+      → joined (λ (i : ℕ). laidOut ws (values (getD (listed f n ++ rest) i d))) n ≡ take (size ws * n) (drop o s)
+  table-back n rest d h =
+      joined-same _ (λ (i : ℕ). take (size ws) (drop (o + size ws * i) s)) n (λ i q.
+      ap (λ (x : A). laidOut ws (values x)) (listed-at f n i d rest q)
+      ∙ ap (laidOut ws) (says i)
+      ∙ laid-own ws xs 0 (drop (o + size ws * i) s) few
+      ∙ ap (laidOut ws) (values-from ws (o + size ws * i) s)
       ∙ laid-back ws (o + size ws * i) s b (omega (arith, mul-suc (size ws) i, mul-le-mul-left (size ws) q)))
       ∙ pieces-joined (size ws) n o s
 
@@ -70,7 +90,7 @@ abbrev assetPart : ℕ → Book → List ℕ
 assetPart v b = joined (λ (i : ℕ). laidOut (assetWidths v) (assetValues (assetAt (b .assets) i))) (assetsIn b)
 
 abbrev entryPart : ℕ → Book → List ℕ
-entryPart v b = joined (λ (i : ℕ). laidOut (entryWidths v) (entryValues (getD (b .entries) i noEntry))) (entriesIn b)
+entryPart v b = joined (λ (i : ℕ). laidOut (entryWidths v) (entryValues v (getD (b .entries) i noEntry))) (entriesIn b)
 
 abbrev playerPart : ℕ → Book → List ℕ
 playerPart v b = joined (λ (p : ℕ). laidOut (playerWidths v) (playerValues (playerAt (b .players) p))) 16
@@ -85,23 +105,26 @@ header-parts v assets entries b = refl
 module _ (v : ℕ) (oldest : 1 ≤ v) (known : v ≤ newest) where
   tail-enough : (b : Book) → length (headerTail v) ≤ length (tailValues b)
   tail-enough b =
-      by-version (λ v. length (headerTail v) ≤ length (tailValues b)) (omega arith) (omega arith) (omega arith) v oldest known
+      by-version (λ v. length (headerTail v) ≤ length (tailValues b)) (omega arith) (omega arith) (omega arith) (omega arith) v oldest known
 
   asset-enough : (a : Asset) → length (assetWidths v) ≤ length (assetValues a)
   asset-enough a =
-      by-version (λ v. length (assetWidths v) ≤ length (assetValues a)) (omega arith) (omega arith) (omega arith) v oldest known
+      by-version (λ v. length (assetWidths v) ≤ length (assetValues a)) (omega arith) (omega arith) (omega arith) (omega arith)
+      v oldest known
 
-  entry-enough : (e : Entry) → length (entryWidths v) ≤ length (entryValues e)
+  entry-enough : (e : Entry) → length (entryWidths v) ≤ length (entryValues v e)
   entry-enough e =
-      by-version (λ v. length (entryWidths v) ≤ length (entryValues e)) (omega arith) (omega arith) (omega arith) v oldest known
+      by-version (λ v. length (entryWidths v) ≤ length (entryValues v e)) (omega arith) (omega arith) (omega arith) (omega arith)
+      v oldest known
 
   player-enough : (p : Player) → length (playerWidths v) ≤ length (playerValues p)
   player-enough p =
-      by-version (λ v. length (playerWidths v) ≤ length (playerValues p)) (omega arith) (omega arith) (omega arith) v oldest known
+      by-version (λ v. length (playerWidths v) ≤ length (playerValues p)) (omega arith) (omega arith) (omega arith) (omega arith)
+      v oldest known
 
   header-sizes : headerSize v ≡ size headerStart + size (headerTail v)
   unfolding headerSize
-  header-sizes = by-version (λ v. headerSize v ≡ size headerStart + size (headerTail v)) refl refl refl v oldest known
+  header-sizes = by-version (λ v. headerSize v ≡ size headerStart + size (headerTail v)) refl refl refl refl v oldest known
 
   length-headerPart : (b : Book) → length (headerPart v b) ≡ headerSize v
   length-headerPart b =
@@ -118,8 +141,9 @@ module _ (v : ℕ) (oldest : 1 ≤ v) (known : v ≤ newest) where
   length-entryPart : (b : Book) → length (entryPart v b) ≡ entrySize v * entriesIn b
   unfolding entrySize
   length-entryPart b =
-      length-joined (λ (i : ℕ). laidOut (entryWidths v) (entryValues (getD (b .entries) i noEntry))) (entrySize v)
-      (λ i. length-laid (entryWidths v) (entryValues (getD (b .entries) i noEntry)) (entry-enough (getD (b .entries) i noEntry))) (entriesIn b)
+      length-joined (λ (i : ℕ). laidOut (entryWidths v) (entryValues v (getD (b .entries) i noEntry))) (entrySize v)
+      (λ i. length-laid (entryWidths v) (entryValues v (getD (b .entries) i noEntry)) (entry-enough (getD (b .entries) i noEntry)))
+      (entriesIn b)
 
   length-playerPart : (b : Book) → length (playerPart v b) ≡ playerSize v * 16
   unfolding playerSize
@@ -151,7 +175,7 @@ image-length : (b : Book) → length (image b) ≡ lengthOf b
 unfolding lengthOf
 image-length b = ap length (sym (as-newest b)) ∙ length-as newest (omega arith) (omega arith) b
 
-length-bounds : (b : Book) → (527 ≤ lengthOf b) × (lengthOf b ≤ 4879)
+length-bounds : (b : Book) → (527 ≤ lengthOf b) × (lengthOf b ≤ 5391)
 unfolding lengthOf imageLength assetsIn entriesIn headerSize assetSize entrySize playerSize
 length-bounds b = (omega arith, omega arith)
 
@@ -170,7 +194,7 @@ start-fits v assets entries time known ha he ht = omega arith
 asset-whole : (x : Asset) (vs : List ℕ) → ((k : ℕ) → getD vs k 0 ≡ getD (assetValues x) k 0) → assetOf vs ≡ x
 asset-whole x vs h = λ i. assetOf (padded (assetWidths newest) (λ k. h k i))
 
-entry-whole : (x : Entry) (vs : List ℕ) → ((k : ℕ) → getD vs k 0 ≡ getD (entryValues x) k 0) → entryOf vs ≡ x
+entry-whole : (x : Entry) (vs : List ℕ) → ((k : ℕ) → getD vs k 0 ≡ getD (entryValues newest x) k 0) → entryOf vs ≡ x
 entry-whole x vs h = λ i. entryOf (padded (entryWidths newest) (λ k. h k i))
 
 player-whole : (x : Player) (vs : List ℕ) → ((k : ℕ) → getD vs k 0 ≡ getD (playerValues x) k 0) → playerOf vs ≡ x
@@ -262,16 +286,29 @@ module _ (v : ℕ) (oldest : 1 ≤ v) (known : v ≤ newest) (b : Book) (l : Leg
         (length-headerPart v oldest known b) h (y .assets i)))
         ∙ slots-back (b .assets) n (64 - n) noAsset slots (λ i h. l .assetsBlank i (rw (← assets-in) h))
 
-    entries-back : entryTable v laid (entriesFrom v laid) (entriesIn b) ≡ b .entries
+    -- the entries as the version says them
+    abbrev entriesSaid : List Entry
+    entriesSaid = listed (λ (i : ℕ). entrySaid v (getD (b .entries) i noEntry)) (entriesIn b) ++ replicate (64 - entriesIn b) noEntry
+
+    entries-back : entryTable v laid (entriesFrom v laid) (entriesIn b) ≡ entriesSaid
     unfolding entryTable imageAs entryIn entrySize
     entries-back =
+        ap (λ (x : List Entry). x ++ replicate (64 - entriesIn b) noEntry)
+        (listed-same _ _ (entriesIn b) (λ i h.
+        record-back (entryWidths v) (entryValues newest) entryOf entry-whole (entry-enough v oldest known)
+        (λ (i : ℕ). entrySaid v (getD (b .entries) i noEntry)) (entriesIn b)
+        i (entriesFrom v laid) (headerPart v b ++ assetPart v b) (playerPart v b)
+        (before-entries v oldest known b ∙ sym entries-from) h (y .entries i)))
+
+    -- where it says no marks, those of the open uses make them the entries of the book
+    entries-kept : listed (λ (i : ℕ). entryRead v (b .players) i (entrySaid v (getD (b .entries) i noEntry))) (entriesIn b)
+        ++ replicate (64 - entriesIn b) noEntry ≡ b .entries
+    entries-kept =
         let n = entriesIn b in
         let slots : length (b .entries) ≡ n + (64 - n) = l .entrySlots ∙ omega (arith, entries-in, l .entryCount) in
         ap (λ (x : List Entry). x ++ replicate (64 - n) noEntry)
         (listed-same _ (λ (i : ℕ). getD (b .entries) i noEntry) n (λ i h.
-        record-back (entryWidths v) entryValues entryOf entry-whole (entry-enough v oldest known) (λ (i : ℕ). getD (b .entries) i noEntry) n
-        i (entriesFrom v laid) (headerPart v b ++ assetPart v b) (playerPart v b)
-        (before-entries v oldest known b ∙ sym entries-from) h (y .entries i)))
+        entry-kept v oldest known (b .players) i (getD (b .entries) i noEntry) (legal-marks b l i h)))
         ∙ slots-back (b .entries) n (64 - n) noEntry slots (λ i h. l .entriesBlank i (rw (← entries-in) h))
 
     players-back : playerTable v laid (playersFrom v laid) ≡ b .players
@@ -288,7 +325,7 @@ module _ (v : ℕ) (oldest : 1 ≤ v) (known : v ≤ newest) (b : Book) (l : Leg
         ∙ sym (append-nil (listed (playerAt (b .players)) 16))
         ∙ slots-back (b .players) 16 0 noPlayer (l .playerSlots) past
 
-    as-back : bookAs v laid ≡ b
+    as-back : bookAs v laid ≡ changed b (b .time) entriesSaid (b .players)
     unfolding bookAs
     as-back = λ i. record {
       time = time-back i;
@@ -301,8 +338,13 @@ module _ (v : ℕ) (oldest : 1 ≤ v) (known : v ≤ newest) (b : Book) (l : Leg
     }
 
     book-back : bookIn laid ≡ b
-    unfolding bookIn
-    book-back = ap (λ (w : ℕ). bookAs w laid) version-back ∙ as-back
+    unfolding bookIn entriesIn
+    book-back =
+        ap (λ (w : ℕ). marked w (bookAs w laid)) version-back
+        ∙ ap (marked v) as-back
+        ∙ marked-table v (entriesIn b) (64 - entriesIn b) (changed b (b .time) entriesSaid (b .players))
+        (λ i. entrySaid v (getD (b .entries) i noEntry)) refl refl
+        ∙ ap (λ (es : List Entry). changed b (b .time) es (b .players)) entries-kept
 
     mark-back : markIn laid ≡ true
     unfolding markIn
@@ -311,7 +353,7 @@ module _ (v : ℕ) (oldest : 1 ≤ v) (known : v ≤ newest) (b : Book) (l : Leg
     version-known : not (between 1 newest (versionIn laid)) ≡ false
     version-known =
         ap (λ (w : ℕ). not (between 1 newest w)) version-back
-        ∙ by-version (λ w. not (between 1 newest w) ≡ false) refl refl refl v oldest known
+        ∙ by-version (λ w. not (between 1 newest w) ≡ false) refl refl refl refl v oldest known
 
     none-large : (ltb 64 (assetCountIn laid) || ltb 64 (entryCountIn laid) || ltb latestTime (timeIn laid)) ≡ false
     none-large =
@@ -369,33 +411,62 @@ module _ (b : Book) (l : Legal b) where
         (laid-bytes headerStart start fits)
         (laid-bytes (headerTail v) (tailValues b) (y .header))))
         (joined-bytes _ (λ i. laid-bytes (assetWidths v) (assetValues (assetAt (b .assets) i)) (y .assets i)) (assetsIn b)))
-        (joined-bytes _ (λ i. laid-bytes (entryWidths v) (entryValues (getD (b .entries) i noEntry)) (y .entries i)) (entriesIn b)))
+        (joined-bytes _ (λ i. laid-bytes (entryWidths v) (entryValues v (getD (b .entries) i noEntry)) (y .entries i)) (entriesIn b)))
         (joined-bytes _ (λ i. laid-bytes (playerWidths v) (playerValues (playerAt (b .players) i)) (y .players i)) 16))
 
--- ## Read by the layout of any version
+-- ## What an older version can say
 
-module _ {A : Type 0} (ws xs : List Width) (few : length ws ≤ length xs) (values : A → List ℕ) (of : List ℕ → A)
-    (again : (vs : List ℕ) → values (of vs) ≡ padded xs (λ k. getD vs k 0)) (d : A) (blank : Fit ws (values d)) where
-  -- the contents of every slot of a table that was read are what its layout can say
-  slots-said : (s : List ℕ) → Bytes s → (o n k i : ℕ)
-      → Fit ws (values (getD (listed (λ (j : ℕ). of (valuesAt ws 0 (drop (o + size ws * j) s))) n ++ replicate k d) i d))
-  slots-said s b o n k i =
-      let f : ℕ → A = λ (j : ℕ). of (valuesAt ws 0 (drop (o + size ws * j) s)) in
-      let said : (t : List ℕ) → Bytes t → Fit ws (values (of (valuesAt ws 0 t))) =
-      λ t c. subst (Fit ws) (sym (again (valuesAt ws 0 t))) (values-own ws xs 0 t few c) in
-      below-or-not i n
-      (λ h. subst (λ (x : A). Fit ws (values x)) (sym (listed-at f n i d (replicate k d) h))
-      (said (drop (o + size ws * i) s) (drop-bytes (o + size ws * i) s b)))
-      (λ h. subst (λ (x : A). Fit ws (values x)) (sym (blank-at f n i k d h)) blank)
+-- each layout up to the newest is an older one of the newest: one test of all versions
+layouts : all (λ v. older (headerTail v) (headerTail newest) && older (assetWidths v) (assetWidths newest)
+    && older (entryWidths v) (entryWidths newest) && older (playerWidths v) (playerWidths newest)) (suc newest) ≡ true
+unfolding all
+layouts = refl
+
+-- so what it can say of a legal book fits its type
+said-typed : (v : ℕ) (b : Book) → v ≤ newest → Legal b → SaidBy v b → Typed b
+said-typed v b known l y =
+    let all-old = row-passed _ (older (assetWidths v) (assetWidths newest) ∷ older (entryWidths v) (entryWidths newest) ∷ older
+    (playerWidths v) (playerWidths newest) ∷ [])
+    (all-below _ (suc newest) layouts v (omega (arith, known))) in
+    record {
+      header = fits-wider (headerTail v) (headerTail newest) (tailValues b) (all-old .0) refl (y .header);
+      assets = λ i. fits-wider (assetWidths v) (assetWidths newest) (assetValues (assetAt (b .assets) i)) (all-old .1 .0) refl (y .assets i);
+      entries = λ i.
+          marks-typed v (getD (b .entries) i noEntry) (marks-fit b l i)
+          (fits-wider (entryWidths v) (entryWidths newest) (entryValues v (getD (b .entries) i noEntry)) (all-old .1 .1 .0) refl
+          (y .entries i));
+      players = λ i. fits-wider (playerWidths v) (playerWidths newest) (playerValues (playerAt (b .players) i)) (all-old .1 .1 .1 .0) refl (y .players i);
+    }
+
+-- ## An image of any version, read and laid out again
 
 -- n filled slots and the blank ones after them make up the whole table
 slots-all : (n : ℕ) → n ≤ 64 → n + (64 - n) ≡ 64
 slots-all n h = omega arith
 
 module _ (s : List ℕ) (b : Bytes s) (p : HeaderPassed s) where
+  abbrev v : ℕ
+  v = versionIn s
+
+  abbrev playersRead : List Player
+  playersRead = playerTable v s (playersFrom v s)
+
+  -- the entry at a position, its marks set
+  abbrev entryAt : ℕ → Entry
+  entryAt i = entryRead v playersRead i (entryIn v (drop (entriesFrom v s + entrySize v * i) s))
+
+  -- the book that is read
+  abbrev read : Book
+  read = changed (bookAs v s) (timeIn s) (listed entryAt (entryCountIn s) ++ replicate (64 - entryCountIn s) noEntry) playersRead
+
+  book-read : bookIn s ≡ read
+  unfolding bookIn bookAs entryTable entriesIn
+  book-read = marked-table v (entryCountIn s) (64 - entryCountIn s) (bookAs v s)
+      (λ i. entryIn v (drop (entriesFrom v s + entrySize v * i) s)) (min-eq-left (p .entries)) refl
+
   read-legal : ruleBroken (bookIn s) ≡ 0 → Legal (bookIn s)
-  unfolding bookIn bookAs assetTable entryTable playerTable
-  read-legal rules = record {
+  unfolding bookAs assetTable playerTable
+  read-legal rules = subst Legal (sym book-read) (record {
     assetSlots = length-slots _ (assetCountIn s) (64 - assetCountIn s) noAsset ∙ slots-all (assetCountIn s) (p .assets);
     entrySlots = length-slots _ (entryCountIn s) (64 - entryCountIn s) noEntry ∙ slots-all (entryCountIn s) (p .entries);
     playerSlots = length-listed _ 16;
@@ -404,88 +475,51 @@ module _ (s : List ℕ) (b : Bytes s) (p : HeaderPassed s) where
     time = p .time;
     assetsBlank = λ i h. blank-at _ (assetCountIn s) i (64 - assetCountIn s) noAsset h;
     entriesBlank = λ i h. blank-at _ (entryCountIn s) i (64 - entryCountIn s) noEntry h;
-    rules = rules;
-  }
+    rules = subst (λ (x : Book). ruleBroken x ≡ 0) book-read rules;
+  })
 
-  read-said : SaidBy (versionIn s) (bookIn s)
-  unfolding bookIn bookAs assetTable entryTable playerTable assetIn entryIn playerIn headerSize assetSize entrySize playerSize
-  read-said =
-      let v = versionIn s in
-      let few-assets = asset-enough v (p .oldest) (p .known) noAsset in
-      let few-entries = entry-enough v (p .oldest) (p .known) noEntry in
-      let few-players = player-enough v (p .oldest) (p .known) noPlayer in
-      record {
-        header = values-own (headerTail v) (headerTail newest) (size headerStart) s (tail-enough v (p .oldest) (p .known) (bookIn s)) b;
-        assets = slots-said (assetWidths v) (assetWidths newest) few-assets assetValues assetOf (λ vs. refl) noAsset
-            (zeros-said (assetWidths v) (length (assetWidths newest)) few-assets) s b (headerSize v) (assetCountIn s) (64 - assetCountIn s);
-        entries = slots-said (entryWidths v) (entryWidths newest) few-entries entryValues entryOf (λ vs. refl) noEntry
-            (zeros-said (entryWidths v) (length (entryWidths newest)) few-entries) s b (entriesFrom v s) (entryCountIn s)
-            (64 - entryCountIn s);
-        players = λ i.
-            subst (λ (l : List Player). Fit (playerWidths v) (playerValues (playerAt l i)))
-            (append-nil (playerTable v s (playersFrom v s)))
-            (slots-said (playerWidths v) (playerWidths newest) few-players playerValues playerOf (λ vs. refl) noPlayer
-            (zeros-said (playerWidths v) (length (playerWidths newest)) few-players) s b (playersFrom v s) 16 0 i);
-      }
+  -- a version has no more widths than a book has values
+  few-assets : length (assetWidths v) ≤ length (assetWidths newest)
+  few-assets = asset-enough v (p .oldest) (p .known) noAsset
 
--- each layout up to the newest is an older one of the newest: one test of all versions
-layouts : all (λ v. older (headerTail v) (headerTail newest) && older (assetWidths v) (assetWidths newest)
-    && older (entryWidths v) (entryWidths newest) && older (playerWidths v) (playerWidths newest)) (suc newest) ≡ true
-unfolding all
-layouts = refl
+  few-entries : length (entryWidths v) ≤ length (entryWidths newest)
+  few-entries = entry-enough v (p .oldest) (p .known) noEntry
 
--- so what an older version can say of a book fits its type
-said-typed : (v : ℕ) (b : Book) → v ≤ newest → SaidBy v b → Typed b
-said-typed v b known y =
-    let all-old = row-passed _ (older (assetWidths v) (assetWidths newest) ∷ older (entryWidths v) (entryWidths newest) ∷ older
-    (playerWidths v) (playerWidths newest) ∷ [])
-    (all-below _ (suc newest) layouts v (omega (arith, known))) in
-    record {
-      header = fits-wider (headerTail v) (headerTail newest) (tailValues b) (all-old .0) refl (y .header);
-      assets = λ i. fits-wider (assetWidths v) (assetWidths newest) (assetValues (assetAt (b .assets) i)) (all-old .1 .0) refl (y .assets i);
-      entries = λ i. fits-wider (entryWidths v) (entryWidths newest) (entryValues (getD (b .entries) i noEntry)) (all-old .1 .1 .0) refl (y .entries i);
-      players = λ i. fits-wider (playerWidths v) (playerWidths newest) (playerValues (playerAt (b .players) i)) (all-old .1 .1 .1 .0) refl (y .players i);
-    }
+  few-players : length (playerWidths v) ≤ length (playerWidths newest)
+  few-players = player-enough v (p .oldest) (p .known) noPlayer
 
--- ## An image of any version, read and laid out again
+  few-tail : length (headerTail v) ≤ length (headerTail newest)
+  few-tail = tail-enough v (p .oldest) (p .known) noBook
 
--- the fields of each version, read and laid out again, are the same bytes
-module _ (v : ℕ) (h : 1 ≤ v) (k : v ≤ newest) where
-  tail-same : (s : List ℕ) → laidOut (headerTail v) (tailValues (bookAs v s)) ≡ laidOut (headerTail v) (tailIn v s)
-  unfolding bookAs
-  tail-same s = by-version (λ v. laidOut (headerTail v) (tailValues (bookAs v s)) ≡ laidOut (headerTail v) (tailIn v s)) refl refl refl v
-      h k
+  -- an entry says what was read: the version says none of the marks that are set
+  entry-says : (i : ℕ) → entryValues v (entryAt i)
+      ≡ padded (entryWidths newest) (λ k. getD (valuesAt (entryWidths v) 0 (drop (entriesFrom v s + entrySize v * i) s)) k 0)
+  unfolding entryIn
+  entry-says i =
+      let t = drop (entriesFrom v s + entrySize v * i) s in
+      by-version (λ v. entryValues v (entryRead v playersRead i (entryOf (valuesAt (entryWidths v) 0 t)))
+      ≡ padded (entryWidths newest) (λ k. getD (valuesAt (entryWidths v) 0 t) k 0))
+      refl refl refl refl v (p .oldest) (p .known)
 
-  asset-same : (o : ℕ) (s : List ℕ)
-      → laidOut (assetWidths v) (assetValues (assetOf (valuesAt (assetWidths v) o s))) ≡ laidOut (assetWidths v)
-      (valuesAt (assetWidths v) o s)
-  asset-same o s = by-version
-      (λ v. laidOut (assetWidths v) (assetValues (assetOf (valuesAt (assetWidths v) o s))) ≡ laidOut (assetWidths v)
-      (valuesAt (assetWidths v) o s))
-      refl refl refl v h k
+  blank-said : Fit (entryWidths v) (entryValues v noEntry)
+  blank-said = by-version (λ v. Fit (entryWidths v) (entryValues v noEntry)) (omega arith) (omega arith) (omega arith) (omega arith)
+      v (p .oldest) (p .known)
 
-  entry-same : (o : ℕ) (s : List ℕ)
-      → laidOut (entryWidths v) (entryValues (entryOf (valuesAt (entryWidths v) o s))) ≡ laidOut (entryWidths v)
-      (valuesAt (entryWidths v) o s)
-  entry-same o s = by-version
-      (λ v. laidOut (entryWidths v) (entryValues (entryOf (valuesAt (entryWidths v) o s))) ≡ laidOut (entryWidths v)
-      (valuesAt (entryWidths v) o s))
-      refl refl refl v h k
-
-  player-same : (o : ℕ) (s : List ℕ)
-      → laidOut (playerWidths v) (playerValues (playerOf (valuesAt (playerWidths v) o s))) ≡ laidOut (playerWidths v)
-      (valuesAt (playerWidths v) o s)
-  player-same o s = by-version
-      (λ v. laidOut (playerWidths v) (playerValues (playerOf (valuesAt (playerWidths v) o s))) ≡ laidOut (playerWidths v)
-      (valuesAt (playerWidths v) o s))
-      refl refl refl v h k
-
-module _ (s : List ℕ) (b : Bytes s) (p : HeaderPassed s) where
-  abbrev v : ℕ
-  v = versionIn s
-
-  abbrev read : Book
-  read = bookAs (versionIn s) s
+  read-said : SaidBy v (bookIn s)
+  unfolding bookAs assetTable playerTable assetIn playerIn headerSize assetSize entrySize playerSize
+  read-said = subst (SaidBy v) (sym book-read) (record {
+    header = values-own (headerTail v) (headerTail newest) (size headerStart) s few-tail b;
+    assets = λ i.
+        slots-said (assetWidths v) (assetWidths newest) few-assets assetValues _ (headerSize v) s b (λ j. refl)
+        (assetCountIn s) (64 - assetCountIn s) i noAsset (zeros-said (assetWidths v) (length (assetWidths newest)) few-assets);
+    entries = λ i.
+        slots-said (entryWidths v) (entryWidths newest) few-entries (entryValues v) entryAt (entriesFrom v s) s b entry-says
+        (entryCountIn s) (64 - entryCountIn s) i noEntry blank-said;
+    players = λ i.
+        subst (λ (l : List Player). Fit (playerWidths v) (playerValues (playerAt l i))) (append-nil playersRead)
+        (slots-said (playerWidths v) (playerWidths newest) few-players playerValues _ (playersFrom v s) s b (λ j. refl)
+        16 0 i noPlayer (zeros-said (playerWidths v) (length (playerWidths newest)) few-players));
+  })
 
   assets-read : assetsIn read ≡ assetCountIn s
   unfolding assetsIn bookAs
@@ -506,13 +540,12 @@ module _ (s : List ℕ) (b : Bytes s) (p : HeaderPassed s) where
       ap (laidOut headerStart) (sym (p .header)) ∙ laid-back headerStart 0 s b (omega (arith, ends, header-sizes v (p .oldest) (p .known)))
 
   tail-again : laidOut (headerTail v) (tailValues read) ≡ take (size (headerTail v)) (drop (size headerStart) s)
-  unfolding entriesFrom playersFrom
+  unfolding bookAs entriesFrom playersFrom
   tail-again =
-      tail-same v (p .oldest) (p .known) s
+      laid-own (headerTail v) (headerTail newest) (size headerStart) s few-tail
       ∙ laid-back (headerTail v) (size headerStart) s b (omega (arith, ends, header-sizes v (p .oldest) (p .known)))
 
-  header-again : laidOut (headerWidths v) (startValues v (assetsIn read) (entriesIn read) (read .time) ++ tailValues read) ≡ take
-      (headerSize v) s
+  header-again : headerPart v read ≡ take (headerSize v) s
   unfolding bookAs
   header-again =
       ap₂ (λ (n m : ℕ). laidOut headerStart (startValues v n m (timeIn s)) ++ laidOut (headerTail v) (tailValues read))
@@ -521,41 +554,35 @@ module _ (s : List ℕ) (b : Bytes s) (p : HeaderPassed s) where
       ∙ sym (take-add (size headerStart) (size (headerTail v)) s)
       ∙ ap (λ (n : ℕ). take n s) (sym (header-sizes v (p .oldest) (p .known)))
 
-  assets-again : joined (λ (i : ℕ). laidOut (assetWidths v) (assetValues (assetAt (read .assets) i))) (assetsIn read)
-      ≡ take (assetSize v * assetCountIn s) (drop (headerSize v) s)
+  assets-again : assetPart v read ≡ take (assetSize v * assetCountIn s) (drop (headerSize v) s)
   unfolding assetIn assetTable bookAs entriesFrom playersFrom assetSize
   assets-again =
       ap (joined (λ (i : ℕ). laidOut (assetWidths v) (assetValues (assetAt (read .assets) i)))) assets-read
-      ∙ table-back (assetWidths v) assetValues assetOf (asset-same v (p .oldest) (p .known)) (assetAt (read .assets)) (assetCountIn s)
-      (headerSize v) s b
-      (omega (arith, ends)) (λ i h. listed-at _ (assetCountIn s) i noAsset _ h)
+      ∙ table-back (assetWidths v) (assetWidths newest) few-assets assetValues _ (headerSize v) s b (λ j. refl)
+      (assetCountIn s) (replicate (64 - assetCountIn s) noAsset) noAsset (omega (arith, ends))
 
-  entries-again : joined (λ (i : ℕ). laidOut (entryWidths v) (entryValues (getD (read .entries) i noEntry))) (entriesIn read)
-      ≡ take (entrySize v * entryCountIn s) (drop (entriesFrom v s) s)
-  unfolding entryIn entryTable bookAs playersFrom entrySize
+  entries-again : entryPart v read ≡ take (entrySize v * entryCountIn s) (drop (entriesFrom v s) s)
+  unfolding bookAs playersFrom entrySize
   entries-again =
-      ap (joined (λ (i : ℕ). laidOut (entryWidths v) (entryValues (getD (read .entries) i noEntry)))) entries-read
-      ∙ table-back (entryWidths v) entryValues entryOf (entry-same v (p .oldest) (p .known)) (λ (i : ℕ). getD (read .entries) i noEntry)
-      (entryCountIn s)
-      (entriesFrom v s) s b (omega (arith, ends)) (λ i h. listed-at _ (entryCountIn s) i noEntry _ h)
+      ap (joined (λ (i : ℕ). laidOut (entryWidths v) (entryValues v (getD (read .entries) i noEntry)))) entries-read
+      ∙ table-back (entryWidths v) (entryWidths newest) few-entries (entryValues v) entryAt (entriesFrom v s) s b entry-says
+      (entryCountIn s) (replicate (64 - entryCountIn s) noEntry) noEntry (omega (arith, ends))
 
-  players-again : joined (λ (i : ℕ). laidOut (playerWidths v) (playerValues (playerAt (read .players) i))) 16
-      ≡ take (playerSize v * 16) (drop (playersFrom v s) s)
+  players-again : playerPart v read ≡ take (playerSize v * 16) (drop (playersFrom v s) s)
   unfolding playerIn playerTable bookAs playerSize
   players-again =
-      table-back (playerWidths v) playerValues playerOf (player-same v (p .oldest) (p .known)) (playerAt (read .players)) 16
-      (playersFrom v s) s b
-      (omega (arith, ends))
-      (λ i h. ap (λ (l : List Player). getD l i noPlayer) (sym (append-nil (playerTable v s (playersFrom v s)))) ∙ listed-at _ 16 i
-      noPlayer [] h)
+      ap (λ (l : List Player). joined (λ (i : ℕ). laidOut (playerWidths v) (playerValues (playerAt l i))) 16) (sym (append-nil playersRead))
+      ∙ table-back (playerWidths v) (playerWidths newest) few-players playerValues _ (playersFrom v s) s b (λ j. refl)
+      16 [] noPlayer (omega (arith, ends))
 
   image-again : imageAs v (bookIn s) ≡ s
-  unfolding imageAs entriesFrom playersFrom bookIn
+  unfolding imageAs entriesFrom playersFrom
   image-again =
       let n = assetSize v * assetCountIn s in
       let m = entrySize v * entryCountIn s in
       let k = playerSize v * 16 in
-      ap₂ _++_ (ap₂ _++_ (ap₂ _++_ header-again assets-again) entries-again) players-again
+      ap (imageAs v) book-read
+      ∙ ap₂ _++_ (ap₂ _++_ (ap₂ _++_ header-again assets-again) entries-again) players-again
       ∙ ap (λ (x : List ℕ). x ++ take m (drop (entriesFrom v s) s) ++ take k (drop (playersFrom v s) s)) (sym (take-add (headerSize v) n s))
       ∙ ap (λ (x : List ℕ). x ++ take k (drop (playersFrom v s) s)) (sym (take-add (entriesFrom v s) m s))
       ∙ sym (take-add (playersFrom v s) k s)
@@ -577,10 +604,9 @@ said held s b e =
 accepted-legal : (held : Book) (s : List ℕ) → Bytes s → readCode s ≡ 0 → Legal (readBook held s) × Typed (readBook held s)
 accepted-legal held s b e =
     let z = accepted-stages s e in
-    let p = header-passed s (z .0) in (
-      subst Legal (sym (accepted-book held s e)) (read-legal s b p (z .1)),
-      said-typed (versionIn s) (readBook held s) (p .known) (said held s b e),
-    )
+    let p = header-passed s (z .0) in
+    let legal = subst Legal (sym (accepted-book held s e)) (read-legal s b p (z .1)) in
+    (legal, said-typed (versionIn s) (readBook held s) (p .known) legal (said held s b e))
 
 older-same : (held next : Book) (s : List ℕ) → Bytes s → readCode s ≡ 0
     → (readCode (image (readBook held s)) ≡ 0)

@@ -3,7 +3,8 @@
 use mathlib.Core.Path.{_≡_, refl, sym, ap, _∙_, fun-ext}
 use Prim.Native.Nat.{ℕ, zero, suc, _+_, _≤_, _<_, zero-le}
 use mathlib.Core.Bool.{Bool, true, false}
-use mathlib.Core.List.{List, [], _∷_, map}
+use mathlib.Core.List.{List, [], _∷_, map, _++_}
+use mathlib.Core.Option.{Option, none, some}
 use lib.ListN.{length, getD, set, length-set, length-map, List·getD-map}
 use lib.Seq.{getD-set-same, getD-set-other, set-out}
 use lib.Dec.{ltb}
@@ -17,13 +18,14 @@ use Rattle.book.specs.declared.Open.{Open}
 use Rattle.book.specs.declared.Player.{Player}
 use Rattle.book.specs.Blank.{noEntry, noPlayer}
 use Rattle.model.specs.Book.{limitsAt, metersAt, flagged}
-use Rattle.model.specs.Meters.{where-flagged, amend, ended, expired, released, shut, settled}
+use Rattle.model.specs.Meters.{where-flagged, amend, ended, expired, released, shut, settledFrom, settled}
 use Rattle.model.specs.Step.{lastAt, openAt}
 use Rattle.model.specs.Choice.{Choice, nobody, chosen, prefer, chooseOf}
 use Rattle.model.proofs.Ledger.Facts.{on-test, on-same, clash, meters-path, upd, upd-same, upd-other}
-use Rattle.model.specs.Ledger.{Use, countsTimed}
+use Rattle.model.specs.Ledger.{Use, countsTimed, latest, openBy}
 use Rattle.model.specs.Demand3.{Every, figures, heldIn}
-use Rattle.model.proofs.Ledger.Sums.{all-map, all-latest, sum-ext, Tidy, tidy-later}
+use Rattle.model.proofs.Ledger.Sums.{all-map, all-latest, latest-player, sum-ext, Tidy, tidy-later}
+use Rattle.model.proofs.Ledger.Marks.{marks-same}
 use Rattle.model.proofs.Ledger.Figures.{stage, stage-done, stage-left}
 use Rattle.model.proofs.Ledger.Invariant.{Invariant, Sound, Within, releasedM, shutO, release-meters, release-within, shut-opens}
 use Rattle.model.proofs.Ledger.Invariant.{held-cases}
@@ -90,24 +92,41 @@ held-ext a b c d e h = rw (a, b, fun-ext c, fun-ext d, fun-ext e) h
 
 -- ## Settling
 
-released-size : (T : ℕ) (o : Open) (es : List Entry) → length (released T o es) ≡ length es
+pub released-size : (T p : ℕ) (o : Open) (es : List Entry) → length (released T p o es) ≡ length es
 unfolding released
-released-size T o es = on-test (expired T o) (λ x. rw x (amend-length (o .entry) (ended (o .begin) (o .until) (o .until)) es)) (λ x. rw x)
+released-size T p o es =
+    on-test (expired T o) (λ x. rw x (amend-length (o .entry) (ended p (o .begin) (o .until) (o .until)) es)) (λ x. rw x)
 
-released-limits : (T : ℕ) (o : Open) (es : List Entry) (i : ℕ) → limitsAt (released T o es) i ≡ limitsAt es i
+pub released-limits : (T p : ℕ) (o : Open) (es : List Entry) (i : ℕ) → limitsAt (released T p o es) i ≡ limitsAt es i
 unfolding released
-released-limits T o es i = on-test (expired T o) (λ x. rw x (amend-limits (o .entry) (ended (o .begin) (o .until) (o .until)) es i))
+released-limits T p o es i = on-test (expired T o) (λ x. rw x (amend-limits (o .entry) (ended p (o .begin) (o .until) (o .until)) es i))
     (λ x. rw x)
 
+settled-limits-from : (T p : ℕ) (ps : List Player) (es : List Entry) (i : ℕ) → limitsAt (settledFrom T p ps es) i ≡ limitsAt es i
+unfolding settledFrom
+settled-limits-from T p [] es i = refl
+settled-limits-from T p (x ∷ ps) es i =
+    settled-limits-from T (suc p) ps (released T p (x .current) es) i ∙ released-limits T p (x .current) es i
+
 pub settled-limits : (T : ℕ) (ps : List Player) (es : List Entry) (i : ℕ) → limitsAt (settled T ps es) i ≡ limitsAt es i
-unfolding settled
-settled-limits T [] es i = refl
-settled-limits T (x ∷ ps) es i = settled-limits T ps (released T (x .current) es) i ∙ released-limits T (x .current) es i
+settled-limits T ps es i = settled-limits-from T 0 ps es i
+
+settled-size-from : (T p : ℕ) (ps : List Player) (es : List Entry) → length (settledFrom T p ps es) ≡ length es
+unfolding settledFrom
+settled-size-from T p [] es = refl
+settled-size-from T p (x ∷ ps) es = settled-size-from T (suc p) ps (released T p (x .current) es) ∙ released-size T p (x .current) es
 
 pub settled-size : (T : ℕ) (ps : List Player) (es : List Entry) → length (settled T ps es) ≡ length es
-unfolding settled
-settled-size T [] es = refl
-settled-size T (x ∷ ps) es = settled-size T ps (released T (x .current) es) ∙ released-size T (x .current) es
+settled-size T ps es = settled-size-from T 0 ps es
+
+-- the first players, then the others
+pub settled-both : (T q : ℕ) (ps qs : List Player) (es : List Entry)
+    → settledFrom T q (ps ++ qs) es ≡ settledFrom T (q + length ps) qs (settledFrom T q ps es)
+unfolding settledFrom
+settled-both T q [] qs es = rw (add-zero q)
+settled-both T q (x ∷ ps) qs es =
+    let y : q + suc (length ps) ≡ suc q + length ps = omega arith in
+    rw y (settled-both T (suc q) ps qs (released T q (x .current) es))
 
 module _ (S T k n : ℕ) (lim : ℕ → Limits) (us : List Use) (later : S ≤ T) (tidy : Tidy S us) (sound : Every (Sound S k n lim) us) where
   -- players below q are settled
@@ -124,31 +143,31 @@ module _ (S T k n : ℕ) (lim : ℕ → Limits) (us : List Use) (later : S ≤ T
       (λ c g. clash x (rw c))
       (λ u s z c. rw c (all-latest (Sound S k n lim) q us u s sound .entry))
 
-  released-meters : (q : ℕ) (o : Open) (es : List Entry) → o ≡ heldIn S q us → Effect q es → (i : ℕ) → metersAt (released T o es) i ≡
-      releasedM T lim o (metersAt es) i
+  released-meters : (q : ℕ) (o : Open) (es : List Entry) → o ≡ heldIn S q us → Effect q es → (i : ℕ) → metersAt (released T q o es) i ≡
+      releasedM T lim q o (metersAt es) i
   unfolding released
   released-meters q o es e h i =
       on-test (expired T o)
-      (λ x. rw (x, ← h .limits (o .entry)) (amend-meters (o .entry) (ended (o .begin) (o .until) (o .until)) es
+      (λ x. rw (x, ← h .limits (o .entry)) (amend-meters (o .entry) (ended q (o .begin) (o .until) (o .until)) es
       (omega (arith, expired-entry q o e x, h .size)) i))
       (λ x. rw x)
 
-  release-part : (q : ℕ) (o : Open) (es : List Entry) → o ≡ heldIn S q us → Effect q es → Effect (suc q) (released T o es)
+  release-part : (q : ℕ) (o : Open) (es : List Entry) → o ≡ heldIn S q us → Effect q es → Effect (suc q) (released T q o es)
   release-part q o es e h = record {
-    size = released-size T o es ∙ h .size;
-    limits = λ i. released-limits T o es i ∙ h .limits i;
+    size = released-size T q o es ∙ h .size;
+    limits = λ i. released-limits T q o es i ∙ h .limits i;
     meters = λ i. released-meters q o es e h i ∙ release-meters S T lim us later tidy q o (metersAt es) e (h .meters) i;
     within = λ i. rw (released-meters q o es e h i) (release-within S T lim us later tidy q o (metersAt es) (h .within) i);
   }
 
   settle-part : (ps : List Player) (q : ℕ) (es : List Entry) → ((j : ℕ) → openAt ps j ≡ heldIn S (q + j) us) → Effect q es → Effect
-      (q + length ps) (settled T ps es)
-  unfolding settled
+      (q + length ps) (settledFrom T q ps es)
+  unfolding settledFrom
   settle-part [] q es e h = rw (add-zero q) h
   settle-part (x ∷ ps) q es e h =
       let z : (q + suc (length ps)) ≡ suc q + length ps = omega arith in
       rw z
-      (settle-part ps (suc q) (released T (x .current) es)
+      (settle-part ps (suc q) (released T q (x .current) es)
       (λ j. let y : suc q + j ≡ q + suc j = omega arith in rw y (e (suc j)))
       (release-part q (x .current) es (rw (add-zero q) at (e 0)) h))
 
@@ -171,6 +190,13 @@ figures-staged S T k n lim us i l h =
     (ap (where-flagged (flagged 2 l)) (sum-ext {P = Sound S k n lim} (countsTimed (stage S T k) (l .timer) i)
     (countsTimed (λ _. T) (l .timer) i) (λ u w. rw (stage-done S T k (u .player) (w .player))) us h))
     refl refl refl
+    (marks-same (λ _. T) (stage S T k) us us i (λ p. go p (latest p us) refl))
+  where
+    go : (p : ℕ) (s : Option Use) → latest p us ≡ s → openBy (stage S T k p) i s ≡ openBy T i s
+    go p none e = refl
+    go p (some u) e =
+        let w : u .player < k = all-latest (Sound S k n lim) p us u e h .player in
+        rw (stage-done S T k p (omega (arith, latest-player p us u e)))
 
 -- a settled book keeps the invariant, at the later time
 pub settled-held : (S T : ℕ) (es : List Entry) (ps : List Player) (us : List Use) → S ≤ T → Invariant S (length ps) (length es)

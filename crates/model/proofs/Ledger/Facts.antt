@@ -61,8 +61,8 @@ upd-other i a f j h = cond-off (eqb j i) a (f j) (ne-eqb j i h)
 
 -- meters are equal by their fields
 pub meters-path : {a b : Meters} → a .count ≡ b .count → a .timed ≡ b .timed → a .started ≡ b .started → a .first ≡ b .first → a
-    .seconds ≡ b .seconds → a ≡ b
-meters-path p q r s w = λ k. record { count = p k; timed = q k; started = r k; first = s k; seconds = w k }
+    .seconds ≡ b .seconds → a .marks ≡ b .marks → a ≡ b
+meters-path p q r s w x = λ k. record { count = p k; timed = q k; started = r k; first = s k; seconds = w k; marks = x k }
 
 -- a number that stands for a test
 pub one-is : (b : Bool) → eqb (one b) 1 ≡ b

@@ -7,7 +7,9 @@ use mathlib.Core.List.{List, [], _∷_}
 use mathlib.Core.Option.{Option, none, some, Option·none-ne-some}
 use lib.Dec.{leb, ltb, eqb}
 use native.Mathlib.Omega.{arith}
-use borrow.Author.Tests.{ltb-true, lt-ltb, le-ltb, leb-true, leb-false, le-leb}
+use borrow.Author.Tests.{ltb-true, lt-ltb, le-ltb, leb-true, leb-false, le-leb, ne-eqb}
+use Rattle.numbers.specs.Bits.{ones}
+use Rattle.numbers.proofs.BitLaws.{ones-off, ones-on}
 use Rattle.numbers.proofs.Tests.{Fail, none-pass}
 use Rattle.book.specs.declared.Limits.{Limits}
 use Rattle.book.specs.declared.Meters.{Meters}
@@ -56,6 +58,7 @@ pub record Within (l : Limits) (m : Meters) : Type 0 where
   pub count : flagged 1 l ≡ true → m .count ≤ l .count
   pub timed : flagged 2 l ≡ true → m .timed ≤ l .timed
   pub seconds : flagged 32 l ≡ true → m .seconds ≤ l .accumulated
+  pub together : (l .threshold ≡ 0 → ⊥) → ones (m .marks) ≤ l .threshold
 
 -- what is needed about an entry's limits: a momentary entry has timer 0, an end is a time, an interval is in its range
 pub record Lawful (l : Limits) : Type 0 where
@@ -73,19 +76,20 @@ pub record Invariant (T k n : ℕ) (lim : ℕ → Limits) (met : ℕ → Meters)
 
 -- ## Settling
 
-abbrev pub releasedM : ℕ → (ℕ → Limits) → Open → (ℕ → Meters) → ℕ → Meters
-releasedM T lim o met = cond (expired T o) (upd (o .entry) (ended (o .begin) (o .until) (o .until) (lim (o .entry)) (met (o .entry)))
+abbrev pub releasedM : ℕ → (ℕ → Limits) → ℕ → Open → (ℕ → Meters) → ℕ → Meters
+releasedM T lim q o met = cond (expired T o) (upd (o .entry) (ended q (o .begin) (o .until) (o .until) (lim (o .entry)) (met (o .entry)))
     met) met
 
 abbrev pub shutO : ℕ → Open → Open
 shutO T o = cond (expired T o) closed o
 
-pub within-ended : (b u e : ℕ) (l : Limits) (m : Meters) → Within l m → Within l (ended b u e l m)
+pub within-ended : (p b u e : ℕ) (l : Limits) (m : Meters) → Within l m → Within l (ended p b u e l m)
 unfolding ended
-within-ended b u e l m w = record {
+within-ended p b u e l m w = record {
   count = w .count;
   timed = λ f. omega (arith, w .timed f);
   seconds = λ f. omega (arith, w .seconds f);
+  together = λ f. omega (arith, w .together f, ones-off p (m .marks));
 }
 
 abbrev pub heldAs : Use → Open
@@ -115,7 +119,8 @@ open-over T u h = rw (le-ltb T (u .until) h) (and-false (not (u .stopped)))
 module _ (S T : ℕ) (lim : ℕ → Limits) (us : List Use) (later : S ≤ T) (tidy : Tidy S us) where
   -- player q's use is settled
   pub release-meters : (q : ℕ) (o : Open) (met : ℕ → Meters) → o ≡ heldIn S q us →
-      ((i : ℕ) → met i ≡ figures (stage S T q) us i (lim i)) → (i : ℕ) → releasedM T lim o met i ≡ figures (stage S T (suc q)) us i (lim i)
+      ((i : ℕ) → met i ≡ figures (stage S T q) us i (lim i))
+      → (i : ℕ) → releasedM T lim q o met i ≡ figures (stage S T (suc q)) us i (lim i)
   unfolding expired
   release-meters q o met e m i =
       held-cases S q us o e
@@ -131,14 +136,14 @@ module _ (S T : ℕ) (lim : ℕ → Limits) (us : List Use) (later : S ≤ T) (t
       (λ y. rw y (m i ∙ sym (settle-open S T q us (lim i) later tidy i u s z (open-still S T u z (leb-false (u .until) T y)))))))
 
   pub release-within : (q : ℕ) (o : Open) (met : ℕ → Meters) → ((i : ℕ) → Within (lim i) (met i)) → (i : ℕ) → Within (lim i)
-      (releasedM T lim o met i)
+      (releasedM T lim q o met i)
   release-within q o met w i =
       on-test (expired T o)
       (λ y. rw y
       (on-same i (o .entry)
-      (λ x. rw x (rw (upd-same (o .entry) (ended (o .begin) (o .until) (o .until) (lim (o .entry)) (met (o .entry))) met)
-      (within-ended (o .begin) (o .until) (o .until) (lim (o .entry)) (met (o .entry)) (w (o .entry)))))
-      (λ x. rw (upd-other (o .entry) (ended (o .begin) (o .until) (o .until) (lim (o .entry)) (met (o .entry))) met i x) (w i))))
+      (λ x. rw x (rw (upd-same (o .entry) (ended q (o .begin) (o .until) (o .until) (lim (o .entry)) (met (o .entry))) met)
+      (within-ended q (o .begin) (o .until) (o .until) (lim (o .entry)) (met (o .entry)) (w (o .entry)))))
+      (λ x. rw (upd-other (o .entry) (ended q (o .begin) (o .until) (o .until) (lim (o .entry)) (met (o .entry))) met i x) (w i))))
       (λ y. rw y (w i))
 
   pub shut-opens : (p : ℕ) (o : Open) → o ≡ heldIn S p us → shutO T o ≡ heldIn T p us
@@ -263,10 +268,10 @@ module _ {T k n : ℕ} {lim : ℕ → Limits} {met : ℕ → Meters} {opn : ℕ 
           (λ x. rw (upd-other (u .entry) (g (lim (u .entry)) (met (u .entry))) met i x) (h .within i));
     }
 
-  pub stopped-held : Invariant T k n lim (upd (u .entry) (ended (u .begin) (u .until) T (lim (u .entry)) (met (u .entry))) met)
+  pub stopped-held : Invariant T k n lim (upd (u .entry) (ended p (u .begin) (u .until) T (lim (u .entry)) (met (u .entry))) met)
       (upd p closed opn) (revise p (stopAt T) us)
   stopped-held =
-      revised (stopAt T) (stopAt-keeps T) (ended (u .begin) (u .until) T) closed
+      revised (stopAt T) (stopAt-keeps T) (ended p (u .begin) (u .until) T) closed
       (rw (stopped-shut T T u))
       (figures-ended (λ _. T) us (lim (u .entry)) p u T s o (own-sound .begun) (omega (arith, open-until T u o)))
       (record {
@@ -284,7 +289,7 @@ module _ {T k n : ℕ} {lim : ℕ → Limits} {met : ℕ → Meters} {opn : ℕ 
         allows = own-sound .allows;
       })
       (record { from = own-span .from; last = λ f. omega (arith, own-span .last f, open-until T u o) })
-      (within-ended (u .begin) (u .until) T (lim (u .entry)) (met (u .entry)) (h .within (u .entry)))
+      (within-ended p (u .begin) (u .until) T (lim (u .entry)) (met (u .entry)) (h .within (u .entry)))
 
   module _ (v : ℕ) (ev : v ≡ moreUntil T (u .until) (lim (u .entry)) (met (u .entry))) where
     -- the interval's first-use time, as the book has it
@@ -319,6 +324,7 @@ module _ {T k n : ℕ} {lim : ℕ → Limits} {met : ℕ → Meters} {opn : ℕ 
       count = h .within (u .entry) .count;
       timed = h .within (u .entry) .timed;
       seconds = λ f. rw f (omega (arith, h .within (u .entry) .seconds f, more-seconds f));
+      together = h .within (u .entry) .together;
     }
 
     pub continued-held : Invariant T k n lim (upd (u .entry) (continued (u .until) v (lim (u .entry)) (met (u .entry))) met)
@@ -398,6 +404,12 @@ module _ (ask : Ask) (l : Limits) (m : Meters) (ok : grantable ask l m ≡ true)
   unfolding groundsOf
   grant-seconds f = ltb-true (m .seconds) (l .accumulated) (passes (flagged 32 l) _ (tests .1 .1 .1 .1 .1 .0) f)
 
+  pub grant-room : (l .threshold ≡ 0 → ⊥) → ones (m .marks) < l .threshold
+  unfolding groundsOf
+  grant-room f =
+      ltb-true (ones (m .marks)) (l .threshold)
+      (passes (not (eqb (l .threshold) 0)) _ (tests .1 .1 .1 .1 .1 .1 .1 .1 .0) (ap not (ne-eqb (l .threshold) 0 f)))
+
   -- a limit of 0 is never granted
   pub grant-allows : ZeroLimit l → ⊥
   grant-allows (zero-count f z) = absurd (omega (arith, grant-count f))
@@ -441,12 +453,16 @@ module _ (ask : Ask) (l : Limits) (m : Meters) (ok : grantable ask l m ≡ true)
   pub until-seconds : flagged 32 l ≡ true → grantUntil T l m ≤ T + (l .accumulated - m .seconds)
   until-seconds f = on-test (momentary (l .kind)) (λ e. omega (arith, until-now e)) (λ e. rw (until-caps e) (caps-third _ _ _ _ _ _ _ f))
 
-  pub within-begun : Within l (begun T (grantUntil T l m) l m)
+  pub within-begun : (p : ℕ) → Within l (begun p T (grantUntil T l m) l m)
   unfolding begun
-  within-begun = record {
+  within-begun p = record {
     count = λ f. rw f (omega (arith, grant-count f));
     timed = λ f. rw f (omega (arith, grant-timed f));
     seconds = λ f. rw f (omega (arith, grant-seconds f, until-seconds f));
+    together = λ f.
+        on-test (momentary (l .kind))
+        (λ e. rw e (omega (arith, grant-room f)))
+        (λ e. rw e (omega (arith, grant-room f, ones-on p (m .marks))));
   }
 
 module _ (ask : Ask) {k n : ℕ} {lim : ℕ → Limits} {met : ℕ → Meters} {opn : ℕ → Open} {us : List Use}
@@ -469,12 +485,15 @@ module _ (ask : Ask) {k n : ℕ} {lim : ℕ → Limits} {met : ℕ → Meters} {
   begins : Every (λ u. u .begin ≤ now) us
   begins = all-map (λ u w. w .begun) us (h .sound)
 
-  new-held : newOpen ≡ heldBy now (some newUse)
+  new-runs : isOpen now newUse ≡ not (momentary (lim i .kind))
   unfolding isOpen
-  new-held =
+  new-runs =
       on-test (momentary (lim i .kind))
       (λ e. rw (e, le-ltb now (grantUntil now (lim i) (met i)) (omega (arith, until-now ask (lim i) (met i) ok e))))
       (λ e. rw (e, lt-ltb now (grantUntil now (lim i) (met i)) (until-after ask (lim i) (met i) ok e)))
+
+  new-held : newOpen ≡ heldBy now (some newUse)
+  new-held = rw new-runs (on-test (momentary (lim i .kind)) (λ e. rw e) (λ e. rw e))
 
   new-timed : countsTimed (λ _. now) (lim i .timer) i newUse ≡ 1
   unfolding isOpen
@@ -494,7 +513,7 @@ module _ (ask : Ask) {k n : ℕ} {lim : ℕ → Limits} {met : ℕ → Meters} {
         (until-span ask (lim i) (met i) ok f);
   }
 
-  pub begun-held : Invariant now k n lim (upd i (begun now (grantUntil now (lim i) (met i)) (lim i) (met i)) met) (upd who newOpen opn)
+  pub begun-held : Invariant now k n lim (upd i (begun who now (grantUntil now (lim i) (met i)) (lim i) (met i)) met) (upd who newOpen opn)
       (newUse ∷ us)
   begun-held = record {
     opens = λ q.
@@ -503,11 +522,11 @@ module _ (ask : Ask) {k n : ℕ} {lim : ℕ → Limits} {met : ℕ → Meters} {
         (λ x. upd-other who newOpen opn q x ∙ h .opens q ∙ rw (latest-new-other q newUse us (λ w. x (sym w))));
     meters = λ j.
         on-same j i
-        (λ x. rw x (upd-same i (begun now (grantUntil now (lim i) (met i)) (lim i) (met i)) met ∙ ap
-        (begun now (grantUntil now (lim i) (met i)) (lim i)) (h .meters i) ∙ sym
-        (figures-begun (λ _. now) us (lim i) newUse begins new-timed)))
-        (λ x. upd-other i (begun now (grantUntil now (lim i) (met i)) (lim i) (met i)) met j x ∙ h .meters j ∙ sym
-        (figures-new-other (λ _. now) us (lim j) newUse j (λ w. x (sym w))));
+        (λ x. rw x (upd-same i (begun who now (grantUntil now (lim i) (met i)) (lim i) (met i)) met ∙ ap
+        (begun who now (grantUntil now (lim i) (met i)) (lim i)) (h .meters i) ∙ sym
+        (figures-begun (λ _. now) us (lim i) newUse begins new-timed nobody new-runs)))
+        (λ x. upd-other i (begun who now (grantUntil now (lim i) (met i)) (lim i) (met i)) met j x ∙ h .meters j ∙ sym
+        (figures-new-other (λ _. now) us (lim j) newUse nobody j (λ w. x (sym w))));
     tidy = (all-shut now who us (h .tidy) nobody, h .tidy);
     sound = (
       record {
@@ -536,7 +555,7 @@ module _ (ask : Ask) {k n : ℕ} {lim : ℕ → Limits} {met : ℕ → Meters} {
     );
     within = λ j.
         on-same j i
-        (λ x. rw x (rw (upd-same i (begun now (grantUntil now (lim i) (met i)) (lim i) (met i)) met)
-        (within-begun ask (lim i) (met i) ok)))
-        (λ x. rw (upd-other i (begun now (grantUntil now (lim i) (met i)) (lim i) (met i)) met j x) (h .within j));
+        (λ x. rw x (rw (upd-same i (begun who now (grantUntil now (lim i) (met i)) (lim i) (met i)) met)
+        (within-begun ask (lim i) (met i) ok who)))
+        (λ x. rw (upd-other i (begun who now (grantUntil now (lim i) (met i)) (lim i) (met i)) met j x) (h .within j));
   }

@@ -111,14 +111,14 @@ module _ (b : Book) (e : Event) (k : ℕ) (pk : e .player < k) (es : List Entry)
       Invariant (e .time) k (length (amend i g es)) (limitsAt (amend i g es)) (metersAt (amend i g es)) (upd (e .player) o opn) us′
   amended i n g o us′ x = held-ext refl (amend-length i g es) (amend-limits i g es) (amend-meters i g es n) (λ q. refl) x
 
-  did-stop : e .request ≡ Stop → Did e k es opn us (doStop es (opn (e .player)) (e .time))
+  did-stop : e .request ≡ Stop → Did e k es opn us (doStop es (opn (e .player)) (asks b e))
   unfolding doStop posted calledTaken endedBy
   did-stop x =
       held-cases (e .time) (e .player) us (opn (e .player)) (h .opens (e .player))
       (λ c g. rw c (rw c at (did-unchanged 14 refl refl)))
       (λ u s o c. rw c (record {
         taken = refl;
-        held = rw x (amended (u .entry) (own-sound h (e .player) u s o .entry) (ended (u .begin) (u .until) (e .time)) closed _
+        held = rw x (amended (u .entry) (own-sound h (e .player) u s o .entry) (ended (e .player) (u .begin) (u .until) (e .time)) closed _
             (stopped-held h (e .player) u s o));
         ends = λ v w. rw (x, c) (
             report-stopped v (λ _. e .time) (limitsAt es) w us (e .player) u s o (e .time)
@@ -201,7 +201,7 @@ module _ (b : Book) (e : Event) (k : ℕ) (pk : e .player < k) (es : List Entry)
 
     did-granted : ((u : Use) → latest (e .player) us ≡ some u → isOpen (e .time) u ≡ false) → opn (e .player) ≡ closed
         → (w : Choice) → choose c es (asks b e) asset (kindNumber kind) ≡ w
-        → Did e k es opn us (granted (noneGrantable c es (asks b e) asset (kindNumber kind)) (e .time) asset es closed w)
+        → Did e k es opn us (granted (noneGrantable c es (asks b e) asset (kindNumber kind)) (asks b e) asset es closed w)
     unfolding posted calledTaken choose noneGrantable suitable sumOf
     did-granted g z nobody q =
         on-test (anyOf (failsForSwitch c es (asks b e) asset (kindNumber kind)) (c .entryCount))
@@ -215,7 +215,7 @@ module _ (b : Book) (e : Event) (k : ℕ) (pk : e .player < k) (es : List Entry)
         let now = begun-held (asks b e) h pk g i n ok (lawful i) asset in
         record {
           taken = refl;
-          held = rw x (amended i n (begun (e .time) (grantUntil (e .time) (limitsAt es i) (metersAt es i))) _ _ now);
+          held = rw x (amended i n (begun (e .player) (e .time) (grantUntil (e .time) (limitsAt es i) (metersAt es i))) _ _ now);
           ends = λ v w. rw x (begun-ends v w i ok
               (eqb-true _ _ (and-left (eqb (limitsAt es i .kind) (kindNumber kind)) _
               (and-left (suits c es asset (kindNumber kind) i) _ (y .passes)))));

@@ -27,7 +27,7 @@ use Rattle.book.specs.Blank.{noLimits}
 use Rattle.model.specs.Book.{assetAt, limitsAt, assetsIn, entriesIn, latestTime, assetPosition, inBook, between, flagged, momentary}
 use Rattle.model.specs.Book.{limit, assetLegal, assetsLegal, rangesLegal, limitsLegal, entriesLegal, ruleBroken, Legal}
 use Rattle.model.specs.Book.{countFlag, timedFlag, startFlag, endFlag, intervalFlag, accumulatedFlag, mostTimes}
-use Rattle.model.specs.Book.{mostSeconds, trackLegal, switchLegal, playersLegal}
+use Rattle.model.specs.Book.{mostSeconds, trackLegal, thresholdLegal, switchLegal, playersLegal}
 use Rattle.model.specs.Record.{kindNumber}
 use Rattle.model.specs.Meters.{isOn, shut, settled}
 use Rattle.model.specs.Choice.{Catalog, catalogOf, usable, suits, asks, anyOf, Choice, nobody, chosen, choose, noneGrantable}
@@ -65,9 +65,9 @@ ranges-tests l e = row-passed _ (_ ∷ _ ∷ _ ∷ _ ∷ _ ∷ _ ∷ []) e
 pub limits-tests : (known : Bool) (l : Limits) → limitsLegal known l ≡ true → (between 1 65535 (l .object) ≡ true)
     × Pass (known ∷ between 1 5 (l .kind) ∷ leb (l .flags) 63 ∷ rangesLegal l
     ∷ (not (flagged startFlag l && flagged endFlag l) || leb (l .start) (l .end)) ∷
-    (not (momentary (l .kind)) || (not (flagged accumulatedFlag l) && eqb (l .timer) 0)) ∷ trackLegal l ∷ [])
+    (not (momentary (l .kind)) || (not (flagged accumulatedFlag l) && eqb (l .timer) 0)) ∷ trackLegal l ∷ thresholdLegal l ∷ [])
 unfolding limitsLegal
-limits-tests known l e = row-passed _ (_ ∷ _ ∷ _ ∷ _ ∷ _ ∷ _ ∷ _ ∷ []) e
+limits-tests known l e = row-passed _ (_ ∷ _ ∷ _ ∷ _ ∷ _ ∷ _ ∷ _ ∷ _ ∷ []) e
 
 limits-lawful : (known : Bool) (l : Limits) → limitsLegal known l ≡ true → Lawful l
 limits-lawful known l e =
@@ -193,7 +193,7 @@ begin-steady c es o t asset kind =
     on-test (not (anyOf (suits c es asset kind) (c .entryCount))) (λ u. rw (q, r, u) (steady es 12 _))
     (λ u. rw (q, r, u) (go _ (choose c es t asset kind)))))
   where
-    go : (o′ : Open) (x : Choice) → Steady es (granted (noneGrantable c es t asset kind) (t .time) asset es o′ x)
+    go : (o′ : Open) (x : Choice) → Steady es (granted (noneGrantable c es t asset kind) t asset es o′ x)
     go o′ nobody = steady es _ o′
     go o′ (chosen i) = record { limits = amend-limits i _ es; size = amend-length i _ es }
 

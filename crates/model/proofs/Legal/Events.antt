@@ -24,7 +24,7 @@ use Rattle.book.specs.declared.Request.the-variants.{Begin, Continue, Stop}
 use Rattle.book.specs.Blank.{closed}
 use Rattle.model.specs.Book.{limitsAt, metersAt, between, momentary, takenCode, contentLegal}
 use Rattle.model.specs.Record.{kindNumber}
-use Rattle.model.specs.Meters.{amend, begun, continued, ended, isOn, expired, shut, released, settled}
+use Rattle.model.specs.Meters.{amend, begun, continued, ended, isOn, expired, shut, released, settledFrom, settled}
 use Rattle.model.specs.Choice.{Catalog, suitable, usable, parentOf, own, grantable, Choice, nobody, chosen, anyOf, suits, allowed}
 use Rattle.model.specs.Choice.{goesBefore, choose, leastUntil, grantUntil, failsForSwitch, noneGrantable}
 use Rattle.model.specs.Step.{Done, unchanged, granted, doBegin, more, doContinue, doStop, done, openAt}
@@ -51,7 +51,7 @@ later-use h u = record {
   span = u .span;
 }
 
-later-meter : {S T : ℕ} {l : Limits} {m : Meters} {k s : ℕ} → S ≤ T → MeterOk S l m k s → MeterOk T l m k s
+later-meter : {S T : ℕ} {l : Limits} {m : Meters} {k s x : ℕ} → S ≤ T → MeterOk S l m k s x → MeterOk T l m k s x
 later-meter h w = record {
   count = w .count;
   timed = w .timed;
@@ -60,6 +60,8 @@ later-meter h w = record {
   unstarted = w .unstarted;
   unset = w .unset;
   past = omega (arith, w .past);
+  marks = w .marks;
+  together = w .together;
 }
 
 pub later-sound : {S T n : ℕ} {lim : ℕ → Limits} {met : ℕ → Meters} {opn : ℕ → Open} → S ≤ T → Sound S n lim met opn → Sound T n lim met opn
@@ -117,13 +119,13 @@ module _ (T n : ℕ) (room : n ≤ 64) (lim : ℕ → Limits) where
   }
 
   release-part : (opn : ℕ → Open) (q : ℕ) (o : Open) (es : List Entry) → q < 16 → opn q ≡ o → Effect T n lim es opn → Effect T n lim
-      (released T o es) (upd q (shutO T o) opn)
+      (released T q o es) (upd q (shutO T o) opn)
   unfolding released expired
   release-part opn q o es k e h =
       on-test (expired T o)
       (λ x. rw x
-      (amend-part es (upd q closed opn) (o .entry) (ended (o .begin) (o .until) (o .until)) (entry x) (h .slots) (h .limits)
-      (subst (λ (y : Open). Sound T n lim (upd (y .entry) (ended (y .begin) (y .until) (y .until) (lim (y .entry))
+      (amend-part es (upd q closed opn) (o .entry) (ended q (o .begin) (o .until) (o .until)) (entry x) (h .slots) (h .limits)
+      (subst (λ (y : Open). Sound T n lim (upd (y .entry) (ended q (y .begin) (y .until) (y .until) (lim (y .entry))
       (metersAt es (y .entry))) (metersAt es)) (upd q closed opn)) e
       (ended-sound (h .sound) q k (ap isOn e ∙ on x) (opn q .until) (omega arith)))))
       (λ x. rw x (subst (λ (f : ℕ → Open). Effect T n lim es f) (sym (ap (λ (y : Open). upd q y opn) (sym e) ∙ upd-own q opn)) h))
@@ -137,8 +139,8 @@ module _ (T n : ℕ) (room : n ≤ 64) (lim : ℕ → Limits) where
   -- the first p of the players ps, who start at position q, are settled
   pub settle-part : (opn : ℕ → Open) (p : ℕ) (ps : List Player) (q : ℕ) (es : List Entry) → p ≤ length ps → q + length ps ≡ 16 →
       ((j : ℕ) → openAt ps j ≡ opn (q + j)) → Effect T n lim es (stage T opn q) →
-      Effect T n lim (settled T (take p ps) es) (stage T opn (q + p))
-  unfolding settled
+      Effect T n lim (settledFrom T q (take p ps) es) (stage T opn (q + p))
+  unfolding settledFrom
   settle-part opn zero ps q es r k e h = rw (add-zero q) h
   settle-part opn (suc p) [] q es r k e h = absurd (omega (arith, r))
   settle-part opn (suc p) (x ∷ ps) q es r k e h =
@@ -146,10 +148,10 @@ module _ (T n : ℕ) (room : n ≤ 64) (lim : ℕ → Limits) where
       let z : q + suc (length ps) ≡ 16 = k in
       let w : suc p ≤ suc (length ps) = r in
       let v : suc q + p ≡ q + suc p = omega arith in
-      subst (λ (s : ℕ). Effect T n lim (settled T (take p ps) (released T (x .current) es)) (stage T opn s)) v
-      (settle-part opn p ps (suc q) (released T (x .current) es) (omega arith) (omega arith)
+      subst (λ (s : ℕ). Effect T n lim (settledFrom T (suc q) (take p ps) (released T q (x .current) es)) (stage T opn s)) v
+      (settle-part opn p ps (suc q) (released T q (x .current) es) (omega arith) (omega arith)
       (λ j. let y : q + suc j ≡ suc q + j = omega arith in e (suc j) ∙ ap opn y)
-      (subst (Effect T n lim (released T (x .current) es)) (ap (λ (y : Open). upd q (shutO T y) (stage T opn q)) own ∙ sym
+      (subst (Effect T n lim (released T q (x .current) es)) (ap (λ (y : Open). upd q (shutO T y) (stage T opn q)) own ∙ sym
       (stage-next T opn q))
       (release-part (stage T opn q) q (x .current) es (omega arith) (stage-own T opn q ∙ sym own) h)))
 
@@ -236,7 +238,7 @@ module _ (ask : Ask) {n : ℕ} (room : n ≤ 64) (es : List Entry) {opn : ℕ �
     named = named p;
   }
 
-  stop-ok : DoneOk has T n p (limitsAt es) opn (doStop es (opn p) T)
+  stop-ok : DoneOk has T n p (limitsAt es) opn (doStop es (opn p) ask)
   unfolding doStop takenCode
   stop-ok =
       on-test (isOn (opn p))
@@ -244,7 +246,7 @@ module _ (ask : Ask) {n : ℕ} (room : n ≤ 64) (es : List Entry) {opn : ℕ �
       (record {
         answer = record { code = refl; grants = λ q. use₁ on .entry; refuses = λ q. clash refl q; near = omega arith };
         part =
-            amend-part T n room (limitsAt es) es (upd p closed opn) (opn p .entry) (ended (opn p .begin) (opn p .until) T)
+            amend-part T n room (limitsAt es) es (upd p closed opn) (opn p .entry) (ended p (opn p .begin) (opn p .until) T)
             (use₁ on .entry) slots (λ i. refl)
             (ended-sound h p pl on T (omega (arith, use₁ on .begun)));
         live = λ q. clash q refl;
@@ -286,7 +288,7 @@ module _ (ask : Ask) {n : ℕ} (room : n ≤ 64) (es : List Entry) {opn : ℕ �
 
   chosen-ok : (kind : Kind) (asset none i : ℕ) → has asset ≡ true → isOn (opn p) ≡ false → i < n
       → eqb (limitsAt es i .kind) (kindNumber kind) ≡ true → grantable ask (limitsAt es i) (metersAt es i) ≡ true →
-      DoneOk has T n p (limitsAt es) opn (granted none T asset es (opn p) (chosen i))
+      DoneOk has T n p (limitsAt es) opn (granted none ask asset es (opn p) (chosen i))
   unfolding grantUntil takenCode contentLegal
   chosen-ok kind asset none i known off k e g =
       let a : AnswerOk T n (record { code = 0; entry = i; until = grantUntil T (limitsAt es i) (metersAt es i) }) =
@@ -295,8 +297,8 @@ module _ (ask : Ask) {n : ℕ} (room : n ≤ 64) (es : List Entry) {opn : ℕ �
       on-test (momentary (limitsAt es i .kind))
       (λ q. record {
         answer = a;
-        part = rw q (amend-part T n room (limitsAt es) es (upd p (opn p) opn) i (begun T T) k slots (λ j. refl)
-            (momentary-sound h p pl off i k grant));
+        part = rw q (amend-part T n room (limitsAt es) es (upd p (opn p) opn) i (begun p T T) k slots (λ j. refl)
+            (momentary-sound h p pl off i k grant q));
         live = rw q (running p);
         named = rw q (named p);
       })
@@ -305,8 +307,8 @@ module _ (ask : Ask) {n : ℕ} (room : n ≤ 64) (es : List Entry) {opn : ℕ �
         part = rw q
             (amend-part T n room (limitsAt es) es (upd p (record
             { on = 1; entry = i; begin = T; until = leastUntil T T (limitsAt es i) (metersAt es i); content = asset }) opn) i
-            (begun T (leastUntil T T (limitsAt es i) (metersAt es i))) k slots (λ j. refl)
-            (begun-sound h p pl off i k grant (kind-runs kind (limitsAt es i .kind) e q) asset));
+            (begun p T (leastUntil T T (limitsAt es i) (metersAt es i))) k slots (λ j. refl)
+            (begun-sound h p pl off i k grant (kind-runs kind (limitsAt es i .kind) e q) q asset));
         live = rw q (λ z. begun-live h p pl off i k grant);
         named = rw q (λ z. rw known);
       })
@@ -326,7 +328,7 @@ module _ (ask : Ask) {n : ℕ} (room : n ≤ 64) (es : List Entry) {opn : ℕ �
         (λ q. rw q (unchanged-ok 10 refl refl))))
       where
         go : has asset ≡ true → isOn (opn p) ≡ false → (x : Choice) → choose c es ask asset (kindNumber kind) ≡ x
-            → DoneOk has T n p (limitsAt es) opn (granted (noneGrantable c es ask asset (kindNumber kind)) T asset es (opn p) x)
+            → DoneOk has T n p (limitsAt es) opn (granted (noneGrantable c es ask asset (kindNumber kind)) ask asset es (opn p) x)
         go y off nobody e =
             on-test (anyOf (failsForSwitch c es ask asset (kindNumber kind)) (c .entryCount))
             (λ z. rw z (unchanged-ok 43 refl refl))

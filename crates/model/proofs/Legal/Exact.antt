@@ -3,7 +3,7 @@ use mathlib.Core.Path.{_≡_, refl, sym, ap, _∙_, subst}
 use Prim.Native.Nat.{ℕ, suc, _+_, _≤_, _<_}
 use mathlib.Core.Bool.{true}
 use mathlib.Core.List.{List, [], _∷_, _++_, map}
-use lib.ListN.{length, take, length-append}
+use lib.ListN.{length, take, length-append, length-take}
 use lib.Seq.{take-suc, take-all}
 use lib.Dec.{leb}
 use native.Mathlib.Omega.{arith}
@@ -16,14 +16,14 @@ use Rattle.book.specs.declared.Book.{Book}
 use Rattle.book.specs.declared.Event.{Event}
 use Rattle.book.specs.Blank.{noPlayer}
 use Rattle.model.specs.Book.{limitsAt, metersAt, playerAt, entriesIn, playersLegal, Legal}
-use Rattle.model.specs.Meters.{isOn, expired, shut, released, settled}
+use Rattle.model.specs.Meters.{isOn, expired, shut, released, settled, settledFrom}
 use Rattle.model.specs.Choice.{asks, catalogOf, grantable, chosen, suits, allowed, goesBefore, choose}
 use Rattle.model.specs.Step.{openAt}
 use Rattle.model.specs.Report.{lineAt, good, Ended, recordedAll, endings}
 use Rattle.model.specs.Exact.{ExactEnd, ExactBegin, ExactContinue, ExactLine, Taken, atTurn, atRequest, asking, Exact}
 use Rattle.model.proofs.Ledger.Facts.{clash, and-left, and-right}
 use Rattle.model.proofs.Ledger.Invariant.{grant-seconds, until-from}
-use Rattle.model.proofs.Ledger.Concrete.{choose-sound}
+use Rattle.model.proofs.Ledger.Concrete.{choose-sound, settled-both}
 use Rattle.model.proofs.Ledger.WellFormed.{all-below}
 use Rattle.model.proofs.Ledger.Steps.{gate-take}
 use Rattle.model.proofs.Demand3.Lines.{good-list, Brief, brief-before, brief-behind, endings-brief, endings-few, all-most}
@@ -31,6 +31,7 @@ use Rattle.model.proofs.Legal.Rules.{Sound, UseOk, playerPasses, player
 use Rattle.model.proofs.Legal.Meters.{more-ge, own-timed, own-spent}
 use Rattle.model.proofs.Legal.Events.{stage, stage-own, settled-live}
 use Rattle.model.proofs.Legal.Step.{Passed, gate-passed, turn-sound, settled-sound}
+use native.Mathlib.Nat.{add-zero}
 
 -- ## The end of a use
 
@@ -46,12 +47,6 @@ end-exact es opn s p e k on a z = record {
 
 -- ## Settling, player by player
 
--- the first players, then the others
-settled-both : (T : ℕ) (ps qs : List Player) (es : List Entry) → settled T (ps ++ qs) es ≡ settled T qs (settled T ps es)
-unfolding settled
-settled-both T [] qs es = refl
-settled-both T (x ∷ ps) qs es = settled-both T ps qs (released T (x .current) es)
-
 -- in a book that meets the player rules, an open use runs beyond the book's time
 ran-on : (b : Book) (p : ℕ) → playerPasses b (playerAt (b .players) p) ≡ true → isOn (openAt (b .players) p) ≡ true →
     openAt (b .players) p .begin ≤ openAt (b .players) p .until
@@ -64,11 +59,13 @@ module _ (b : Book) (e : Event) (h : Legal b) where
   abbrev ps : List Player
   ps = b .players
 
-  next-turn : (p : ℕ) → p < 16 → atTurn (suc p) b e ≡ released T (openAt ps p) (atTurn p b e)
-  unfolding settled
+  next-turn : (p : ℕ) → p < 16 → atTurn (suc p) b e ≡ released T p (openAt ps p) (atTurn p b e)
+  unfolding settledFrom
   next-turn p k =
+      let n : 0 + length (take p ps) ≡ p = omega (arith, length-take p ps, h .playerSlots) in
       ap (λ (l : List Player). settled T l (b .entries)) (take-suc ps p noPlayer (omega (arith, h .playerSlots)))
-      ∙ settled-both T (take p ps) (playerAt ps p ∷ []) (b .entries)
+      ∙ settled-both T 0 (take p ps) (playerAt ps p ∷ []) (b .entries)
+      ∙ ap (λ (q : ℕ). released T q (openAt ps p) (atTurn p b e)) n
 
   last-turn : atTurn 16 b e ≡ atRequest b e
   last-turn = ap (λ (l : List Player). settled T l (b .entries)) (take-all 16 ps (omega (arith, h .playerSlots)))

@@ -1,7 +1,7 @@
 -- What a begin, a continue and the end of a use do to the meters and to the open uses: the rules on both still hold.
 use mathlib.Core.Path.{_≡_, refl, sym, ap, _∙_, subst}
 use Prim.Native.Nat.{ℕ, suc, _+_, _-_, _≤_, _<_}
-use mathlib.Core.Bool.{Bool, true, false, _&&_, cond}
+use mathlib.Core.Bool.{Bool, true, false, _&&_, cond, not}
 use lib.Dec.{ltb, eqb}
 use native.Mathlib.Omega.{arith}
 use borrow.Author.Tests.{eq-eqb, ne-eqb}
@@ -11,14 +11,16 @@ use Rattle.book.specs.declared.Meters.{Meters}
 use Rattle.book.specs.declared.Open.{Open}
 use Rattle.book.specs.declared.Ask.{Ask}
 use Rattle.book.specs.Blank.{closed}
-use Rattle.model.specs.Book.{grantLength, between, flagged, momentary, opens}
+use Rattle.model.specs.Book.{grantLength, between, flagged, momentary, opens, isGroup}
 use Rattle.model.specs.Meters.{where-flagged, isStarted, intervalFrom, begun, continued, ended, isOn}
 use Rattle.model.specs.Choice.{grantable, leastUntil, grantUntil, moreUntil}
 use Rattle.model.proofs.Ledger.Facts.{on-test, on-same, clash, cond-on, cond-off, flag-le, upd, upd-same, upd-other}
 use Rattle.model.proofs.Legal.Facts.{sum-upd}
 use Rattle.model.proofs.Ledger.Invariant.{length-pos, grant-most, caps, caps-le, caps-first, caps-second, caps-third, caps-ge}
-use Rattle.model.proofs.Ledger.Invariant.{grant-count, grant-timed, grant-start, grant-end, grant-from, grant-seconds}
-use Rattle.model.proofs.Legal.Rules.{MeterOk, UseOk, OpenOk, useIn, secondsIn, usesOf, secondsOf, Sound}
+use Rattle.model.proofs.Ledger.Invariant.{grant-count, grant-timed, grant-start, grant-end, grant-from, grant-seconds, grant-room}
+use Rattle.model.proofs.Legal.Rules.{MeterOk, UseOk, OpenOk, useIn, secondsIn, usesOf, secondsOf, Sound, marksIn}
+use Rattle.numbers.specs.Bits.{ones, putBit}
+use Rattle.numbers.proofs.BitLaws.{mask-same, mask-put, ones-off, ones-on}
 
 -- ## One player's use and one entry's meters change
 
@@ -27,9 +29,12 @@ abbrev pub ran : Open → ℕ
 ran o = cond (isOn o) (o .until - o .begin) 0
 
 module _ (i : ℕ) (o : Open) (own : isOn o ≡ true → o .entry ≡ i) where
-  own-use : useIn i o ≡ one (isOn o)
+  own-opens : opens i o ≡ isOn o
   unfolding opens
-  own-use = on-test (isOn o) (λ q. rw (q, eq-eqb (o .entry) i (own q))) (λ q. rw q)
+  own-opens = on-test (isOn o) (λ q. rw (q, eq-eqb (o .entry) i (own q))) (λ q. rw q)
+
+  own-use : useIn i o ≡ one (isOn o)
+  own-use = ap one own-opens
 
   own-seconds : secondsIn i o ≡ ran o
   unfolding opens
@@ -44,6 +49,11 @@ module _ (i : ℕ) (o : Open) (own : isOn o ≡ true → o .entry ≡ i) where
 
   other-seconds : (j : ℕ) → (j ≡ i → ⊥) → secondsIn j o ≡ 0
   other-seconds j x = cond-off (opens j o) _ _ (opens-not j x)
+
+-- a mark set to what it is
+marked-so : (opn : ℕ → Open) (p j : ℕ) (v : Bool) → opens j (opn p) ≡ v → putBit p v (marksIn opn j) ≡ marksIn opn j
+marked-so opn p j v e =
+    ap (λ (w : Bool). putBit p w (marksIn opn j)) (sym e) ∙ mask-put (λ q. opens j (opn q)) (λ q. opens j (opn q)) p (λ q d. refl)
 
 -- an interval that has started stays unchanged
 abbrev pub Stays : Limits → Meters → Meters → Type 0
@@ -74,7 +84,7 @@ module _ {T n : ℕ} {lim : ℕ → Limits} {met : ℕ → Meters} {opn : ℕ �
     pub shut : isOn o′ ≡ false → o′ ≡ closed
     pub runs : isOn o′ ≡ true → UseOk T n (lim i) m′ o′
     pub meter : (k s : ℕ) → k + one (isOn (opn p)) ≡ usesOf opn i + one (isOn o′) → s + ran (opn p) ≡ secondsOf opn i + ran o′ → MeterOk
-        T (lim i) m′ k s
+        T (lim i) m′ k s (putBit p (isOn o′) (marksIn opn i))
 
   module _ (c : Change) where
     stays-at : (j : ℕ) → Stays (lim j) (met j) (upd i m′ met j)
@@ -98,10 +108,23 @@ module _ {T n : ℕ} {lim : ℕ → Limits} {met : ℕ → Meters} {opn : ℕ �
               (stays-at (opn q .entry)) (h .opens q .runs on);
         }))
 
+    -- the marks of entry i follow player p's use, those of the others stay
+    own-marks : marksIn (upd p o′ opn) i ≡ putBit p (isOn o′) (marksIn opn i)
+    own-marks =
+        sym (mask-put (λ q. opens i (opn q)) (λ q. opens i (upd p o′ opn q)) p (λ q d. ap (opens i) (upd-other p o′ opn q d)))
+        ∙ ap (λ (v : Bool). putBit p v (marksIn opn i)) (ap (opens i) (upd-same p o′ opn) ∙ own-opens i o′ (c .after))
+
+    other-marks : (j : ℕ) → (j ≡ i → ⊥) → marksIn (upd p o′ opn) j ≡ marksIn opn j
+    other-marks j x =
+        mask-same _ _ 16 (λ q k. on-same q p
+        (λ e. rw (e, upd-same p o′ opn) (opens-not i o′ (c .after) j x ∙ sym (opens-not i (opn p) (c .before) j x)))
+        (λ d. ap (opens j) (upd-other p o′ opn q d)))
+
     meters-at : (j : ℕ) → j < n → MeterOk T (lim j) (upd i m′ met j) (usesOf (upd p o′ opn) j) (secondsOf (upd p o′ opn) j)
+        (marksIn (upd p o′ opn) j)
     meters-at j k =
         on-same j i
-        (λ x. rw (x, upd-same i m′ met)
+        (λ x. rw (x, upd-same i m′ met, own-marks)
         (c .meter (usesOf (upd p o′ opn) i) (secondsOf (upd p o′ opn) i)
         (omega (arith, sum-upd (useIn i) p o′ opn 16 (c .player), own-use i (opn p) (c .before), own-use i o′ (c .after)))
         (omega (arith, sum-upd (secondsIn i) p o′ opn 16 (c .player), own-seconds i (opn p) (c .before), own-seconds i o′ (c .after)))))
@@ -115,7 +138,7 @@ module _ {T n : ℕ} {lim : ℕ → Limits} {met : ℕ → Meters} {opn : ℕ �
           other-seconds i o′
               (c .after) j x,
         ) in
-        rw (upd-other i m′ met j x, a, b) (h .meters j k))
+        rw (upd-other i m′ met j x, a, b, other-marks j x) (h .meters j k))
 
     pub changed : Sound T n lim (upd i m′ met) (upd p o′ opn)
     changed = record {
@@ -126,11 +149,11 @@ module _ {T n : ℕ} {lim : ℕ → Limits} {met : ℕ → Meters} {opn : ℕ �
 
 -- ## The end of a use
 
--- a use that began at b, counted until u, ends at e
-meter-ended : {T : ℕ} {l : Limits} {m : Meters} {K S : ℕ} (b u e : ℕ) → MeterOk T l m K S → u - e ≤ u - b →
-    (k s : ℕ) → k + 1 ≡ K → s + (u - b) ≡ S → MeterOk T l (ended b u e l m) k s
+-- a use of player p that began at b, counted until u, ends at e
+meter-ended : {T : ℕ} {l : Limits} {m : Meters} {K S X : ℕ} (p b u e : ℕ) → MeterOk T l m K S X → u - e ≤ u - b →
+    (k s : ℕ) → k + 1 ≡ K → s + (u - b) ≡ S → MeterOk T l (ended p b u e l m) k s (putBit p false X)
 unfolding ended
-meter-ended {l = l} b u e h g k s x y =
+meter-ended {l = l} {X = X} p b u e h g k s x y =
     let one-back = flag-le (flagged 2 l && ltb (e - b) (l .timer)) 1 in
     let seconds-back = flag-le (flagged 32 l) (u - e) in
     record {
@@ -150,6 +173,8 @@ meter-ended {l = l} b u e h g k s x y =
       unstarted = h .unstarted;
       unset = h .unset;
       past = h .past;
+      marks = ap (putBit p false) (h .marks);
+      together = λ f. omega (arith, h .together f, ones-off p X);
     }
 
 module _ {T n : ℕ} {lim : ℕ → Limits} {met : ℕ → Meters} {opn : ℕ → Open} (h : Sound T n lim met opn) (p : ℕ) (pl : p < 16)
@@ -186,11 +211,15 @@ module _ {T n : ℕ} {lim : ℕ → Limits} {met : ℕ → Meters} {opn : ℕ �
         h .meters i (use₁ .entry) .seconds .covers f,
       )
 
+  -- its mark is set
+  own-kept : putBit p true (marksIn opn i) ≡ marksIn opn i
+  own-kept = marked-so opn p i true (own-opens i o (λ q. refl) ∙ on)
+
   pub ended-sound : (e : ℕ) → o .until - e ≤ o .until - o .begin → Sound T n lim
-      (upd i (ended (o .begin) (o .until) e (lim i) (met i)) met) (upd p closed opn)
+      (upd i (ended p (o .begin) (o .until) e (lim i) (met i)) met) (upd p closed opn)
   unfolding ended
   ended-sound e g =
-      changed h p i (ended (o .begin) (o .until) e (lim i) (met i)) closed
+      changed h p i (ended p (o .begin) (o .until) e (lim i) (met i)) closed
       (record {
         player = pl;
         entry = use₁ .entry;
@@ -200,7 +229,7 @@ module _ {T n : ℕ} {lim : ℕ → Limits} {met : ℕ → Meters} {opn : ℕ �
         shut = λ q. refl;
         runs = λ q. clash q refl;
         meter = λ k s x y.
-            meter-ended (o .begin) (o .until) e (h .meters i (use₁ .entry)) g k s
+            meter-ended p (o .begin) (o .until) e (h .meters i (use₁ .entry)) g k s
             (omega (arith, x, ap one on)) (omega (arith, y, cond-on (isOn o) (o .until - o .begin) 0 on));
       })
 
@@ -234,9 +263,9 @@ since-first t m e = cond-on (isStarted m) (m .first) t (eq-eqb (m .started) 1 e)
 
 -- ## Continue
 
-meter-continued : {T : ℕ} {l : Limits} {m : Meters} {K S : ℕ} (b u v : ℕ) → MeterOk T l m K S → b ≤ u → u ≤ v →
+meter-continued : {T : ℕ} {l : Limits} {m : Meters} {K S X : ℕ} (b u v : ℕ) → MeterOk T l m K S X → b ≤ u → u ≤ v →
     (flagged 32 l ≡ true → m .seconds + (v - u) ≤ l .accumulated) →
-    (k s : ℕ) → k ≡ K → s + (u - b) ≡ S + (v - b) → MeterOk T l (continued u v l m) k s
+    (k s : ℕ) → k ≡ K → s + (u - b) ≡ S + (v - b) → MeterOk T l (continued u v l m) k s X
 unfolding continued
 meter-continued {l = l} {m = m} b u v h g g′ z k s x y = record {
   count = record { within = h .count .within; covers = λ f. omega (arith, h .count .covers f); unused = h .count .unused };
@@ -250,6 +279,8 @@ meter-continued {l = l} {m = m} b u v h g g′ z k s x y = record {
   unstarted = h .unstarted;
   unset = h .unset;
   past = h .past;
+  marks = h .marks;
+  together = h .together;
 }
 
 module _ {T n : ℕ} {lim : ℕ → Limits} {met : ℕ → Meters} {opn : ℕ → Open} (h : Sound T n lim met opn) (p : ℕ) (pl : p < 16)
@@ -304,9 +335,10 @@ module _ {T n : ℕ} {lim : ℕ → Limits} {met : ℕ → Meters} {opn : ℕ �
           span = λ f. omega (arith, least-span T (oₚ .until) lₚ mₚ f, since-first T mₚ (useₚ .started f));
         };
         meter = λ k s x y.
-            meter-continued (oₚ .begin) (oₚ .until) v (h .meters (oₚ .entry) (useₚ .entry)) (omega (arith, useₚ .begun)) (omega arith)
+            rw (own-kept h p pl on)
+            (meter-continued (oₚ .begin) (oₚ .until) v (h .meters (oₚ .entry) (useₚ .entry)) (omega (arith, useₚ .begun)) (omega arith)
             more-unused k s
-            (omega (arith, x, ap one on)) (omega (arith, y, cond-on (isOn oₚ) (oₚ .until - oₚ .begin) 0 on));
+            (omega (arith, x, ap one on)) (omega (arith, y, cond-on (isOn oₚ) (oₚ .until - oₚ .begin) 0 on)));
       })
 
   pub more-ge : oₚ .until ≤ v
@@ -328,6 +360,7 @@ pub record Grant (t : ℕ) (l : Limits) (m : Meters) : Type 0 where
   pub upto : flagged 8 l ≡ true → t ≤ l .end
   pub interval : flagged 16 l ≡ true → t < intervalFrom t m + l .interval
   pub seconds : flagged 32 l ≡ true → m .seconds < l .accumulated
+  pub room : isGroup l ≡ true → ones (m .marks) < l .threshold
 
 pub grant-of : (ask : Ask) (l : Limits) (m : Meters) → grantable ask l m ≡ true → Grant (ask .time) l m
 grant-of ask l m e = record {
@@ -337,6 +370,7 @@ grant-of ask l m e = record {
   upto = grant-end ask l m e;
   interval = grant-from ask l m e;
   seconds = grant-seconds ask l m e;
+  room = λ f. grant-room ask l m e (λ z. clash f (ap not (eq-eqb (l .threshold) 0 z)));
 }
 
 from-le : (T : ℕ) (m : Meters) → m .first ≤ T → intervalFrom T m ≤ T
@@ -353,11 +387,11 @@ one-off : (f : Bool) (v : ℕ) → eqb (one f) 1 ≡ false → where-flagged f v
 one-off true v q = clash refl q
 one-off false v q = refl
 
-meter-begun : {T : ℕ} {l : Limits} {m : Meters} {K S : ℕ} (u : ℕ) → MeterOk T l m K S → Grant T l m →
+meter-begun : {T : ℕ} {l : Limits} {m : Meters} {K S X : ℕ} (p u : ℕ) → MeterOk T l m K S X → Grant T l m →
     (flagged 32 l ≡ true → m .seconds + (u - T) ≤ l .accumulated) →
-    (k s : ℕ) → k ≤ K + 1 → s ≤ S + (u - T) → MeterOk T l (begun T u l m) k s
+    (k s : ℕ) → k ≤ K + 1 → s ≤ S + (u - T) → MeterOk T l (begun p T u l m) k s (cond (momentary (l .kind)) X (putBit p true X))
 unfolding begun
-meter-begun {T = T} {l = l} {m = m} u h g z k s x y = record {
+meter-begun {T = T} {l = l} {m = m} {X = X} p u h g z k s x y = record {
   count = record {
     within = λ f. rw f (omega (arith, g .count f));
     covers = λ f. rw f (omega (arith, h .count .covers f));
@@ -377,6 +411,12 @@ meter-begun {T = T} {l = l} {m = m} u h g z k s x y = record {
   unstarted = λ f. ap one f;
   unset = one-off (flagged 16 l) (intervalFrom T m);
   past = omega (arith, flag-le (flagged 16 l) (intervalFrom T m), from-le T m (h .past));
+  marks = ap (λ (x : ℕ). cond (momentary (l .kind)) x (putBit p true x)) (h .marks);
+  together = λ f.
+      let room : ones X < l .threshold = omega (arith, g .room f, ap ones (h .marks)) in
+      on-test (momentary (l .kind))
+      (λ e. rw e (h .together f))
+      (λ e. rw e (omega (arith, room, ones-on p X)));
 }
 
 module _ {T n : ℕ} {lim : ℕ → Limits} {met : ℕ → Meters} {opn : ℕ → Open} (h : Sound T n lim met opn) (p : ℕ) (pl : p < 16)
@@ -387,13 +427,17 @@ module _ {T n : ℕ} {lim : ℕ → Limits} {met : ℕ → Meters} {opn : ℕ �
   abbrev mⱼ : Meters
   mⱼ = met j
 
-  begun-stays : (u : ℕ) → Stays lⱼ mⱼ (begun T u lⱼ mⱼ)
+  begun-stays : (u : ℕ) → Stays lⱼ mⱼ (begun p T u lⱼ mⱼ)
   unfolding begun
   begun-stays u f s = (ap one f, ap (λ (b : Bool). where-flagged b (intervalFrom T mⱼ)) f ∙ since-first T mⱼ s)
 
-  pub momentary-sound : Sound T n lim (upd j (begun T T lⱼ mⱼ) met) (upd p (opn p) opn)
-  momentary-sound =
-      changed h p j (begun T T lⱼ mⱼ) (opn p)
+  -- nothing of player p is marked
+  none-marked : putBit p false (marksIn opn j) ≡ marksIn opn j
+  none-marked = marked-so opn p j false (own-opens j (opn p) (λ q. clash q off) ∙ off)
+
+  pub momentary-sound : momentary (lⱼ .kind) ≡ true → Sound T n lim (upd j (begun p T T lⱼ mⱼ) met) (upd p (opn p) opn)
+  momentary-sound at-once =
+      changed h p j (begun p T T lⱼ mⱼ) (opn p)
       (record {
         player = pl;
         entry = jn;
@@ -402,18 +446,21 @@ module _ {T n : ℕ} {lim : ℕ → Limits} {met : ℕ → Meters} {opn : ℕ �
         stays = begun-stays T;
         shut = h .opens p .shut;
         runs = λ q. clash q off;
-        meter = λ k s x y. meter-begun T (h .meters j jn) g (λ f. omega (arith, g .seconds f)) k s (omega (arith, x)) (omega (arith, y));
+        meter = λ k s x y.
+            subst (MeterOk T lⱼ (begun p T T lⱼ mⱼ) k s)
+            (cond-on (momentary (lⱼ .kind)) _ _ at-once ∙ sym none-marked ∙ ap (λ (v : Bool). putBit p v (marksIn opn j)) (sym off))
+            (meter-begun p T (h .meters j jn) g (λ f. omega (arith, g .seconds f)) k s (omega (arith, x)) (omega (arith, y)));
       })
 
-  module _ (kind : between 1 3 (lⱼ .kind) ≡ true) where
+  module _ (kind : between 1 3 (lⱼ .kind) ≡ true) (runs : momentary (lⱼ .kind) ≡ false) where
     abbrev w : ℕ
     w = leastUntil T T lⱼ mⱼ
 
-    pub begun-sound : (asset : ℕ) → Sound T n lim (upd j (begun T w lⱼ mⱼ) met)
+    pub begun-sound : (asset : ℕ) → Sound T n lim (upd j (begun p T w lⱼ mⱼ) met)
         (upd p (record { on = 1; entry = j; begin = T; until = w; content = asset }) opn)
     unfolding begun
     begun-sound asset =
-        changed h p j (begun T w lⱼ mⱼ) (record { on = 1; entry = j; begin = T; until = w; content = asset })
+        changed h p j (begun p T w lⱼ mⱼ) (record { on = 1; entry = j; begin = T; until = w; content = asset })
         (record {
           player = pl;
           entry = jn;
@@ -433,8 +480,9 @@ module _ {T n : ℕ} {lim : ℕ → Limits} {met : ℕ → Meters} {opn : ℕ �
             span = λ f. omega (arith, least-span T T lⱼ mⱼ f, ap (λ (b : Bool). where-flagged b (intervalFrom T mⱼ)) f);
           };
           meter = λ k s x y.
-              meter-begun w (h .meters j jn) g (λ f. omega (arith, least-unused T T lⱼ mⱼ f, g .seconds f)) k s
-              (omega (arith, x)) (omega (arith, y));
+              subst (MeterOk T lⱼ (begun p T w lⱼ mⱼ) k s) (cond-off (momentary (lⱼ .kind)) _ _ runs)
+              (meter-begun p w (h .meters j jn) g (λ f. omega (arith, least-unused T T lⱼ mⱼ f, g .seconds f)) k s
+              (omega (arith, x)) (omega (arith, y)));
         })
 
   -- a granted use runs for at least one second

@@ -14,7 +14,7 @@ use Rattle.book.specs.declared.Entry.{Entry}
 use Rattle.book.specs.declared.Player.{Player}
 use Rattle.book.specs.declared.Book.{Book}
 use Rattle.book.specs.Blank.{noMeters, noEntry, noPlayer}
-use Rattle.model.specs.Book.{limitsAt, metersAt, playerAt, assetsIn, entriesIn, inBook, assetLegal, assetsLegal, limitsLegal}
+use Rattle.model.specs.Book.{limitsAt, metersAt, playerAt, assetsIn, entriesIn, inBook, assetLegal, assetsLegal, limitsLegal, marksOf}
 use Rattle.model.specs.Book.{entriesLegal, switchLegal, playerBlank, playerLegal, opens, openUses, openSeconds, Legal, Fresh}
 use Rattle.model.specs.Image.{newest, entryWidths, entryValues, playerWidths, playerValues, Typed}
 use Rattle.model.specs.Renewed.{unused, renewed, Renewed}
@@ -22,11 +22,13 @@ use Rattle.model.proofs.Ledger.WellFormed.{all-below}
 use Rattle.model.proofs.Legal.Facts.{all-of}
 use Rattle.model.proofs.Legal.Rules.{lawfulIn, playerPasses, Counted, MeterOk, Stages, meter-to, stages-from, stages-to}
 use Rattle.model.proofs.Demand3.Proof.{demand3}
+use Rattle.numbers.proofs.BitLaws.{ones-zero}
+use Rattle.numbers.specs.Bits.{maskOf}
 
 unused-counted : {f : Bool} {z : ℕ} → Counted f z 0 0
 unused-counted = record { within = λ q. omega arith; covers = λ q. omega arith; unused = λ q. refl }
 
-pub unused-meters : (T : ℕ) (l : Limits) → MeterOk T l noMeters 0 0
+pub unused-meters : (T : ℕ) (l : Limits) → MeterOk T l noMeters 0 0 0
 unused-meters T l = record {
   count = unused-counted;
   timed = unused-counted;
@@ -35,6 +37,8 @@ unused-meters T l = record {
   unstarted = λ q. refl;
   unset = λ q. refl;
   past = omega arith;
+  marks = refl;
+  together = λ q. omega (arith, ones-zero);
 }
 
 module _ (b : Book) where
@@ -63,6 +67,10 @@ module _ (b : Book) where
   unfolding renewed openSeconds opens sum
   no-seconds i = refl
 
+  no-marks : (i : ℕ) → marksOf (new .players) i ≡ 0
+  unfolding renewed marksOf maskOf opens sum
+  no-marks i = refl
+
   new-fresh : Legal b → Fresh new
   unfolding renewed
   new-fresh h = record { time = refl; meters = meters-at; players = player-at }
@@ -82,7 +90,8 @@ module _ (b : Book) where
             (λ i k. subst (λ (l : Limits). lawfulIn b l ≡ true) (sym (limits-at i))
             (all-below (λ j. lawfulIn b (limitsAt (b .entries) j)) (entriesIn b) (s .entries) i k));
         players = λ p k. subst (λ (x : Player). playerPasses new x ≡ true) (sym (player-at p)) blank-passes;
-        meters = λ i k. meter-to new i (rw (meters-at i, no-uses i, no-seconds i) (unused-meters 0 (limitsAt (new .entries) i)));
+        meters = λ i k.
+            meter-to new i (rw (meters-at i, no-uses i, no-seconds i, no-marks i) (unused-meters 0 (limitsAt (new .entries) i)));
       }
 
   new-legal : Legal b → Legal new
@@ -99,7 +108,7 @@ module _ (b : Book) where
     rules = stages-to new (new-stages h);
   }
 
-  unused-fits : (e : Entry) → Fit (entryWidths newest) (entryValues e) → Fit (entryWidths newest) (entryValues (unused e))
+  unused-fits : (e : Entry) → Fit (entryWidths newest) (entryValues newest e) → Fit (entryWidths newest) (entryValues newest (unused e))
   unused-fits e f = omega (arith, f)
 
   new-typed : Typed b → Typed new
@@ -107,7 +116,7 @@ module _ (b : Book) where
   new-typed h = record {
     header = h .header;
     assets = h .assets;
-    entries = λ i. subst (λ (x : Entry). Fit (entryWidths newest) (entryValues x)) (sym (entry-at i)) (unused-fits _ (h .entries i));
+    entries = λ i. subst (λ (x : Entry). Fit (entryWidths newest) (entryValues newest x)) (sym (entry-at i)) (unused-fits _ (h .entries i));
     players = λ p. subst (λ (x : Player). Fit (playerWidths newest) (playerValues x)) (sym (player-at p)) (zeros-fit (playerWidths newest));
   }
 

@@ -9,6 +9,7 @@ use lib.Dec.{leb, ltb, eqb}
 use native.Mathlib.Omega.{arith}
 use borrow.Author.Tests.{eqb-true, eq-eqb, ltb-true, lt-ltb, leb-true, le-leb, not-false}
 use Rattle.numbers.specs.Count.{sum, one}
+use Rattle.numbers.specs.Bits.{ones, maskOf}
 use Rattle.numbers.proofs.TableLaws.{below-or-not}
 use Rattle.numbers.proofs.Tests.{Pass, row-passed, implied, implied-at, otherwise, otherwise-at, passed}
 use Rattle.book.specs.declared.Limits.{Limits}
@@ -47,6 +48,9 @@ use Rattle.model.specs.Book.{
   entriesLegal,
   ruleBroken,
   Legal,
+  marksOf,
+  marksLegal,
+  isGroup,
   limitsLegal,
   inBook,
   contentLegal,
@@ -67,8 +71,8 @@ pub record Counted (f : Bool) (z v k : ℕ) : Type 0 where
   pub covers : f ≡ true → k ≤ v
   pub unused : f ≡ false → v ≡ 0
 
--- an entry's meters at time T, with k open uses that run s seconds in all
-pub record MeterOk (T : ℕ) (l : Limits) (m : Meters) (k s : ℕ) : Type 0 where
+-- an entry's meters at time T, with k open uses that run s seconds in all, of the players in x
+pub record MeterOk (T : ℕ) (l : Limits) (m : Meters) (k s x : ℕ) : Type 0 where
   pub count : Counted (flagged 1 l) (l .count) (m .count) k
   pub timed : Counted (flagged 2 l) (l .timed) (m .timed) k
   pub seconds : Counted (flagged 32 l) (l .accumulated) (m .seconds) s
@@ -76,6 +80,8 @@ pub record MeterOk (T : ℕ) (l : Limits) (m : Meters) (k s : ℕ) : Type 0 wher
   pub unstarted : flagged 16 l ≡ false → m .started ≡ 0
   pub unset : eqb (m .started) 1 ≡ false → m .first ≡ 0
   pub past : m .first ≤ T
+  pub marks : m .marks ≡ x
+  pub together : isGroup l ≡ true → ones x ≤ l .threshold
 
 -- an open use at time T among n entries; whether it still runs is asked separately
 pub record UseOk (T n : ℕ) (l : Limits) (m : Meters) (o : Open) : Type 0 where
@@ -106,9 +112,12 @@ usesOf opn i = sum (λ p. useIn i (opn p)) 16
 abbrev pub secondsOf : (ℕ → Open) → ℕ → ℕ
 secondsOf opn i = sum (λ p. secondsIn i (opn p)) 16
 
+abbrev pub marksIn : (ℕ → Open) → ℕ → ℕ
+marksIn opn i = maskOf (λ p. opens i (opn p)) 16
+
 pub record Sound (T n : ℕ) (lim : ℕ → Limits) (met : ℕ → Meters) (opn : ℕ → Open) : Type 0 where
   pub opens : (p : ℕ) → OpenOk T n lim met (opn p)
-  pub meters : (i : ℕ) → i < n → MeterOk T (lim i) (met i) (usesOf opn i) (secondsOf opn i)
+  pub meters : (i : ℕ) → i < n → MeterOk T (lim i) (met i) (usesOf opn i) (secondsOf opn i) (marksIn opn i)
   pub blank : (i : ℕ) → n ≤ i → met i ≡ noMeters
 
 -- no open use is over
@@ -332,10 +341,17 @@ module _ (b : Book) (i : ℕ) where
 
   meter-tests : metersPass b i ≡ true → (meterLegal (flagged 1 lᵢ) (lᵢ .count) (mᵢ .count) ≡ true) × Pass
       (meterLegal (flagged 2 lᵢ) (lᵢ .timed) (mᵢ .timed) ∷ meterLegal (flagged 32 lᵢ) (lᵢ .accumulated) (mᵢ .seconds) ∷ startLegal
-      (b .time) lᵢ mᵢ ∷ metersCover (openUses (b .players) i) (openSeconds (b .players) i) lᵢ mᵢ ∷ [])
+      (b .time) lᵢ mᵢ ∷ metersCover (openUses (b .players) i) (openSeconds (b .players) i) lᵢ mᵢ ∷ marksLegal (marksOf (b .players) i) lᵢ mᵢ
+      ∷ [])
   unfolding entryMetersLegal
   meter-tests e = row-passed _ (meterLegal (flagged 2 lᵢ) (lᵢ .timed) (mᵢ .timed) ∷ meterLegal (flagged 32 lᵢ) (lᵢ .accumulated)
-      (mᵢ .seconds) ∷ startLegal (b .time) lᵢ mᵢ ∷ metersCover (openUses (b .players) i) (openSeconds (b .players) i) lᵢ mᵢ ∷ []) e
+      (mᵢ .seconds) ∷ startLegal (b .time) lᵢ mᵢ ∷ metersCover (openUses (b .players) i) (openSeconds (b .players) i) lᵢ mᵢ ∷ marksLegal
+      (marksOf (b .players) i) lᵢ mᵢ ∷ []) e
+
+  mark-tests : marksLegal (marksOf (b .players) i) lᵢ mᵢ ≡ true → (eqb (mᵢ .marks) (marksOf (b .players) i) ≡ true) × Pass
+      ((not (isGroup lᵢ) || leb (ones (mᵢ .marks)) (lᵢ .threshold)) ∷ [])
+  unfolding marksLegal
+  mark-tests e = row-passed _ ((not (isGroup lᵢ) || leb (ones (mᵢ .marks)) (lᵢ .threshold)) ∷ []) e
 
   start-tests : startLegal (b .time) lᵢ mᵢ ≡ true → (leb (mᵢ .started) 1 ≡ true) × Pass
       ((flagged 16 lᵢ || eqb (mᵢ .started) 0) ∷ (eqb (mᵢ .started) 1 || eqb (mᵢ .first) 0) ∷ leb (mᵢ .first) (b .time) ∷ [])
@@ -351,11 +367,16 @@ module _ (b : Book) (i : ℕ) where
   cover-tests e = row-passed _ ((not (flagged 2 lᵢ) || leb (openUses (b .players) i) (mᵢ .timed)) ∷
       (not (flagged 32 lᵢ) || leb (openSeconds (b .players) i) (mᵢ .seconds)) ∷ []) e
 
-  meter-from : metersPass b i ≡ true → MeterOk (b .time) lᵢ mᵢ (openUses (b .players) i) (openSeconds (b .players) i)
+  abbrev xᵢ : ℕ
+  xᵢ = marksOf (b .players) i
+
+  meter-from : metersPass b i ≡ true → MeterOk (b .time) lᵢ mᵢ (openUses (b .players) i) (openSeconds (b .players) i) xᵢ
   meter-from e =
       let h = meter-tests e in
       let s = start-tests (h .1 .1 .1 .0) in
       let c = cover-tests (h .1 .1 .1 .1 .0) in
+      let k = mark-tests (h .1 .1 .1 .1 .1 .0) in
+      let own : mᵢ .marks ≡ xᵢ = eqb-true _ _ (k .0) in
       record {
         count = counted-from (h .0) (c .0);
         timed = counted-from (h .1 .0) (c .1 .0);
@@ -364,12 +385,14 @@ module _ (b : Book) (i : ℕ) where
         unstarted = λ q. eqb-true _ _ (otherwise-at (flagged 16 lᵢ) _ (s .1 .0) q);
         unset = λ q. eqb-true _ _ (otherwise-at (eqb (mᵢ .started) 1) _ (s .1 .1 .0) q);
         past = leb-true _ _ (s .1 .1 .1 .0);
+        marks = own;
+        together = λ f. omega (arith, leb-true (ones (mᵢ .marks)) (lᵢ .threshold) (implied-at (isGroup lᵢ) _ (k .1 .0) f), ap ones own);
       }
 
-  pub meter-to : MeterOk (b .time) lᵢ mᵢ (openUses (b .players) i) (openSeconds (b .players) i) → metersPass b i ≡ true
-  unfolding entryMetersLegal startLegal metersCover
+  pub meter-to : MeterOk (b .time) lᵢ mᵢ (openUses (b .players) i) (openSeconds (b .players) i) xᵢ → metersPass b i ≡ true
+  unfolding entryMetersLegal startLegal metersCover marksLegal
   meter-to h =
-      and-both (and-both (and-both (and-both
+      and-both (and-both (and-both (and-both (and-both
       (counted-legal (h .count))
       (counted-legal (h .timed)))
       (counted-legal (h .seconds)))
@@ -381,7 +404,10 @@ module _ (b : Book) (i : ℕ) where
       (and-both (and-both
       (counted-covers (h .count))
       (counted-covers (h .timed)))
-      (counted-covers (h .seconds)))
+      (counted-covers (h .seconds))))
+      (and-both
+      (eq-eqb _ _ (h .marks))
+      (implied (isGroup lᵢ) _ (λ f. le-leb (ones (mᵢ .marks)) (lᵢ .threshold) (omega (arith, h .together f, ap ones (h .marks))))))
 
 -- ## The stages of the reader
 
@@ -429,7 +455,7 @@ module _ (b : Book) (h : Legal b) where
   no-player p k = List·getD-eq-default (b .players) noPlayer (omega (arith, h .playerSlots))
 
   pub sound-of : Sound (b .time) (entriesIn b) (limitsAt (b .entries)) (metersAt (b .entries)) (openAt (b .players))
-  unfolding openUses openSeconds
+  unfolding openUses openSeconds marksOf
   sound-of =
       let s = stages-from b (h .rules) in
       record {

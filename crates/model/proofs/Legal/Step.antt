@@ -33,7 +33,7 @@ use Rattle.book.specs.Blank.{noEntry, noPlayer, closed}
 use Rattle.book.specs.Changed.{changed}
 use Rattle.model.specs.Book.{limitsAt, metersAt, playerAt, assetsIn, entriesIn, latestTime, inBook, between, assetLegal, assetsLegal}
 use Rattle.model.specs.Book.{limitsLegal, entriesLegal, playerBlank, requestLegal, takenCode, answerLegal, openUses, openSeconds}
-use Rattle.model.specs.Book.{Legal, assetPosition, contentLegal, switchLegal}
+use Rattle.model.specs.Book.{Legal, assetPosition, contentLegal, switchLegal, opens, marksOf}
 use Rattle.model.specs.Image.{newest, entryWidths, entryValues, playerWidths, playerValues, Typed, Bytes}
 use Rattle.model.specs.Record.{operationNumber, requestAsset, requestKind, recordWidths, recordField, kindOf, requestOf, eventIn}
 use Rattle.model.specs.Record.{decoded}
@@ -57,6 +57,7 @@ use Rattle.model.proofs.Legal.Rules.{blank-current, unused-from, used-f
 use Rattle.model.proofs.Legal.Rules.{entries-counted, no-player, sound-of, Named, player-named}
 use Rattle.model.proofs.Demand3.Suitable.{in-book}
 use Rattle.model.proofs.Legal.Events.{Effect, stage, turn-part, settled-part, settled-live, AnswerOk, DoneOk, done-ok}
+use Rattle.numbers.proofs.BitLaws.{mask-fits}
 
 -- ## An event that is taken
 
@@ -110,10 +111,10 @@ counted-fits : {f : Bool} {z v k : ℕ} → Counted f z v k → z < 4294967296 �
 counted-fits {f} c h = on-test f (λ q. omega (arith, c .within q)) (λ q. omega (arith, c .unused q))
 
 -- meters that obey the rules fit if the limits do
-meters-fit : (T : ℕ) (l : Limits) (m m′ : Meters) {k s : ℕ} → T ≤ latestTime → MeterOk T l m′ k s
-    → Fit (entryWidths newest) (entryValues (record { limits = l; meters = m }))
-    → Fit (entryWidths newest) (entryValues (record { limits = l; meters = m′ }))
-meters-fit T l m m′ h w fits =
+meters-fit : (T : ℕ) (l : Limits) (m m′ : Meters) {k s x : ℕ} → T ≤ latestTime → x < 65536 → MeterOk T l m′ k s x
+    → Fit (entryWidths newest) (entryValues newest (record { limits = l; meters = m }))
+    → Fit (entryWidths newest) (entryValues newest (record { limits = l; meters = m′ }))
+meters-fit T l m m′ h z w fits =
     let f = fits .1 .1 .1 .1 in
     omega (
       arith,
@@ -124,6 +125,7 @@ meters-fit T l m m′ h w fits =
           (f .1 .1 .1 .1 .1 .1 .0),
       w .past,
       w .mark,
+      w .marks,
     )
 
 code-fits : (c : ℕ) → takenCode c ≡ true → c < 256
@@ -379,7 +381,7 @@ module _ (b : Book) (e : Event) (h : Legal b) (t : Passed b e) where
   -- ## The stages
 
   new-stages : Stages new
-  unfolding assetsLegal assetLegal assetsIn entriesLegal limitsLegal inBook entriesIn openUses openSeconds switchLegal
+  unfolding assetsLegal assetLegal assetsIn entriesLegal limitsLegal inBook entriesIn openUses openSeconds marksOf switchLegal
   new-stages =
       let s = stages-from b (h .rules) in
       record {
@@ -409,15 +411,16 @@ module _ (b : Book) (e : Event) (h : Legal b) (t : Passed b e) where
   }
 
   module _ (y : Typed b) (f : Fits e) where
-    entries-typed : (i : ℕ) → Fit (entryWidths newest) (entryValues (getD (new .entries) i noEntry))
+    entries-typed : (i : ℕ) → Fit (entryWidths newest) (entryValues newest (getD (new .entries) i noEntry))
     unfolding entriesIn
     entries-typed i =
         below-or-not i (entriesIn b)
         (λ k.
-        meters-fit T (limitsAt (new .entries) i) (metersAt (b .entries) i) (metersAt (new .entries) i) (t .early) (new-sound .meters i k)
-        (subst (λ (x : Limits). Fit (entryWidths newest) (entryValues (record { limits = x; meters = metersAt (b .entries) i })))
+        meters-fit T (limitsAt (new .entries) i) (metersAt (b .entries) i) (metersAt (new .entries) i) (t .early)
+        (mask-fits (λ p. opens i (openAt (new .players) p)) 16) (new-sound .meters i k)
+        (subst (λ (x : Limits). Fit (entryWidths newest) (entryValues newest (record { limits = x; meters = metersAt (b .entries) i })))
         (sym (limits-kept i)) (y .entries i)))
-        (λ k. subst (λ (x : Entry). Fit (entryWidths newest) (entryValues x))
+        (λ k. subst (λ (x : Entry). Fit (entryWidths newest) (entryValues newest x))
         (sym (new-legal .entriesBlank i (omega (arith, entries-counted b h)))) (omega arith))
 
     -- a content is an asset's number, or 0

@@ -12,8 +12,8 @@ grounds-of-requires c κs = search needs
 returns : tie.Need-returns
 unfolding grantable
 returns c =
-    let g = c .before .before .before .before .before .before .before .before .grounds-of in
-    let a = c .before .before .before .before .before .before .before .before .before .args in
+    let g = c .before .before .before .before .before .before .before .before .before .grounds-of in
+    let a = c .before .before .before .before .before .before .before .before .before .before .args in
     rw (g .ensures) (none-row true (groundList (groundsOf (a .ask) (a .l) (a .m))))
 
 pub grantable-spec : {M : Type 1} → statement M

@@ -20,12 +20,15 @@ cast-now c = search needs
 flags-of-requires : tie.Need-flags-of-requires
 flags-of-requires c κs = search needs
 
+threshold-full-requires : tie.Need-threshold-full-requires
+threshold-full-requires c κs = search needs
+
 returns : tie.Need-returns
 unfolding flagsOf groundsOf
 returns c =
-    let flagged = c .before .before .before .before .before .before .before .before .before .before .before .before .before .before
-    .before .before .before .before .before .before in
-    rw (flagged .flags-of .ensures)
+    let full = c .before .before .before .before .before .before .before .before .before .before .before .before
+    .before .before .before .before .before .before .before .before in
+    rw (full .before .flags-of .ensures, full .threshold-full .ensures)
 
 pub grounds-of-spec : {M : Type 1} → statement M
-grounds-of-spec = tie.close (tie.spec cast-first cast-interval add-due cast-now flags-of-requires returns)
+grounds-of-spec = tie.close (tie.spec cast-first cast-interval add-due cast-now flags-of-requires threshold-full-requires returns)

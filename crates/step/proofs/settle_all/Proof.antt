@@ -6,13 +6,14 @@ use Rattle.book.specs.declared.Entry.{Entry}
 use Rattle.book.specs.declared.Meters.{Meters}
 use Rattle.book.specs.declared.Player.{Player}
 use Rattle.uses.specs.Uses.{stored, released-stored}
-use Rattle.step.specs.Settle.{with, settleOne, settle-turn, settle-all, released-out, settled-length, settledTo, settle-none}
+use Rattle.step.specs.Settle.{with, settleOne, settle-turn, settle-all, released-out, settledTo, settle-none}
 use Rattle.numbers.proofs.Loops.{length-mapped}
 use mathlib.Core.Logic.{⊎-elim}
 use mathlib.Core.Path.{sym, ap, _∙_, _≡_}
 use Rattle.book.specs.declared.Book.{Book}
 use Rattle.model.specs.Meters.{released}
 use Rattle.model.specs.Step.{openAt}
+use Rattle.model.proofs.Ledger.Concrete.{settled-size}
 use native.Mathlib.Omega.{arith}
 use borrow.Author.Needs.{needs}
 use Rattle.step.proofs.settle_all.Statement.{statement}
@@ -32,6 +33,9 @@ mul-p c = search needs
 
 element-copy-out-p : tie.Need-element-copy-out-p Inv-loop μ-loop
 element-copy-out-p c = search needs
+
+cast-who : tie.Need-cast-who Inv-loop μ-loop
+cast-who c = search needs
 
 cast-k : tie.Need-cast-k Inv-loop μ-loop
 cast-k c = search needs
@@ -80,15 +84,15 @@ loop-again c =
     let a = s .args in
     let o = openAt (l .n .players) (l .i) in
     let es = l .n .entries in
-    let len : length es ≡ 64 = ap (λ (m : Book). length (m .entries)) (l .inv .1) ∙ settled-length _ _ _ ∙ entries-64 s in
-    let m : c .before .if1 .n ≡ with (l .n) (released (a .t) o es) (l .n .players) = ⊎-elim
+    let len : length es ≡ 64 = ap (λ (m : Book). length (m .entries)) (l .inv .1) ∙ settled-size _ _ _ ∙ entries-64 s in
+    let m : c .before .if1 .n ≡ with (l .n) (released (a .t) (l .i) o es) (l .n .players) = ⊎-elim
     (λ w. w .5 ∙ ap (λ (x : List Entry). with (l .n) x (l .n .players))
-    (ap (λ (x : Meters). stored (o .entry) x es) (w .4 .ensures) ∙ released-stored (a .t) es o))
+    (ap (λ (x : Meters). stored (o .entry) x es) (w .4 .ensures) ∙ released-stored (a .t) (l .i) es o))
     (λ w. w .1 ∙ ap (λ (x : List Entry). with (l .n) x (l .n .players))
-    (sym (released-out (a .t) o es (omega (arith, w .0 .left))))) (c .before .if1 .came) in (
+    (sym (released-out (a .t) (l .i) o es (omega (arith, w .0 .left))))) (c .before .if1 .came) in (
       omega arith,
       ap (λ (x : Book). with x (x .entries) (set (x .players) (l .i) (c .shut-player .result))) m ∙ ap
-          (λ (q : Player). with (l .n) (released (a .t) o es) (set (l .n .players) (l .i) q)) (c .shut-player .ensures) ∙ ap
+          (λ (q : Player). with (l .n) (released (a .t) (l .i) o es) (set (l .n .players) (l .i) q)) (c .shut-player .ensures) ∙ ap
           (settleOne (a .t) (l .i)) (l .inv .1) ∙ settle-turn (a .t) (l .i) (a .b) (omega (arith, players-16 s)),
     )
 
@@ -106,6 +110,7 @@ settle-all-spec =
     loop-holds
     mul-p
     element-copy-out-p
+    cast-who
     cast-k
     mul-x
     element-copy-out-x

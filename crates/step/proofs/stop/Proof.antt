@@ -20,8 +20,8 @@ returns : tie.Need-returns
 returns c =
     let a = c .before .before .before .before .before .before .args in
     ap (λ (p : Effect). placed (a .o .entry) p (a .b .entries))
-    (c .stop-on .ensures ∙ ap (λ (x : Entry). stopOn (a .t) (x .limits) (x .meters) (a .o))
-    (c .before .before .before .entry-at .ensures)) ∙ stop-placed (a .t) (a .b .entries) (a .o)
+    (c .stop-on .ensures ∙ ap (λ (x : Entry). stopOn (a .ask .player) (a .ask .time) (x .limits) (x .meters) (a .o))
+    (c .before .before .before .entry-at .ensures)) ∙ stop-placed (a .ask) (a .b .entries) (a .o)
 
 pub stop-spec : {M : Type 1} → statement M
 stop-spec = tie.close (tie.spec cast-k entry-at-requires stop-on-requires returns)

@@ -15,17 +15,17 @@ pick32-requires c κs = search needs
 when-requires : tie.Need-when-requires
 when-requires c κs = search needs
 
-add-t9 : tie.Need-add-t9
+add-t10 : tie.Need-add-t10
 unfolding flagsOf
-add-t9 c = rw (c .before .when .ensures, c .before .before .before .before .flags-of .ensures)
+add-t10 c = rw (c .before .when .ensures, c .before .before .before .before .flags-of .ensures)
     (omega (arith, c .before .before .before .before .before .pre .count))
 
 when-requires-2 : tie.Need-when-requires-2
 when-requires-2 c κs = search needs
 
-add-t11 : tie.Need-add-t11
+add-t12 : tie.Need-add-t12
 unfolding flagsOf
-add-t11 c = rw (c .before .when2 .ensures, c .before .before .before .before .before .before .flags-of .ensures)
+add-t12 c = rw (c .before .when2 .ensures, c .before .before .before .before .before .before .flags-of .ensures)
     (omega (arith, c .before .before .before .before .before .before .before .pre .timed))
 
 when-requires-3 : tie.Need-when-requires-3
@@ -37,9 +37,9 @@ saturating-sub-requires c κs = search needs
 when-requires-4 : tie.Need-when-requires-4
 when-requires-4 c κs = search needs
 
-add-t15 : tie.Need-add-t15
+add-t16 : tie.Need-add-t16
 unfolding flagsOf
-add-t15 c = rw (
+add-t16 c = rw (
   c .before .when4 .ensures,
   c .before .before .saturating-sub .ensures,
   c .before .before .before .before .before .before
@@ -50,22 +50,32 @@ add-t15 c = rw (
 one-requires : tie.Need-one-requires
 one-requires c κs = search needs
 
+momentary-requires : tie.Need-momentary-requires
+momentary-requires c κs = search needs
+
+with-bit-requires : tie.Need-with-bit-requires
+with-bit-requires c κs = search needs
+
+pick32-requires-2 : tie.Need-pick32-requires-2
+pick32-requires-2 c κs = search needs
+
 returns : tie.Need-returns
 unfolding begun flagsOf
-returns c = rw (
-  c .one .ensures,
-  c .before .before .when4 .ensures,
-  c .before .before .before .saturating-sub .ensures,
-  c .before
-      .before .before .before .when3 .ensures,
-  c .before .before .before .before .before .before .when2 .ensures,
-  c .before .before
-      .before .before .before .before .before .before .when .ensures,
-  c .before .before .before .before .before .before .before
-      .before .before .pick32 .ensures,
-  c .before .before .before .before .before .before .before .before .before .before .before
-      .flags-of .ensures,
-)
+returns c =
+    let z = c .before .before .before in
+    rw (
+      c .pick322 .ensures,
+      c .before .with-bit .ensures,
+      c .before .before .momentary .ensures,
+      z .one .ensures,
+      z .before .before .when4 .ensures,
+      z .before .before .before .saturating-sub .ensures,
+      z .before .before .before .before .when3 .ensures,
+      z .before .before .before .before .before .before .when2 .ensures,
+      z .before .before .before .before .before .before .before .before .when .ensures,
+      z .before .before .before .before .before .before .before .before .before .pick32 .ensures,
+      z .before .before .before .before .before .before .before .before .before .before .before .flags-of .ensures,
+    )
 
 pub begun-meters-spec : {M : Type 1} → statement M
 begun-meters-spec =
@@ -74,12 +84,15 @@ begun-meters-spec =
     flags-of-requires
     pick32-requires
     when-requires
-    add-t9
+    add-t10
     when-requires-2
-    add-t11
+    add-t12
     when-requires-3
     saturating-sub-requires
     when-requires-4
-    add-t15
+    add-t16
     one-requires
+    momentary-requires
+    with-bit-requires
+    pick32-requires-2
     returns)

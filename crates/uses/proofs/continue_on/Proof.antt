@@ -1,12 +1,24 @@
 -- `uses::continue_on` meets its contract: a return for each of 14 and 15, and one for more time.
 use Rattle.model.specs.Meters.{isOn}
 use Rattle.model.specs.Choice.{moreUntil}
-use Rattle.uses.specs.Room.{more-room}
+use Rattle.uses.specs.Room.{Narrow, more-room}
 use Rattle.uses.specs.Uses.{continueOn}
 use borrow.Author.Tests.{le-leb, lt-leb, not-true, not-false}
 use borrow.Author.Needs.{needs}
 use Rattle.uses.proofs.continue_on.Statement.{statement}
+use native.Mathlib.Omega.{arith}
 use Rattle.uses.proofs.continue_on.Tie as tie
+
+-- the numbers of limits and meters fit 32 bits
+narrow : (c : tie.Start) → Narrow (c .args .l) (c .args .m)
+narrow c = record {
+  countLimit = omega arith;
+  timedLimit = omega arith;
+  secondsLimit = omega arith;
+  count = omega arith;
+  timed = omega arith;
+  seconds = omega arith;
+}
 
 kept-requires : tie.Need-kept-requires
 kept-requires c κs = search needs
@@ -47,7 +59,8 @@ continued-meters-requires : tie.Need-continued-meters-requires
 unfolding moreUntil
 continued-meters-requires c κs =
     let a = c .before .before .before .before .before .before .args in
-    rw (c .before .before .more-until .ensures) (more-room (a .t) (a .o .until) (a .l) (a .m) (search needs))
+    rw (c .before .before .more-until .ensures) (more-room (a .t) (a .o .until) (a .l) (a .m)
+    (narrow (c .before .before .before .before .before .before)))
 
 returns-4 : tie.Need-returns-4
 unfolding continueOn

@@ -26,19 +26,23 @@ when-requires-2 c κs = search needs
 saturating-sub-requires-4 : tie.Need-saturating-sub-requires-4
 saturating-sub-requires-4 c κs = search needs
 
+with-bit-requires : tie.Need-with-bit-requires
+with-bit-requires c κs = search needs
+
 returns : tie.Need-returns
 unfolding ended flagsOf
-returns c = rw (
-  c .saturating-sub4 .ensures,
-  c .before .when2 .ensures,
-  c .before .before .saturating-sub3 .ensures,
-  c .before .before
-      .before .saturating-sub2 .ensures,
-  c .before .before .before .before .when .ensures,
-  c .before .before .before .before .before
-      .before .before .saturating-sub .ensures,
-  c .before .before .before .before .before .before .before .before .flags-of .ensures,
-)
+returns c =
+    let z = c .before in
+    rw (
+      c .with-bit .ensures,
+      z .saturating-sub4 .ensures,
+      z .before .when2 .ensures,
+      z .before .before .saturating-sub3 .ensures,
+      z .before .before .before .saturating-sub2 .ensures,
+      z .before .before .before .before .when .ensures,
+      z .before .before .before .before .before .before .before .saturating-sub .ensures,
+      z .before .before .before .before .before .before .before .before .flags-of .ensures,
+    )
 
 pub ended-meters-spec : {M : Type 1} → statement M
 ended-meters-spec =
@@ -51,4 +55,5 @@ ended-meters-spec =
     saturating-sub-requires-3
     when-requires-2
     saturating-sub-requires-4
+    with-bit-requires
     returns)

@@ -31,19 +31,23 @@ number-requires-7 c κs = search needs
 number-requires-8 : tie.Need-number-requires-8
 number-requires-8 c κs = search needs
 
+number-requires-9 : tie.Need-number-requires-9
+number-requires-9 c κs = search needs
+
 returns : tie.Need-returns
 unfolding groundValues
 returns c =
     rw (
-      c .number8 .ensures,
-      c .before .number7 .ensures,
-      c .before .before .number6 .ensures,
-      c .before .before .before .number5 .ensures,
-      c .before .before .before .before .number4 .ensures,
-      c .before .before .before .before .before .number3 .ensures,
-      c .before .before .before .before .before .before .number2 .ensures,
-      c .before .before .before .before .before .before .before .number .ensures,
-      c .before .before .before .before .before .before .before .before .grounds-of .ensures,
+      c .number9 .ensures,
+      c .before .number8 .ensures,
+      c .before .before .number7 .ensures,
+      c .before .before .before .number6 .ensures,
+      c .before .before .before .before .number5 .ensures,
+      c .before .before .before .before .before .number4 .ensures,
+      c .before .before .before .before .before .before .number3 .ensures,
+      c .before .before .before .before .before .before .before .number2 .ensures,
+      c .before .before .before .before .before .before .before .before .number .ensures,
+      c .before .before .before .before .before .before .before .before .before .grounds-of .ensures,
     )
 
 pub ground-values-spec : {M : Type 1} → statement M
@@ -59,4 +63,5 @@ ground-values-spec =
     number-requires-6
     number-requires-7
     number-requires-8
+    number-requires-9
     returns)

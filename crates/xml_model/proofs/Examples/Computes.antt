@@ -1,7 +1,7 @@
 -- What the computed examples compute with: to unfold this name is to unfold every definition on its line.
 use Rattle.numbers.specs.Count.{all, first, sum}
 use Rattle.model.specs.Book.{assetsIn, entriesIn, assetPosition, inBook, flagged, momentary, limit, assetLegal, rangesLegal}
-use Rattle.model.specs.Book.{trackLegal, limitsLegal}
+use Rattle.model.specs.Book.{trackLegal, thresholdLegal, limitsLegal}
 use Rattle.xml_model.specs.Repeat.{turns, repeat}
 use Rattle.xml_model.specs.Bytes.{byteAt, same, inClass, span, runEnd, bare, isMark, stuck, looked}
 use Rattle.xml_model.specs.Tags.{stuckAttribute, valueAt, equalsAt, attributeAt, givenStep, given, tailed, emptyTail}
@@ -19,8 +19,8 @@ use Rattle.xml_model.specs.Text.{leadsTo, entered, opened, ended, child,
 use Rattle.xml_model.specs.Text.{root, progressOf, readingOf}
 
 unfoldable pub reading-run : Unit {0}
-unfolding all first sum assetsIn entriesIn assetPosition inBook flagged momentary limit assetLegal rangesLegal trackLegal limitsLegal
-    turns repeat
+unfolding all first sum assetsIn entriesIn assetPosition inBook flagged momentary limit assetLegal rangesLegal trackLegal
+    thresholdLegal limitsLegal turns repeat
     byteAt same inClass span runEnd bare isMark stuck looked stuckAttribute valueAt equalsAt attributeAt givenStep given tailed
     emptyTail attributeStep tailStep tailOf lookStep look stuckTag endTag startTag tagAt unitAt known find nameOf isKind holdsText fits
     rowOf closesFrom holdsAnything leap monthDays monthLength inCalendar daysBefore valueIf numberFrom numberOf isNumber numberIn uidOf
