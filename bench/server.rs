@@ -10,7 +10,8 @@
 //! - for each asset and kind the suitable entries, sorted in the order of the choice; an entry that is over leaves its lists;
 //! - of a group pack one number is kept, how many more players may open it: who has it open stands with the players. An entry
 //!   without a threshold has one that never runs out;
-//! - the rank of an entry in one word; the lists are sorted again only when the start of an interval changes a last moment;
+//! - the rank of an entry in one word; the lists are sorted again only when the start of an interval, or a cancel of that, changes a last
+//!   moment;
 //! - uses are settled only when the earliest until has come;
 //! - the usage report is kept by the positions of the assets, from zeros; it is not printed, as by the run program;
 //! - one read and one write for some eight thousand events, lines put together from prepared text.
@@ -49,11 +50,12 @@ struct Widths {
     number: usize,
 }
 
-const VERSIONS: [Widths; 4] = [
+const VERSIONS: [Widths; 5] = [
     Widths { header: HEADER, entry: 51, player: 24, number: 4 },
     Widths { header: HEADER + 4, entry: 51 + 12, player: 24 + 4, number: 4 },
     Widths { header: HEADER + 4, entry: 51 + 12, player: 24 + 4 + 4, number: 8 },
     Widths { header: HEADER + 4, entry: 51 + 12 + 8, player: 24 + 4 + 4, number: 8 },
+    Widths { header: HEADER + 4 + 8, entry: 51 + 12 + 8, player: 24 + 4 + 4, number: 8 },
 ];
 const MARKED: usize = 4; // the version from which on entries have marks
 
@@ -152,6 +154,8 @@ struct StoredPlayer {
 struct Image {
     time: u32,
     switch: u32,
+    latest_player: u32, // the player of the last event taken, plus 1; 0 for none
+    latest_started: u32,
     assets: Vec<Asset>,
     entries: Vec<Stored>,
     players: Vec<StoredPlayer>,
@@ -227,9 +231,12 @@ fn read_image(data: &[u8]) -> Result<Image, u8> {
     if data.len() != players_at + widths.player * PLAYERS {
         return Err(20);
     }
+    let mut added = Fields(&data[HEADER..widths.header]);
     let mut image = Image {
         time,
-        switch: Fields(&data[HEADER..widths.header]).added(),
+        switch: added.added(),
+        latest_player: added.added(),
+        latest_started: added.added(),
         assets: data[widths.header..entries_at].chunks(ASSET).map(asset_of).collect(),
         entries: data[entries_at..players_at].chunks(widths.entry).map(entry_of).collect(),
         players: data[players_at..].chunks(widths.player).map(|data| player_of(data, widths.number)).collect(),
@@ -332,7 +339,7 @@ impl Image {
             Some(24)
         } else if !self.entries.iter().all(|entry| self.entry_is_good(entry)) {
             Some(25)
-        } else if self.switch > 1 || !self.players.iter().all(|player| self.player_is_good(player)) {
+        } else if !self.header_is_good() || !self.players.iter().all(|player| self.player_is_good(player)) {
             Some(26)
         } else if !(0..self.entries.len()).all(|position| self.meters_are_good(position)) {
             Some(27)
@@ -369,6 +376,24 @@ impl Image {
             && entry.threshold <= PLAYERS as u32
     }
 
+    fn header_is_good(&self) -> bool {
+        let last = match self.latest_player {
+            0 => self.latest_started == 0,
+            p => self.players.get(p as usize - 1).is_some_and(|player| {
+                player.number != 0 && (self.latest_started == 0 || self.latest_started == 1 && self.started_an_interval(player))
+            }),
+        };
+        self.switch <= 1 && last
+    }
+
+    /// Whether the player's open use can have started its entry's interval.
+    fn started_an_interval(&self, player: &StoredPlayer) -> bool {
+        let position = player.open_entry as usize;
+        player.open == 1
+            && self.entries.get(position).is_some_and(|entry| entry.has(INTERVAL) && entry.first == player.begin)
+            && self.users(position).count_ones() == 1
+    }
+
     fn player_is_good(&self, player: &StoredPlayer) -> bool {
         if player.number == 0 {
             return player.blank;
@@ -376,7 +401,7 @@ impl Image {
         let answer = player.answer;
         let answered = match answer.code {
             0 => (answer.entry as usize) < self.entries.len(),
-            10..=15 | 43 => answer.entry == 255 && answer.until == 0,
+            10..=15 | 43 | 44 => answer.entry == 255 && answer.until == 0,
             _ => false,
         };
         let use_is_good = match player.open {
@@ -461,13 +486,13 @@ fn within(flagged: bool, value: u32, least: u32, greatest: u32) -> bool {
 
 // ---- Rules: what an event does to an entry, a player, the book
 
-/// A begin of kind 1 to 5, or a bare continue or stop.
+/// A begin of kind 1 to 5, or a bare continue, stop or cancel.
 #[inline(always)]
 fn request_is_good(request: u32) -> bool {
     if operation(request) == 1 {
         (request & 0xff).wrapping_sub(1) < KINDS as u32
     } else {
-        request == 0x0200_0000 || request == 0x0300_0000
+        matches!(request, 0x0200_0000 | 0x0300_0000 | 0x0400_0000)
     }
 }
 
@@ -512,6 +537,7 @@ struct Entry {
     room: u32, // how many more players may open it
     timer: u32,
     interval: u32,
+    ends: u32, // the last moment while the interval has not started
     timed_value: u32,
     asset: u16,
     flags: u8,
@@ -533,6 +559,7 @@ impl Entry {
         room: 0,
         timer: 0,
         interval: 0,
+        ends: 0,
         timed_value: 0,
         asset: 0,
         flags: 0,
@@ -544,18 +571,20 @@ impl Entry {
     fn new(from: &Stored, switch: u32) -> Entry {
         let or = |flag: u8, limit: u32, without: u32| if from.has(flag) { limit } else { without };
         let most = if from.threshold == 0 { NEVER } else { from.threshold };
+        let ends = or(END, from.end + 1, NEVER);
         Entry {
             used_count: from.used_count,
             count: or(COUNT, from.count, NEVER),
             used_timed: from.used_timed,
             timed: or(TIMED, from.timed, NEVER),
             start: from.start,
-            last: or(END, from.end + 1, NEVER).min(if from.started == 1 { from.first + from.interval } else { NEVER }),
+            last: ends.min(if from.started == 1 { from.first + from.interval } else { NEVER }),
             used_seconds: from.used_seconds,
             accumulated: or(ACCUMULATED, from.accumulated, NEVER),
             room: most - from.marks.count_ones(),
             timer: from.timer,
             interval: from.interval,
+            ends,
             timed_value: from.timed_value,
             asset: from.asset,
             flags: from.flags,
@@ -576,7 +605,8 @@ impl Entry {
     }
 
     /// Whether nothing can be granted from t on: dates, interval or count are over. A full threshold is not over: it has room again
-    /// when a use ends. (Once an order gives a count back, its entry has to be listed again.)
+    /// when a use ends. A cancel gives back a count or unstarts an interval, but only if no event was taken since the begin, and so no
+    /// list has lost the entry for it.
     #[inline(always)]
     fn is_over(&self, t: u32) -> bool {
         (self.last <= t) | (self.used_count >= self.count)
@@ -611,6 +641,19 @@ impl Entry {
             self.last = before.min(t + self.interval);
         }
         self.last != before
+    }
+
+    /// Takes off what a begin that was granted so many seconds has metered.
+    fn take_off(&mut self, seconds: u32) {
+        self.used_count -= (self.flags & COUNT) as u32;
+        self.used_timed -= (self.flags & TIMED) as u32 / TIMED as u32;
+        self.used_seconds -= if self.flags & ACCUMULATED != 0 { seconds } else { 0 };
+    }
+
+    /// Unstarts the interval; whether its last moment is another one from now on.
+    fn unstart(&mut self) -> bool {
+        self.unstarted = true;
+        std::mem::replace(&mut self.last, self.ends) != self.ends
     }
 
     /// Meters the end of a use that ran so many seconds; a timer of 0 takes nothing off.
@@ -658,8 +701,16 @@ struct Line {
     seconds: u64,
 }
 
+/// The last event taken: its player plus 1, 0 for none; whether it opened a use that started an interval.
+#[derive(Clone, Copy)]
+struct Last {
+    player: u8,
+    started: bool,
+}
+
 struct Server {
     time: u32,
+    last: Last,
     next_end: u32, // no open use ends before this
     open: u16,     // one bit for each player with a use open
     players: [Player; PLAYERS],
@@ -674,6 +725,7 @@ impl Server {
     fn new(image: &Image) -> Server {
         let mut server = Server {
             time: image.time,
+            last: Last { player: image.latest_player as u8, started: image.latest_started == 1 },
             next_end: NEVER,
             open: 0,
             players: std::array::from_fn(|p| {
@@ -768,12 +820,14 @@ impl Server {
             self.settle(t);
         }
         let is_open = self.open >> p & 1 != 0;
+        let last = std::mem::replace(&mut self.last, Last { player: p as u8 + 1, started: false });
         let answer = match operation(request) {
             1 if is_open => refused(11),
             1 => self.begin(p, request, t),
             _ if !is_open => refused(14),
             2 => self.go_on(p, t),
-            _ => self.stop(p, t),
+            3 => self.stop(p, t),
+            _ => self.cancel(p, last),
         };
         let player = &mut self.players[p];
         player.number = number;
@@ -841,9 +895,11 @@ impl Server {
             self.passed_over(which, t);
         }
         let entry = &mut self.entries[position as usize % MOST];
+        let starts = entry.unstarted;
         let moved = entry.begin(t);
         let mut until = t;
         if !is_momentary(kind) {
+            self.last.started = starts;
             until = entry.least_until(t, t);
             entry.add_seconds(until - t);
             entry.room -= 1;
@@ -886,6 +942,24 @@ impl Server {
         }
         self.close(p, t);
         Answer { code: 0, entry: position, until: t }
+    }
+
+    /// Takes back the begin of the open use, if that was the last event taken.
+    #[inline(never)]
+    fn cancel(&mut self, p: usize, last: Last) -> Answer {
+        let Player { request, answer, open_entry: position, begin, until, .. } = self.players[p];
+        let begun = operation(request) == 1 && answer.code == 0 && answer.entry == position && answer.until == until;
+        if last.player as usize != p + 1 || !begun {
+            return refused(44);
+        }
+        let entry = &mut self.entries[position as usize % MOST];
+        entry.take_off(until - begin);
+        entry.room += 1;
+        self.open &= !(1 << p);
+        if last.started && entry.unstart() {
+            self.sort_again(position);
+        }
+        Answer { code: 0, entry: position, until: begin }
     }
 }
 

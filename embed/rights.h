@@ -32,11 +32,11 @@ enum {
     RIGHTS_OK = 0,
     RIGHTS_IMAGE_LENGTH = 20,  /* the image is too short, its length is not what its header says, or it is more than the room */
     RIGHTS_IMAGE_MARK = 21,    /* it does not begin with RBK */
-    RIGHTS_IMAGE_VERSION = 22, /* its version is none of 1 to 4 */
+    RIGHTS_IMAGE_VERSION = 22, /* its version is none of 1 to 5 */
     RIGHTS_IMAGE_HEADER = 23,  /* more than 64 assets or entries, or a time that is too late */
     RIGHTS_IMAGE_ASSETS = 24,  /* a rule on assets is broken */
     RIGHTS_IMAGE_ENTRIES = 25, /* a rule on entries is broken */
-    RIGHTS_IMAGE_PLAYERS = 26, /* a rule on players is broken */
+    RIGHTS_IMAGE_PLAYERS = 26, /* a rule on players, the switch or what was taken last is broken */
     RIGHTS_IMAGE_METERS = 27,  /* a rule on what has been used, or on the marks, is broken */
     RIGHTS_SHORT_OUT = 30,     /* the buffer for a result is too short: the text, the numbers or the next image */
     RIGHTS_NOT_THERE = 31,     /* the book has no asset, entry or player at that position */
@@ -49,7 +49,7 @@ enum {
 enum {
     RIGHTS_GRANTED = 0,
     /* turned away: the book is as it was, and the number is still free */
-    RIGHTS_BAD_REQUEST = 1,    /* no such operation or kind, or a continue or stop that names an asset or a kind */
+    RIGHTS_BAD_REQUEST = 1,    /* no such operation or kind, or a continue, stop or cancel that names an asset or a kind */
     RIGHTS_BAD_PLAYER = 2,     /* the player is above 15 */
     RIGHTS_OUT_OF_LINE = 3,    /* the number is neither the player's next nor counter 1 under a greater boot number */
     RIGHTS_NUMBER_USED = 4,    /* the player's last number, with another request */
@@ -61,13 +61,14 @@ enum {
     RIGHTS_ALREADY_OPEN = 11,  /* a begin while the player has a use open */
     RIGHTS_NONE_SUITABLE = 12, /* no entry of that kind for the asset */
     RIGHTS_NONE_GRANTABLE = 13, /* there are some, but none can be used now: rights_grounds has why */
-    RIGHTS_NOTHING_OPEN = 14,  /* a continue or stop while nothing is open */
+    RIGHTS_NOTHING_OPEN = 14,  /* a continue, stop or cancel while nothing is open */
     RIGHTS_NO_MORE_TIME = 15,  /* a continue that would add no second */
-    RIGHTS_SWITCHED_OFF = 43   /* none can be used now, but one could with the book's switch on */
+    RIGHTS_SWITCHED_OFF = 43,  /* none can be used now, but one could with the book's switch on */
+    RIGHTS_NOT_THE_LAST = 44   /* a cancel: something is open, but its begin was not the last event taken, of any player */
 };
 
-/* An event. */
-enum { RIGHTS_BEGIN = 1, RIGHTS_CONTINUE = 2, RIGHTS_STOP = 3 };
+/* An event. A cancel takes back the begin of what the player has open, as if it had not been, if nothing was taken since. */
+enum { RIGHTS_BEGIN = 1, RIGHTS_CONTINUE = 2, RIGHTS_STOP = 3, RIGHTS_CANCEL = 4 };
 enum { RIGHTS_PLAY = 1, RIGHTS_DISPLAY = 2, RIGHTS_EXECUTE = 3, RIGHTS_PRINT = 4, RIGHTS_EXPORT = 5 };
 
 /* Which limits an entry has: its flags are a sum of these. */
@@ -84,7 +85,7 @@ enum {
     RIGHTS_RECORD = 17,          /* bytes of an event record */
     RIGHTS_LINE = 19,            /* the longest line of an answer, including its line feed */
     RIGHTS_NO_ENTRY = 255,       /* the entry in an answer that is no grant */
-    RIGHTS_LONGEST_IMAGE = 5391, /* bytes of an image with 64 assets and 64 entries: room for any next image */
+    RIGHTS_LONGEST_IMAGE = 5399, /* bytes of an image with 64 assets and 64 entries: room for any next image */
     RIGHTS_LINES = 64,           /* the most lines of a list */
     RIGHTS_PLAYERS = 16,
     RIGHTS_STACK = 524288,       /* bytes of stack that are enough for any call but rights_from_xml (docs/EMBEDDING.md) */
@@ -148,8 +149,9 @@ uint8_t rights_answer(uint8_t *image, size_t image_room, uint64_t *image_length,
  *
  * image, image_length  the buffer and the image's length, as for rights_answer.
  * player .. time       the event: its number, RIGHTS_NUMBER(boot, counter); operation RIGHTS_BEGIN, asset and kind as asked; or
- *                      RIGHTS_CONTINUE or RIGHTS_STOP with asset 0 and kind 0. Time is in seconds since 1970-01-01 UTC.
- * code, entry, until   out: the answer. A code other than 0 comes with entry 255 and until 0.
+ *                      RIGHTS_CONTINUE, RIGHTS_STOP or RIGHTS_CANCEL with asset 0 and kind 0. Time is in seconds since 1970-01-01 UTC.
+ * code, entry, until   out: the answer. A code other than 0 comes with entry 255 and until 0; until is the begin of the use if a cancel
+ *                      is granted.
  * report               the list of lines, as for rights_answer.
  *
  * Returns 0 if the event was answered, whatever the answer, or 20 to 27 if the image is refused (20 too if *image_length is
@@ -186,8 +188,17 @@ uint8_t rights_from_xml(const uint8_t *text, size_t text_length,
  * or 20 to 27 if the image is refused, or 31 if the book has nothing at that position, or 30 if out has fewer
  * elements than the call has numbers. The image is only read. Later versions may add numbers at the end. */
 
-/* The book: how many assets and entries, the time of the latest event taken, and whether usage is recorded (1 or 0). */
-enum { RIGHTS_BOOK_ASSETS, RIGHTS_BOOK_ENTRIES, RIGHTS_BOOK_TIME, RIGHTS_BOOK_SWITCH, RIGHTS_BOOK_NUMBERS };
+/* The book: how many assets and entries, the time of the latest event taken, whether usage is recorded (1 or 0), and of which player
+ * the latest event taken was. */
+enum {
+    RIGHTS_BOOK_ASSETS,
+    RIGHTS_BOOK_ENTRIES,
+    RIGHTS_BOOK_TIME,
+    RIGHTS_BOOK_SWITCH,
+    RIGHTS_BOOK_LATEST_PLAYER,  /* that player plus 1; 0: none, or the image was written by an older server */
+    RIGHTS_BOOK_LATEST_STARTED, /* 1: that event opened a use that started an interval */
+    RIGHTS_BOOK_NUMBERS
+};
 
 uint8_t rights_book(const uint8_t *image, size_t image_length, uint32_t *out, size_t out_length);
 

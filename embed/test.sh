@@ -99,7 +99,7 @@ page=$work/page
 rm -rf $page && mkdir -p $page/empty && cp embed/rights.h embed/rust/rights.rs $lib $afternoon/rights.rbk $page || exit 2
 cp examples/rights/season.xml $page/rights.xml || exit 2
 printf '0 0 1060\n1 more\n' >$work/page_server
-printf '60 elements, a book of 760 bytes\n' >$work/page_from_xml
+printf '60 elements, a book of 768 bytes\n' >$work/page_from_xml
 # built PROGRAM FENCE FILE WHICH: the page's program of that name, the WHICH-th of its language
 built() {
     awk -v from="\`\`\`$2" -v which="$4" '$0 == from { on = ++n == which; next } /^```/ { on = 0 } on' docs/EMBEDDING.md >$page/$3

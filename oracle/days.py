@@ -17,7 +17,7 @@ from pathlib import Path
 
 import rights
 import written_days
-from rights import (ACCUMULATED, BEGIN, CONTINUE, COUNT, END, INTERVAL, LAST_NUMBER, LATEST, START, STOP, TIMED, Asset,
+from rights import (ACCUMULATED, BEGIN, CANCEL, CONTINUE, COUNT, END, INTERVAL, LAST_NUMBER, LATEST, START, STOP, TIMED, Asset,
                     Book, Entry, Event)
 
 STORED = Path(__file__).resolve().parent.parent / "crates" / "test_days"
@@ -195,6 +195,35 @@ def group_book(rng, around):
     return book
 
 
+def loading_book(rng, around):
+    """Few entries that begins soon use up, most of them with an interval, so that what a begin gives back decides what is granted next; and
+    mostly one that lasts."""
+    contents = list(range(1, rng.randint(2, 4)))
+    book = Book(assets=[Asset(9, 0, 0)] + [Asset(number, 9, 1) for number in contents])
+    kinds = rng.choice(((1,), (1,), (2,), (3,), (1, 4), (5,)))
+    for _ in range(rng.choice((1, 1, 1, 2, 2, 3, 4))):
+        flags = rng.choice((INTERVAL, INTERVAL, INTERVAL | COUNT, INTERVAL | END, INTERVAL | TIMED, COUNT, COUNT | TIMED, TIMED,
+                            ACCUMULATED, INTERVAL | ACCUMULATED, COUNT | TIMED | INTERVAL | ACCUMULATED))
+        entry = entry_with(rng, rng.choice((9, 9, *contents)), rng.choice(kinds), flags, around)
+        if entry.has(COUNT):
+            entry.count = limit(rng, rng.choice((1, 1, 2, 3, 20)))
+        if entry.has(TIMED):
+            entry.timed = limit(rng, rng.choice((1, 1, 2, 2, 3)))
+            entry.timer = 0 if entry.is_momentary() else rng.choice((0, 1, 1, 2, 5, 60, 90))
+        if entry.has(INTERVAL):
+            entry.interval = limit(rng, rng.choice((1, 5, 20, 60, 61, 300, 300)))
+        if entry.has(ACCUMULATED):
+            entry.accumulated = limit(rng, rng.choice((1, 40, 60, 61, 100, 120, 2000)))
+        book.entries.append(entry)
+    if rng.random() < 0.5:
+        book.entries.append(Entry(1, 9, rng.choice(kinds), COUNT | INTERVAL, count=1000, interval=rng.choice((2000, 100_000_000))))
+    if rng.random() < 0.5:
+        track(rng, book)
+    if rng.random() < 0.5:
+        set_thresholds(rng, book)
+    return book
+
+
 def rival_book(rng, around, length):
     """Entries that compete for the same begins of a day of so many events, with an end or an interval, or both, or neither. Ends, and
     intervals that start in the first seconds, are over within a few seconds of one another, some in the middle of the day. What has no
@@ -258,6 +287,13 @@ def just_full(rng, book):
         book.switch = 1 - book.switch
 
 
+def begin_last(rng, book):
+    """Makes the last event taken a begin where some players' begins are their latest events, so that the image is in the middle of one."""
+    begun = [index for index, player in enumerate(book.players) if player.open and player.operation == BEGIN]
+    if begun:
+        book.latest_player, book.latest_started = rng.choice(begun) + 1, 0
+
+
 def make_old(rng, book):
     """Gives some players numbers close to the last one, or to the last counter of a boot number, as after very many events."""
     for player in book.players:
@@ -319,10 +355,12 @@ def next_event(rng, book, around):
     if chance > 0.97:
         t = rng.choice((max(book.time - 1, 0), LATEST + 1, TOP))
     elif chance > 0.95:
-        return Event(rng.choice((index, 16, 255)), number, rng.choice((0, 1, 2, 3, 4)), rng.randint(0, 2),
+        return Event(rng.choice((index, 16, 255)), number, rng.choice((0, 1, 2, 3, 4, 5)), rng.randint(0, 2),
                      rng.randint(0, 6), t)
     elif t > LATEST and rng.random() < 0.9:
         t = min(book.time + rng.choice((0, 0, 0, 1)), LATEST)
+    if rng.random() < 0.08:
+        return cancel_event(rng, book, t)
     if player.open and rng.random() < 0.8 or rng.random() < 0.06:
         return Event(index, number, rng.choice((CONTINUE, CONTINUE, STOP)), 0, 0, t)
     if not book.entries or rng.random() < 0.06:
@@ -332,6 +370,23 @@ def next_event(rng, book, around):
     if not askers and rng.random() < 0.8:
         askers = [a.number for a in book.assets if a.key]
     return Event(index, number, BEGIN, rng.choice(askers or [wanted.asset]), wanted.kind, t)
+
+
+def cancel_event(rng, book, t):
+    """A cancel: mostly of the player whose event was the last one taken, so that its begin may still be taken back; otherwise of one that
+    has something open, or of any."""
+    players, opened = range(rights.PLAYERS), [index for index, player in enumerate(book.players) if player.open]
+    index = rng.choice(opened or players)
+    if book.latest_player and rng.random() < 0.7:
+        index = book.latest_player - 1
+    elif rng.random() < 0.1:
+        index = rng.choice(players)
+    player = book.players[index]
+    if player.open and rng.random() < 0.2:
+        t = max(book.time, player.until - rng.choice((0, 0, 1)))
+    elif player.open and t >= player.until:
+        t = book.time
+    return Event(index, next_number(rng, player.number), CANCEL, 0, 0, min(t, LATEST))
 
 
 class Cabins:
@@ -353,7 +408,8 @@ class Cabins:
         if request is None:
             number = next_number(rng, player.number)
             if player.open:
-                request = (number, rng.choice((CONTINUE, STOP)), 0, 0)
+                operation = CANCEL if book.latest_player == index + 1 and rng.random() < 0.3 else rng.choice((CONTINUE, STOP))
+                request = (number, operation, 0, 0)
             else:
                 request = (number, BEGIN, rng.choice(self.contents), 1)
         if rng.random() < 0.3:
@@ -380,6 +436,8 @@ class Rivals:
         if chance < 0.1 and player.number:
             return Event(index, player.number, player.operation, player.asset, player.kind, now)
         number, t = next_number(rng, player.number), now + rng.choice((0, 0, 0, 1, 1, 2, 3))
+        if chance > 0.9:
+            return cancel_event(rng, book, t)
         if player.open:
             return Event(index, number, rng.choice((CONTINUE, STOP, STOP)), 0, 0, min(t, LATEST))
         found = list(self.meetings(book, now)) if chance < 0.6 else []
@@ -427,9 +485,49 @@ class Group:
         ends = [each.until for each in book.players if each.open]
         if ends and rng.random() < self.ends:
             t = max(now, min(ends) - rng.choice((0, 0, 1)))
+        if chance > 0.93:
+            return cancel_event(rng, book, t)
         if player.open and t < player.until:
             return Event(index, number, STOP if rng.random() < self.stops else CONTINUE, 0, 0, min(t, LATEST))
         return Event(index, number, BEGIN, rng.choice(self.contents), rng.choice(self.kinds), min(t, LATEST))
+
+
+class Loading:
+    """Players on a book of loading_book, whose films often do not load: a begin is taken back, mostly at once, and asked for again by that
+    player or by another. In between come resends, requests that are turned away or refused, continues and stops."""
+
+    def __init__(self, rng, book):
+        self.rng = rng
+        self.count, self.steps = rng.choice((1, 1, 2, 3, 5, 16)), rng.choice(((0, 0, 0, 1), (0, 0, 0, 1, 2, 5), (0, 0, 1, 2, 5, 20)))
+        self.cancels = rng.choice((0.2, 0.4, 0.7))
+        self.kinds = [entry.kind for entry in book.entries]
+        self.contents = [asset.number for asset in book.assets if asset.key]
+
+    def next_event(self, book, around):
+        rng, now, chance = self.rng, max(book.time, around), self.rng.random()
+        index, t = rng.randrange(self.count), now + rng.choice(self.steps)
+        if book.latest_player and rng.random() < 0.5:
+            index = book.latest_player - 1
+        player = book.players[index]
+        if chance < 0.03:
+            return next_event(rng, book, around)
+        if chance < 0.15 and player.number:
+            asked = (player.operation, player.asset, player.kind) if chance < 0.12 else (rng.choice((STOP, CANCEL)), 0, 0)
+            return Event(index, player.number, *asked, now)
+        number = (other_number if rng.random() < 0.04 else next_number)(rng, player.number)
+        if chance < 0.17:
+            return Event(index, number, CANCEL, 0, 0, rng.choice((max(0, now - 1), LATEST + 1)))
+        if chance < 0.19:
+            return Event(index, number, rng.choice((0, CANCEL, CANCEL, CANCEL, 5)), rng.randint(0, 1), rng.randint(0, 1), min(t, LATEST))
+        last = book.players[book.latest_player - 1]
+        if rng.random() < (self.cancels if last.open and rights.may_cancel(book, last) else 0.06):
+            return cancel_event(rng, book, t)
+        if player.open and t < player.until:
+            operation = rng.choice((CONTINUE, CONTINUE, STOP, STOP, STOP, BEGIN))
+            if operation != BEGIN:
+                return Event(index, number, operation, 0, 0, min(t, LATEST))
+        content = rng.choice(self.contents) if rng.random() < 0.95 else 9
+        return Event(index, number, BEGIN, content, rng.choice(self.kinds), min(t, LATEST))
 
 
 def damaged(rng, record):
@@ -445,8 +543,9 @@ def damaged(rng, record):
 
 # ---- Days
 
-KINDS = ("crowd", "crowd", "wide", "cabins", "rivals", "rivals", "groups", "groups", "greatest", "going on", "old", "damaged image")
-PLAYED = {"cabins": Cabins, "rivals": Rivals, "groups": Group}     # sorts of days whose players have a way of their own
+KINDS = ("crowd", "crowd", "wide", "cabins", "rivals", "rivals", "groups", "groups", "loading", "loading", "greatest", "going on", "old",
+         "damaged image")
+PLAYED = {"cabins": Cabins, "rivals": Rivals, "groups": Group, "loading": Loading}     # sorts of days whose players have a way of their own
 
 
 def make_day(seed, length, kind=None, around=None):
@@ -465,6 +564,8 @@ def make_day(seed, length, kind=None, around=None):
         book = rival_book(rng, around, length)
     elif kind == "groups":
         book = group_book(rng, around)
+    elif kind == "loading":
+        book = loading_book(rng, around)
     else:
         book = fresh_book(rng, around)
     if kind != "rivals":
@@ -475,10 +576,12 @@ def make_day(seed, length, kind=None, around=None):
         play(rng, book, around, None, rng.randint(1, 60))
         nothing_more(rng, book)
         just_full(rng, book)
-    if kind in ("rivals", "groups") and rng.random() < 0.3:
+    if kind in ("rivals", "groups", "loading") and rng.random() < 0.3:
         play(rng, book, around, PLAYED[kind](rng, book), rng.randint(1, 30))
         if kind == "groups":
             just_full(rng, book)
+        if kind == "loading" and rng.random() < 0.5:
+            begin_last(rng, book)
     if kind == "old":
         make_old(rng, book)
     image, book = stored(rng, book)
@@ -502,8 +605,8 @@ def with_short_numbers(book):
 def stored(rng, book):
     """An image of the book and the book that it is read as. An older version has lost what it has no field for."""
     if rng.random() < OLD:
-        version = rng.choice((1, 2, 3))
-        image = rights.write(book if version == 3 else with_short_numbers(book), version)
+        version = rng.choice((1, 2, 3, 4))
+        image = rights.write(book if version >= 3 else with_short_numbers(book), version)
     else:
         image = rights.write(book)
     code, book = rights.read(image)
@@ -555,11 +658,24 @@ def damaged_marks(rng, book):
     return rights.write(book)
 
 
+def damaged_last(rng, book):
+    """The image of the book with another player last taken, or another mark of an interval, whether or not that meets the rules."""
+    opened = [index + 1 for index, player in enumerate(book.players) if player.open]
+    if rng.random() < 0.7:
+        book.latest_player = rng.choice((0, 1, 16, 17, 256, 65_537, TOP, *opened, *opened))
+    if rng.random() < 0.7:
+        book.latest_started = rng.choice((0, 1, 1, 1, 2, 256, TOP))
+    if opened and rng.random() < 0.5:
+        player = book.players[rng.choice(opened) - 1]
+        player.begin = rng.choice((player.begin, book.entries[player.open_entry].first))
+    return rights.write(book)
+
+
 def damaged_bytes(rng, book):
     """The image of the book with a few bytes changed, cut off or added; None for a missing file."""
     image = bytearray(stored(rng, book)[0])
     if rng.random() < 0.05:
-        image[4] = rng.choice((0, 1, 2, 3, 4, 5, 255))     # another version, the length as it was
+        image[4] = rng.choice((0, 1, 2, 3, 4, 5, 6, 255))     # another version, the length as it was
     for _ in range(rng.randint(1, 2)):
         image[rng.randrange(len(image))] = rng.choice((0, 1, 2, 255, rng.randrange(256)))
     chance = rng.random()
@@ -577,7 +693,7 @@ def damaged_day(rng, around):
     book = fresh_book(rng, around)
     play(rng, book, around, None, rng.randint(1, 40))
     records, _ = play(rng, copy.deepcopy(book), around, None, 5)
-    damages = (damaged_limit, damaged_track, damaged_marks, damaged_marks, damaged_bytes, damaged_bytes)
+    damages = (damaged_limit, damaged_track, damaged_marks, damaged_marks, damaged_last, damaged_last, damaged_bytes, damaged_bytes)
     image = (rng.choice(damages) if book.entries else damaged_bytes)(rng, book)
     return image, b"".join(records), rights.run(image or b"", b"".join(records))
 
@@ -597,6 +713,8 @@ def stored_days():
         yield make_day(1 + number, 150, "rivals", arounds[number % 5])
     for number in range(72, 90):
         yield make_day(1 + number, 150, "groups", arounds[number % 5])
+    for number in range(90, 110):
+        yield make_day(1 + number, 150, "loading", arounds[number % 5])
     yield from written_days.days()
 
 

@@ -3,10 +3,10 @@
     python3 oracle/image_fuzz.py IMAGES [SEED] [--program PATH]
 
 A stored image, or the book after a random day laid out by one of the versions, is damaged in up to three places: bits,
-bytes, a number of 16, 32 or 64 bits set to one close to a bound or taken from another place, an entry's threshold or marks, bytes left
-out or put in, another version or count in the header. Some are left whole. target/bin/test_images reads them, each with the last
-accepted book held, and prints the code, or the bytes that the book is written back as; rights.py must agree. The first difference ends
-the run, with status 1.
+bytes, a number of 16, 32 or 64 bits set to one close to a bound or taken from another place, an entry's threshold or marks, the header's
+player last taken or its mark of an interval, bytes left out or put in, another version or count in the header. Some are left whole.
+target/bin/test_images reads them, each with the last accepted book held, and prints the code, or the bytes that the book is written back
+as; rights.py must agree. The first difference ends the run, with status 1.
 """
 
 import argparse
@@ -53,9 +53,13 @@ def damaged(rng, data):
     for _ in range(rng.choice((0, 1, 1, 1, 1, 2, 2, 3))):
         at, size = rng.randrange(len(data) + 1), rng.choice((2, 4, 4, 4, 8))
         how = rng.random()
-        whole = len(data) > 6 and data[3:5] == b"\0\4" and len(data) == rights.VERSIONS[4].length(data[5], data[6])
-        if rng.random() < 0.15 and whole and data[6]:
-            at = 15 + 5 * data[5] + 71 * rng.randrange(data[6]) + rng.choice((63, 67, 67))      # of a threshold or of marks
+        version = data[4] if len(data) > 6 and data[3] == 0 and data[4] in (4, 5) else 0
+        whole = version and len(data) == rights.VERSIONS[version].length(data[5], data[6])
+        if rng.random() < 0.15 and whole and version == 5:
+            data = other_last(rng, data)
+        elif rng.random() < 0.15 and whole and data[6]:
+            header = 11 + rights.VERSIONS[version].header.size
+            at = header + 5 * data[5] + 71 * rng.randrange(data[6]) + rng.choice((63, 67, 67))      # of a threshold or of marks
             bit, was = 1 << rng.randrange(32), int.from_bytes(data[at:at + 4], "big")
             number = rng.choice((0, 1, 2, 3, 15, 16, 17, bit, was ^ bit, was | bit, was & ~bit))
             data = data[:at] + number.to_bytes(4, "big") + data[at + 4:]
@@ -70,17 +74,33 @@ def damaged(rng, data):
             other = rng.randrange(len(data) + 1)
             data = data[:at] + data[other:other + size] + data[at + size:]
         elif how < 0.8:
-            data = data[:at] + data[at + rng.choice((1, 4, 5, 8, 51, 63, 71)):]
+            data = data[:at] + data[at + rng.choice((1, 4, 5, 8, 8, 12, 51, 63, 71)):]
         elif how < 0.85:
             data = data[:at] + rng.randbytes(rng.choice((1, 4, 5, 8, 12, 64))) + data[at:]
         elif how < 0.9 and len(data) > 4:
-            data = data[:4] + bytes([rng.choice((0, 1, 2, 3, 4, 5, 255))]) + data[5:]
+            data = data[:4] + bytes([rng.choice((0, 1, 2, 3, 4, 5, 6, 255))]) + data[5:]
         elif how < 0.95 and len(data) > 6:
             where = rng.choice((5, 6))
             data = data[:where] + bytes([(data[where] + rng.choice((-1, 1))) % 256]) + data[where + 1:]
         else:
             data = data[:at]
     return data[:LONGEST]
+
+
+def other_last(rng, data):
+    """A whole image of version 5 with another player last taken, mostly one with something open, and another mark; now and then that use
+    begins where its entry's interval does."""
+    players = len(data) - 16 * 32
+    opened = [p for p in range(16) if data[players + 32 * p + 18] == 1 and data[players + 32 * p + 19] < data[6]]
+    last = rng.choice((0, 1, 15, 16, 17, 256, *(p + 1 for p in opened), *(p + 1 for p in opened)))
+    data = data[:15] + last.to_bytes(4, "big") + rng.choice((0, 1, 1, 1, 2, 256)).to_bytes(4, "big") + data[23:]
+    if last - 1 in opened and rng.random() < 0.7:
+        at = players + 32 * (last - 1)
+        entry = 23 + 5 * data[5] + 71 * data[at + 19]
+        data = data[:at + 20] + data[entry + 42:entry + 46] + data[at + 24:]
+        if rng.random() < 0.5:      # only with the flag of an interval
+            data = data[:entry + 5] + bytes([data[entry + 5] | 16]) + data[entry + 6:]
+    return data
 
 
 def try_batch(program, seed, counts):

@@ -11,10 +11,10 @@ The script writes
   crates/bench_image/data/full.rbk  one image of the greatest size; crates/bench_image/stdout  its answer and its length
   oracle/images.txt              for each case its answer, its length, its version, its name, its base and its edits
 
-Edits are words: `time N`; `switch N`; `asset I FIELD N`, `entry I FIELD N` and `player I FIELD N` set a field of a record;
-`entry I limits ..` and `use ..` set several (see below); `drop asset I` removes an asset; `byte I N` and `length N`
-(cut, or padded with 0) change the image made so far. An entry's marks are those of the players that have it open; `entry I marks N`
-makes them others.
+Edits are words: `time N`; `switch N`; `latest_player N`; `latest_started N`; `asset I FIELD N`, `entry I FIELD N` and `player I FIELD N`
+set a field of a record; `entry I limits ..` and `use ..` set several (see below); `drop asset I` removes an asset; `byte I N` and
+`length N` (cut, or padded with 0) change the image made so far. An entry's marks are those of the players that have it open;
+`entry I marks N` makes them others.
 """
 
 from pathlib import Path
@@ -152,6 +152,27 @@ def full_and_shared():
     return book
 
 
+def started():
+    """Two play entries with an interval of 100 at time 100. Player 0 has begun the first one at 90 and started its interval with that;
+    player 2 has a use of the other open, begun in the second in which that one's interval started; player 1 has stopped, player 3 was
+    refused."""
+    book = Book(100, [Asset(1, 0, 1)])
+    book.entries = [Entry(1, 1, 1, 16, interval=100, first=90, started=1), Entry(1, 1, 1, 16, interval=100, first=80, started=1)]
+    book.players[0] = Player(1, 1, 1, 1, 0, 0, 130, 1, 0, 90, 130, 1)
+    book.players[1] = Player(4, 3, 0, 0, 0, 1, 85)
+    book.players[2] = Player(1, 1, 1, 1, 0, 1, 130, 1, 1, 80, 130, 1)
+    book.players[3] = Player(2, 1, 7, 1, 10, 255, 0)
+    return book
+
+
+def full_and_last():
+    """The book `full_and_shared` with the last player's begin as the last event taken, which has started its interval."""
+    book = full_and_shared()
+    book.latest_player, book.latest_started = 16, 1
+    book.entries[48].first = book.players[15].begin
+    return book
+
+
 # ---- Edits
 
 ENTRY_LIMITS = ("count", "timed", "timer", "start", "end", "interval", "accumulated")
@@ -188,21 +209,22 @@ def mark(book):
             book.entries[player.open_entry].marks |= 1 << p
 
 
-WIDTHS = {1: (0, 51, 24), 2: (4, 63, 28), 3: (4, 63, 32)}   # of an older version: the header behind its first 11 bytes, an entry, a player
+# Of an older version: the header behind its first 11 bytes, an entry, a player.
+WIDTHS = {1: (0, 51, 24), 2: (4, 63, 28), 3: (4, 63, 32), 4: (4, 71, 32)}
 
 
 def widened(data):
-    """An image of an older version as one of version 4, without a look at the book: the added fields are 0 but an entry's last one, which
+    """An image of an older version as one of version 5, without a look at the book: the added fields are 0 but an entry's last one, which
     has a bit for each player that has the entry open; and 32 zero bits stand in front of each player's number before version 3."""
     header, entry, player = WIDTHS[data[4]]
-    assets, front = 11 + header, bytes(0 if data[4] == 3 else 4)
+    assets, front = 11 + header, bytes(0 if data[4] >= 3 else 4)
     entries = assets + 5 * data[5]
     players = entries + entry * data[6]
     records = [(front + data[at:at + player]).ljust(32, b"\0") for at in range(players, len(data), player)]
-    parts = [data[:4] + b"\4" + data[5:11] + data[11:assets].ljust(4, b"\0") + data[assets:entries]]
+    parts = [data[:4] + b"\5" + data[5:11] + data[11:assets].ljust(12, b"\0") + data[assets:entries]]
     for place in range(data[6]):
         at, marks = entries + entry * place, sum(1 << p for p, record in enumerate(records) if record[18] and record[19] == place)
-        parts.append(data[at:at + entry].ljust(67, b"\0") + marks.to_bytes(4, "big"))
+        parts.append(data[at:at + entry].ljust(67, b"\0")[:67] + marks.to_bytes(4, "big"))
     return b"".join(parts + records)
 
 
@@ -215,7 +237,7 @@ def edited_bytes(data, word, numbers):
 
 
 def edit_book(book, word, rest):
-    if word in ("time", "switch"):
+    if word in ("time", "switch", "latest_player", "latest_started"):
         assert getattr(book, word) != int(rest[0]), f"{word} {rest}: an edit changes something"
         setattr(book, word, int(rest[0]))
         return
@@ -241,9 +263,9 @@ def edit_book(book, word, rest):
 # ---- The cases: answer, name, version, base, edits; GROUPS below has all of them
 
 CASES = []
-# Versions that have what a case speaks of: any, those with tracks, with long numbers, with thresholds and marks.
-ALL, TRACKS, LONG, SHARED = (4, 3, 2, 1), (4, 3, 2), (4, 3), (4,)
-APART = (4, 2, 1)           # without entries, images of versions 3 and 4 differ in the version alone
+# Versions that have what a case speaks of: any, those with tracks, with long numbers, with thresholds and marks, with what was taken last.
+ALL, TRACKS, LONG, SHARED, LAST = (5, 4, 3, 2, 1), (5, 4, 3, 2), (5, 4, 3), (5, 4), (5,)
+APART = (5, 4, 2, 1)        # without entries, images of versions 3 and 4 differ in the version alone
 
 
 def case(answer, name, base, edits="", versions=ALL):
@@ -263,16 +285,19 @@ def good_books():
 
 
 # The length of an image of `empty`, of `busy` and of the greatest size; with 65 assets alone, with 65 entries alone.
-SIZES = {1: (395, 619, 3979, 720, 3710), 2: (463, 735, 4815, 788, 4558), 3: (527, 799, 4879, 852, 4622), 4: (527, 831, 5391, 852, 5142)}
+SIZES = {1: (395, 619, 3979, 720, 3710), 2: (463, 735, 4815, 788, 4558), 3: (527, 799, 4879, 852, 4622), 4: (527, 831, 5391, 852, 5142),
+         5: (535, 839, 5399, 860, 5150)}
 
 
 def header():
     for length in (0, 1):
-        case(20, f"{length} bytes", empty, f"length {length}", SHARED)
+        case(20, f"{length} bytes", empty, f"length {length}", LAST)
     case(20, "10 bytes", empty, "length 10")
     case(20, "the header's first 11 bytes alone", empty, "length 11")
     case(20, "the header's first 11 bytes alone, with counts", busy, "length 11")
-    case(20, "the header alone", empty, "length 15", TRACKS)
+    case(20, "the header alone", empty, "length 15", (4, 3, 2))
+    for length in (12, 15, 19, 22, 23, 24):
+        case(20, f"{length} bytes, the header has 23", empty, f"length {length}", LAST)
     for version, (least, middle, most, _, _) in SIZES.items():
         for base, size in ((empty, least), (busy, middle), (full, most)):
             case(20, f"{base.__name__}, one byte short", base, f"length {size - 1}", (version,))
@@ -291,12 +316,12 @@ def header():
     case(21, "mark of an image of 11 bytes", empty, "byte 0 0; length 11")
     case(21, "mark of 10,000 bytes", empty, "byte 2 0; length 10000")
     case(22, "version 0", empty, "byte 4 0", APART)
-    case(22, "version 5", empty, "byte 4 5", APART)
+    case(22, "version 6", empty, "byte 4 6", APART)
     case(22, "version 255", empty, "byte 4 255", APART)
     case(22, "256 more than its version", empty, "byte 3 1")
     case(22, "version 256", empty, "byte 3 1; byte 4 0", APART)
-    for high in (2, 3, 4):
-        case(22, f"version {256 * high}", empty, f"byte 3 {high}; byte 4 0", SHARED)
+    for high in (2, 3, 4, 5):
+        case(22, f"version {256 * high}", empty, f"byte 3 {high}; byte 4 0", LAST)
     case(23, "65 assets, header alone", empty, "byte 5 65; length 11")
     for version, (_, _, _, many_assets, many_entries) in SIZES.items():
         case(23, "65 assets, of the fitting length", empty, f"byte 5 65; length {many_assets}", (version,))
@@ -456,8 +481,12 @@ def players():
     case(26, "last player", full, "player 15 operation 0")
     case(0, "number 4,294,967,295", busy, "player 0 number 4294967295")
     case(26, "number 1 and nothing behind it", bare, "player 0 number 1")
-    for operation in (0, 4, 255):
+    for operation in (0, 5, 255):
         case(26, f"operation {operation}", busy, f"player 0 operation {operation}")
+    case(0, "operation 4", busy, "player 0 operation 4")
+    case(0, "operation 4 beside an open use", busy, "player 2 operation 4")
+    case(26, "operation 4 that was a begin", busy, "player 3 operation 4")
+    case(26, "operation 5, refused with 44", busy, "player 0 operation 5; player 0 code 44; player 0 entry 255; player 0 answer_until 0")
     for kind in (0, 6, 255):
         case(26, f"kind {kind} in a begin", busy, f"player 3 kind {kind}")
     for kind in (2, 3, 4, 5):
@@ -467,14 +496,20 @@ def players():
     case(26, "kind in a continue", busy, "player 2 kind 1")
     case(26, "asset in a stop", busy, "player 0 asset 1")
     case(26, "kind in a stop", busy, "player 0 kind 1")
+    for field, value in (("asset", 1), ("asset", 256), ("kind", 1), ("kind", 5)):
+        case(26, f"{field} {value} in a cancel", busy, f"player 0 operation 4; player 0 {field} {value}")
     case(0, "begin for asset 0", busy, "player 3 asset 0")
     case(0, "begin for asset 65,535", busy, "player 3 asset 65535")
-    for code in (1, 6, 9, 16, 30, 42, 44, 255):
+    for code in (1, 6, 9, 16, 30, 42, 45, 255):
         case(26, f"code {code}", busy, f"player 3 code {code}")
-    for code in (11, 12, 13, 14, 15, 43):
+    for code in (11, 12, 13, 14, 15, 43, 44):
         case(0, f"code {code}", busy, f"player 3 code {code}")
-    case(26, "code 43 with entry 0", busy, "player 3 code 43; player 3 entry 0")
-    case(26, "code 43 with until 1", busy, "player 3 code 43; player 3 answer_until 1")
+    for code in (43, 44):
+        case(26, f"code {code} with entry 0", busy, f"player 3 code {code}; player 3 entry 0")
+        case(26, f"code {code} with until 1", busy, f"player 3 code {code}; player 3 answer_until 1")
+    for code in (14, 44):
+        case(0, f"a cancel with code {code}", busy,
+             f"player 0 operation 4; player 0 code {code}; player 0 entry 255; player 0 answer_until 0")
     case(0, "granted entry is the last position", busy, "player 0 entry 3")
     case(26, "granted entry one past the last", busy, "player 0 entry 4")
     case(26, "granted entry 255", busy, "player 0 entry 255")
@@ -752,7 +787,7 @@ def numbers():
     case(0, "64 tracked entries, 16 open uses, the greatest numbers", full_and_long, "", LONG)
     case(26, "the last player's operation, behind a number of 64 bits", full_and_long, "player 15 operation 0", LONG)
     case(26, "the last player's number 0", full_and_long, "player 15 number 0", LONG)
-    for version, (at, size, width) in {1: (11, 24, 4), 2: (15, 28, 4), 3: (15, 32, 8), 4: (15, 32, 8)}.items():
+    for version, (at, size, width) in {1: (11, 24, 4), 2: (15, 28, 4), 3: (15, 32, 8), 4: (15, 32, 8), 5: (23, 32, 8)}.items():
         for player in (0, 15):
             for byte in range(width):
                 case(26, f"byte {byte} of player {player}'s number 1 and nothing behind it", empty, f"byte {at + size * player + byte} 1",
@@ -879,8 +914,144 @@ def marks_in_stages():
     case(26, "open entry one past the last, its mark left", busy, "player 4 open_entry 4; entry 1 marks 16", SHARED)
 
 
+# Order 8 of document 02: the player last taken, plus 1, and whether that event opened a use that started an interval.
+FAR = (17, 18, 32, 255, 256, 257, 272, 65_536, 65_537, 16_777_216, 16_777_217, 2_147_483_648, 2_147_483_649, 4_294_967_295)
+
+
+def latest_players():
+    """The header's player is one of the 16 that has a number, or none."""
+    case(0, "an interval runs, nobody taken last", started)
+    for player, what in enumerate(("has a use open", "has stopped", "has a use open", "was refused")):
+        case(0, f"player {player} last, which {what}", started, f"latest_player {player + 1}", LAST)
+    for last in (5, 6, 15, 16):
+        case(26, f"player {last - 1} last, which never asked", started, f"latest_player {last}", LAST)
+    for last in FAR:
+        case(26, f"player last taken, plus 1: {last}", started, f"latest_player {last}", LAST)
+    case(26, "player 0 last in an empty book", empty, "latest_player 1", LAST)
+    case(26, "player 15 last in an empty book", empty, "latest_player 16", LAST)
+    for player in range(16):
+        asked = f"player {player} number 1; player {player} operation 3; player {player} code 14; player {player} entry 255"
+        case(0, f"player {player} alone has asked, and was taken last", empty, f"{asked}; latest_player {player + 1}", LAST)
+        others = sorted({(player + 1) % 16 + 1, (player + 15) % 16 + 1})
+        for last in others:
+            case(26, f"player {player} alone has asked, {last - 1} was taken last", empty, f"{asked}; latest_player {last}", LAST)
+    for number in (2 ** 32, 2 ** 40, 2 ** 64 - 2 ** 32, 2 ** 64 - 1):
+        case(0, f"player 1 last, its number {number}", started, f"player 1 number {number}; latest_player 2", LAST)
+    case(26, "the player last taken without its number", started, "player 1 number 0; latest_player 2", LAST)
+    for code in (10, 11, 12, 13, 14, 15, 43, 44):
+        case(0, f"the last event was answered {code}", started,
+             f"player 1 code {code}; player 1 entry 255; player 1 answer_until 0; latest_player 2", LAST)
+    case(0, "64 entries, 16 open uses, player 15 last", full_and_shared, "latest_player 16", LAST)
+    case(0, "several players on one entry, player 2 last", busy, "latest_player 3", LAST)
+
+
+def latest_starts():
+    """The mark needs the use of the player last taken, alone on an entry with an interval, begun at first."""
+    marked = "latest_player 1; latest_started 1"
+    case(0, "player 0 last, it started an interval", started, marked, LAST)
+    case(0, "player 2 last, it started an interval", started, "latest_player 3; latest_started 1", LAST)
+    for number in ABOVE:
+        case(26, f"mark of an interval {number}", started, f"latest_player 1; latest_started {number}", LAST)
+        case(26, f"mark of an interval {number}, nobody last", started, f"latest_started {number}", LAST)
+    case(26, "mark of an interval, nobody last", started, "latest_started 1", LAST)
+    case(26, "mark of an interval in an empty book", empty, "latest_started 1", LAST)
+    case(26, "mark of an interval, player 1 last, which has stopped", started, "latest_player 2; latest_started 1", LAST)
+    case(26, "mark of an interval, player 3 last, which was refused", started, "latest_player 4; latest_started 1", LAST)
+    case(26, "mark of an interval, player 4 last, which never asked", started, "latest_player 5; latest_started 1", LAST)
+    case(26, "mark of an interval, player last taken, plus 1: 17", started, "latest_player 17; latest_started 1", LAST)
+    case(26, "mark of an interval, the entry has none", showing, marked, LAST)
+    case(26, "mark of an interval, the entry has none, begun at 0", showing, f"player 0 begin 0; {marked}", LAST)
+    case(0, "no mark, the entry has no interval, begun at 0", showing, "player 0 begin 0; latest_player 1", LAST)
+    since_0 = "entry 0 first 0; entry 0 interval 200; latest_player 2"
+    case(26, "mark of an interval since 0, player 1 last, which has stopped", started, f"{since_0}; latest_started 1", LAST)
+    case(0, "no mark, an interval since 0, player 1 last, which has stopped", started, since_0, LAST)
+    for flags in (0, 1, 2, 4, 8, 32, 15, 47):
+        limits = {1: ("count", 9), 2: ("timed", 9), 4: ("start", 50), 8: ("end", 200), 32: ("accumulated", 90)}
+        used = {1: ("used_count", 1), 2: ("used_timed", 1), 32: ("used_seconds", 40)}
+        edits = "".join(f"entry 0 {name} {value}; " for table in (limits, used) for flag, (name, value) in table.items() if flags & flag)
+        interval = "entry 0 interval 0; entry 0 started 0; entry 0 first 0; "
+        case(26, f"mark of an interval, flags {flags}", started, f"entry 0 flags {flags}; {interval}{edits}{marked}", LAST)
+        case(0, f"mark of an interval, flags {flags + 16}", started, (f"entry 0 flags {flags + 16}; " if flags else "")
+             + f"entry 0 interval 101; {edits}{marked}", LAST)
+    for first in (0, 1, 88, 89):
+        ran = f"entry 0 interval 200; entry 0 first {first}; "
+        case(26, f"mark of an interval, begun at 90, first {first}", started, ran + marked, LAST)
+        case(0, f"no mark, begun at 90, first {first}", started, ran + "latest_player 1", LAST)
+    for begin in (91, 100):
+        case(26, f"mark of an interval, begun at {begin}, first 90", started, f"player 0 begin {begin}; {marked}", LAST)
+        case(0, f"no mark, begun at {begin}, first 90", started, f"player 0 begin {begin}; latest_player 1", LAST)
+    case(0, "begun and first at the book's time", started, f"player 0 begin 100; entry 0 first 100; {marked}", LAST)
+    case(0, "begun and first at 0", started, f"player 0 begin 0; entry 0 first 0; entry 0 interval 130; {marked}", LAST)
+    for kind in (2, 3):
+        case(0, f"mark of an interval, kind {kind}", started, f"entry 0 kind {kind}; {marked}", LAST)
+    alone_no_more()
+    odd_but_good_marks()
+    case(0, "64 entries, 16 open uses, the last player's begin started its interval", full_and_last, "", LAST)
+    case(26, "64 entries, 16 open uses, another player last", full_and_last, "latest_player 15", LAST)
+    case(26, "64 entries, 16 open uses, the last player one second behind first", full_and_last, "player 15 begin 3999999996", LAST)
+
+
+def alone_no_more():
+    """Another use open on the entry, of a player before or behind."""
+    marked = "latest_player 1; latest_started 1"
+    for player in (1, 3, 4, 9, 15):
+        case(26, f"mark of an interval, player {player} has the entry open too", started, f"use {player} 0 95 130; {marked}", LAST)
+        case(0, f"no mark, player {player} has the entry open too", started, f"use {player} 0 95 130; latest_player 1", LAST)
+    case(26, "mark of an interval, player 15 has it open too, begun at first", started, f"use 15 0 90 130; {marked}", LAST)
+    case(26, "mark of an interval, player 0 has it open too, player 2 last", started,
+         "player 0 open_entry 1; latest_player 3; latest_started 1", LAST)
+    case(26, "mark of an interval, all 16 have it open", started,
+         "".join(f"use {i} 0 90 130; " for i in range(16)) + "latest_player 1; latest_started 1", LAST)
+    case(0, "mark of an interval, all others have the other entry open", started,
+         "".join(f"use {i} 1 90 130; " for i in range(1, 16)) + "latest_player 1; latest_started 1", LAST)
+    case(26, "mark of an interval, all others have the other entry open, one of them last", started,
+         "".join(f"use {i} 1 80 130; " for i in range(1, 16)) + "latest_player 3; latest_started 1", LAST)
+
+
+def odd_but_good_marks():
+    """The stored request of the player last taken is not asked about."""
+    plain = "player 0 asset 0; player 0 kind 0"
+    refused = "player 0 entry 255; player 0 answer_until 0"
+    for name, edits in (("a continue", f"operation 2; {plain}"), ("a stop", f"operation 3; {plain}"), ("a cancel", f"operation 4; {plain}"),
+                        ("for another asset", "asset 7"), ("for another kind", "kind 4"),
+                        ("answered with another until", "answer_until 131"), ("answered with another entry", "entry 1"),
+                        ("refused with 11", f"code 11; {refused}"),
+                        ("refused with 44", f"code 44; {refused}")):
+        case(0, f"mark of an interval, the stored request is {name}", started, f"player 0 {edits}; latest_player 1; latest_started 1", LAST)
+
+
+def last_in_stages():
+    """The number of a header's player and of its mark against others."""
+    case(20, "player last taken and length", started, "latest_player 17; length 681", LAST)
+    case(20, "mark of an interval and length", started, "latest_started 1; length 683", LAST)
+    case(22, "player last taken and version", started, "latest_player 17; byte 4 6", LAST)
+    case(23, "player last taken and time", started, "latest_player 17; time 4000000001", LAST)
+    case(24, "asset and player last taken", started, "asset 0 key 2; latest_player 17", LAST)
+    case(24, "asset and mark of an interval", started, "asset 0 key 2; latest_started 1", LAST)
+    case(25, "entry and player last taken", started, "entry 0 object 0; latest_player 17", LAST)
+    case(25, "last entry and mark of an interval", started, "entry 1 threshold 17; latest_started 2", LAST)
+    case(25, "interval above its greatest and its mark", started, "entry 0 interval 100000001; latest_player 1; latest_started 1", LAST)
+    case(26, "switch and player last taken", started, "switch 2; latest_player 17", LAST)
+    case(26, "player last taken and mark of an interval", started, "latest_player 17; latest_started 2", LAST)
+    case(26, "player last taken and another player", started, "latest_player 17; player 3 operation 0", LAST)
+    case(26, "player last taken and meter", started, "latest_player 17; entry 0 used_count 1", LAST)
+    case(26, "mark of an interval and meter", started, "latest_started 1; entry 0 used_count 1", LAST)
+    case(26, "player last taken and marks", started, "latest_player 5; entry 0 marks 0", LAST)
+    marked = "latest_player 1; latest_started 1"
+    case(26, "mark of an interval, the player's use behind the last entry", started, f"player 0 open_entry 2; {marked}", LAST)
+    case(26, "mark of an interval, the player's use on entry 255", started, f"player 0 open_entry 255; {marked}", LAST)
+    case(26, "mark of an interval, open 2", started, f"player 0 open 2; {marked}", LAST)
+    case(26, "mark of an interval that has not started", started, f"entry 0 started 0; {marked}", LAST)
+    case(26, "mark of an interval, a momentary entry", started, f"entry 0 kind 4; {marked}", LAST)
+    case(26, "mark of an interval, no entries", empty, "player 0 number 1; player 0 operation 3; player 0 code 14; player 0 entry 255; "
+         "latest_player 1; latest_started 1", LAST)
+    case(27, "a player last taken, and a meter", started, "latest_player 1; latest_started 1; entry 0 used_count 1", LAST)
+    case(27, "a player last taken, and marks", started, "latest_player 1; latest_started 1; entry 0 marks 0", LAST)
+
+
 GROUPS = [good_books, header, assets, entries, limits_of_zero, players, meters, two_stages, switches, tracks, kept_contents,
-          added_fields_in_stages, numbers, thresholds, kept_marks, full_thresholds, marks_in_stages]
+          added_fields_in_stages, numbers, thresholds, kept_marks, full_thresholds, marks_in_stages, latest_players, latest_starts,
+          last_in_stages]
 
 
 def cases():
@@ -914,7 +1085,7 @@ def main():
         listing.append(f"{number:4} {answer:2} {len(bytes_in):5} {version} {name} [{base.__name__}{': ' + told if told else ''}]\n")
     write_file(CRATES / "test_images" / "data" / "cases.bin", data)
     write_file(CRATES / "test_images" / "stdout", "".join(lines).encode())
-    greatest = image(rights.NEWEST, full_and_shared, "")
+    greatest = image(rights.NEWEST, full_and_last, "")
     write_file(CRATES / "bench_image" / "data" / "full.rbk", greatest)
     write_file(CRATES / "bench_image" / "stdout", f"0 {len(greatest)}\n".encode())
     write_file(HERE / "images.txt", ("case, answer, length, version, name [base: edits]\n" + "".join(listing)).encode())

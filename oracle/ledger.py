@@ -33,6 +33,7 @@ class Ledger:
         self.uses = []
         self.latest = {}     # player: number, operation, asset, kind of the latest taken event
         self.answers = {}    # player: its answer
+        self.last = None     # of all players: the latest taken event and its answer
         self.T = 0           # the time of the latest taken event
 
     # -- the terms that the papers define
@@ -43,7 +44,7 @@ class Ledger:
         return code != 30 and event.player in self.latest and self.latest[event.player] == request
 
     def is_taken(self, event, code):
-        return not self.is_resend(event, code) and (code == 0 or 10 <= code <= 15 or code == 43)
+        return not self.is_resend(event, code) and (code == 0 or 10 <= code <= 15 or code in (43, 44))
 
     def last_number(self, event):
         """Of the player's latest taken event; 0 before the first."""
@@ -200,6 +201,7 @@ class Ledger:
         code, entry, until = answer
         if code != 0:
             demand(entry == 255 and until == 0, "a refusal has 255 and 0 behind it")
+        self.judge_request(event, code)
         if self.is_resend(event, code):
             demand(answer == self.answers[event.player], "a resend gets the answer of the event that it repeats")
             return
@@ -212,6 +214,15 @@ class Ledger:
             self.judge_begin(event, answer)
         else:
             self.judge_other(event, answer)
+
+    def judge_request(self, event, code):
+        """A begin has a kind; a continue, a stop and (order 8) a cancel have neither asset nor kind."""
+        if event.operation == 1:
+            good = event.kind in (1, 2, 3, 4, 5)
+        else:
+            good = (event.asset, event.kind) == (0, 0) and event.operation in (2, 3, 4)
+        demand((code == 2) == (event.player > 15), "2 exactly when there is no such player")
+        demand(code == 2 or (code == 1) == (not good), "1 exactly when operation, kind or asset are bad")
 
     def judge_number(self, event, code):
         """3, 4 and 5 say different things of the number and the time, so each is answered exactly when it is so."""
@@ -254,12 +265,32 @@ class Ledger:
         demand((code == 14) == (use is None), "14 exactly when nothing is open")
         if use is None:
             return
+        if event.operation == 4:
+            self.judge_cancel(event, answer, use)
+            return
+        demand(code != 44, "44 says that a begin cannot be taken back")
         if event.operation == 3:
             demand(answer == (0, use.entry, event.time), "a stop answers its entry and its time")
             return
         new = min(self.bounds(use.entry, event.time, use.until))
         demand(new >= use.until, "a continue never shortens")
         demand(answer == ((15, 255, 0) if new == use.until else (0, use.entry, new)), "a continue's answer")
+
+    def judge_cancel(self, event, answer, use):
+        """Order 8: it is granted exactly if nothing was taken, of anybody, since the begin that opened this use. If the last event taken
+        was a granted begin of this player, it is that one: while something is open there is no other."""
+        last, given = self.last
+        opened = last.player == event.player and last.operation == 1 and given[0] == 0
+        demand((answer[0] == 44) == (not opened), "44 exactly when something is open and its begin was not the last event taken")
+        demand(not opened or answer == (0, use.entry, use.begin), "a cancel answers the entry and the begin of its use")
+
+    def started_an_interval(self):
+        """Order 8: whether the latest taken event opened a use that started its entry's interval: the entry has no use but that."""
+        if self.last is None:
+            return False
+        event, (code, entry, _) = self.last
+        return (event.operation == 1 and code == 0 and self.entries[entry].kind < 4 and self.entries[entry].flags & 16 != 0
+                and self.spent_count(entry) == 1)
 
     def add(self, event, answer):
         code, entry, until = answer
@@ -268,13 +299,16 @@ class Ledger:
         self.T = event.time
         self.latest[event.player] = (event.number, event.operation, event.asset, event.kind)
         self.answers[event.player] = answer
+        self.last = (event, answer)
         if code != 0:
             return
         if event.operation == 1:
             self.uses.append(Use(entry, event.player, event.time, until, event.asset))
             return
         latest = [u for u in self.uses if u.player == event.player][-1]
-        if event.operation == 2:
+        if event.operation == 4:
+            self.uses.remove(latest)
+        elif event.operation == 2:
             latest.until = until
         else:
             latest.until, latest.stopped = event.time, True

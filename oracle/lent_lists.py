@@ -35,10 +35,10 @@ def lines_of(words):
 
 def watching(switch=1):
     """Assets 1, 2 and 9 at time 1000; player 0 shows 2 under the tracked entry 0 since 990, player 1 shows 1 under entry 1, which is full
-    with that."""
+    with that. Player 0's begin was the last event taken."""
     book = book_of("1 inherits 9 key; 2 inherits 9 key; 9 | 9 play tracked 1 timed_value 30 mark 1 marks 1; 1 display threshold 1 marks 2; "
                    "2 print tracked 1 mark 1")
-    book.time, book.switch = 1000, switch
+    book.time, book.switch, book.latest_player = 1000, switch, 1
     book.players[0] = Player(1, rights.BEGIN, 2, rights.PLAY, 0, 0, 1050, 1, 0, 990, 1050, 2)
     book.players[1] = Player(4, rights.BEGIN, 1, rights.DISPLAY, 0, 1, 1055, 1, 1, 995, 1055, 1)
     return book
@@ -72,6 +72,11 @@ EVENTS = [
     ("a full entry", "2.1 begin 1 display 1001: 13", {}),
     ("a full entry as its use ends", "2.1 begin 1 display 1055: 0 1 1115", {2: (1, 60)}),
     ("a continue of an untracked entry", "1.5 continue 1000: 0 1 1060", {}),
+    ("a cancel", "0.2 cancel 1049: 0 0 990", {}),
+    ("a cancel of one that was not taken last", "1.5 cancel 1020: 44", {}),
+    ("a cancel of a use that is over", "0.2 cancel 1050: 14", {2: (1, 60)}),
+    ("a cancel with nothing open", "2.1 cancel 1020: 14", {}),
+    ("a cancel of an asset", "00 0000000000000002 04 0001 00 000003fc: 1", {}),
     ("a resend", "0.1 begin 2 play 2000: 0 0 1050", {}),
     ("a number used for something else", "0.1 stop 2000: 4", {}),
     ("a number out of line", "0.3 stop 2000: 3", {}),

@@ -15,11 +15,11 @@ GRANT = 60                  # seconds that a begin or a continue gives at most
 PLAYERS = 16
 MOST = 64                   # assets, and entries
 
-BEGIN, CONTINUE, STOP = 1, 2, 3
+BEGIN, CONTINUE, STOP, CANCEL = 1, 2, 3, 4
 PLAY, DISPLAY, EXECUTE, PRINT, EXPORT = 1, 2, 3, 4, 5
 COUNT, TIMED, START, END, INTERVAL, ACCUMULATED = 1, 2, 4, 8, 16, 32
 
-TAKEN = (0, 10, 11, 12, 13, 14, 15, 43)
+TAKEN = (0, 10, 11, 12, 13, 14, 15, 43, 44)
 LINES = 64                  # of a report, at most
 GREAT = 2 ** 62             # no number in a report may be this or more
 
@@ -95,6 +95,8 @@ class Book:
     entries: list = field(default_factory=list)
     players: list = field(default_factory=lambda: [Player() for _ in range(PLAYERS)])
     switch: int = 0         # whether uses are metered
+    latest_player: int = 0  # the player of the event taken last, plus 1 (order 8); 0 for none
+    latest_started: int = 0 # whether that event opened a use that started an interval
 
     def asset(self, number):
         for asset in self.assets:
@@ -181,8 +183,11 @@ def answered(book, event, lines):
         answer = begin(book, player, event.asset, event.kind, event.time, lines)
     elif event.operation == CONTINUE:
         answer = go_on(book, player, event.time)
-    else:
+    elif event.operation == STOP:
         answer = stop(book, player, event.time, lines)
+    else:
+        answer = cancel(book, player)
+    note_last(book, event, answer)
     player.number = event.number
     player.operation, player.asset, player.kind = event.operation, event.asset, event.kind
     player.code, player.entry, player.answer_until = answer
@@ -192,7 +197,7 @@ def answered(book, event, lines):
 def request_is_good(operation, asset, kind):
     if operation == BEGIN:
         return PLAY <= kind <= EXPORT
-    return operation in (CONTINUE, STOP) and asset == 0 and kind == 0
+    return operation in (CONTINUE, STOP, CANCEL) and asset == 0 and kind == 0
 
 
 def boot_of(number):
@@ -224,7 +229,11 @@ def end_use(book, player, end, lines):
     if entry.has(TIMED) and end - player.begin < entry.timer:
         entry.used_timed -= 1
     record_use(book, entry, player.content, end - player.begin, lines)
-    entry.marks &= ~mark_of(book, player)
+    close_use(book, player)
+
+
+def close_use(book, player):
+    book.entries[player.open_entry].marks &= ~mark_of(book, player)
     player.open = player.open_entry = player.begin = player.until = player.content = 0
 
 
@@ -258,8 +267,10 @@ def begin(book, player, number, kind, t, lines):
         entry.used_timed += 1
     if entry.has(ACCUMULATED):
         entry.used_seconds += until - t
-    if entry.has(INTERVAL) and not entry.started:
+    starts = entry.has(INTERVAL) and not entry.started
+    if starts:
         entry.started, entry.first = 1, t
+    book.latest_started = int(starts and not entry.is_momentary())
     if entry.is_momentary():
         record_use(book, entry, number, 0, lines)
     else:
@@ -366,9 +377,52 @@ def stop(book, player, t, lines):
     return (0, position, t)
 
 
+# Order 8: a begin is taken back
+
+def cancel(book, player):
+    if not player.open:
+        return refused(14)
+    if not may_cancel(book, player):
+        return refused(44)
+    position, begun = player.open_entry, player.begin
+    take_off(book, player)
+    close_use(book, player)
+    return (0, position, begun)
+
+
+def may_cancel(book, player):
+    """Whether the last event taken was this player's begin of the open use: it is "known by the header's player and its stored request and
+    answer (a begin, 0, the open use's entry and until)"."""
+    last = book.players[book.latest_player - 1] if book.latest_player else None
+    answer = (player.code, player.entry, player.answer_until)
+    return last is player and player.operation == BEGIN and answer == (0, player.open_entry, player.until)
+
+
+def take_off(book, player):
+    """The rises of the begin of the open use; its timed count whatever the timer."""
+    entry = book.entries[player.open_entry]
+    if entry.has(COUNT):
+        entry.used_count -= 1
+    if entry.has(TIMED):
+        entry.used_timed -= 1
+    if entry.has(ACCUMULATED):
+        entry.used_seconds -= player.until - player.begin
+    if book.latest_started:
+        entry.started = entry.first = 0
+
+
+def note_last(book, event, answer):
+    """Every taken event writes the header, a refused one too; a granted begin has told there already whether it opened a use that
+    started an interval."""
+    book.latest_player = event.player + 1
+    if event.operation != BEGIN or answer[0] != 0:
+        book.latest_started = 0
+
+
 # ---- Bytes: big-endian fields, one behind the other
 
 RECORD_FIELDS = [("player", 1), ("number", 8), ("operation", 1), ("asset", 2), ("kind", 1), ("time", 4)]
+HEADER_FIELDS = [("switch", 4), ("latest_player", 4), ("latest_started", 4)]      # behind the first eleven bytes
 ASSET_FIELDS = [("number", 2), ("inherit", 2), ("key", 1)]
 ENTRY_FIELDS = [
     ("object", 2), ("asset", 2), ("kind", 1), ("flags", 1), ("count", 4), ("timed", 4), ("timer", 4), ("start", 4),
@@ -413,14 +467,16 @@ def before(fields, name):
 
 SHORT_NUMBER = [("number", 4)] + PLAYER_FIELDS[1:]      # a player before order 4
 NO_THRESHOLD = before(ENTRY_FIELDS, "threshold")        # an entry before order 7
+SWITCH = before(HEADER_FIELDS, "latest_player")            # the header before order 8
 
 
 HEADER = 11                 # bytes that every version begins with: mark, version, numbers, time
-VERSIONS = {                # 2 and 4 add fields behind those that were there, 3 widens a player's number in its place
+VERSIONS = {                # 2, 4 and 5 add fields behind those that were there, 3 widens a player's number in its place
     1: Version([], before(ENTRY_FIELDS, "tracked"), before(SHORT_NUMBER, "content")),
-    2: Version([("switch", 4)], NO_THRESHOLD, SHORT_NUMBER),
-    3: Version([("switch", 4)], NO_THRESHOLD, PLAYER_FIELDS),
-    4: Version([("switch", 4)], ENTRY_FIELDS, PLAYER_FIELDS)}
+    2: Version(SWITCH, NO_THRESHOLD, SHORT_NUMBER),
+    3: Version(SWITCH, NO_THRESHOLD, PLAYER_FIELDS),
+    4: Version(SWITCH, ENTRY_FIELDS, PLAYER_FIELDS),
+    5: Version(HEADER_FIELDS, ENTRY_FIELDS, PLAYER_FIELDS)}
 NEWEST = max(VERSIONS)
 
 
@@ -580,7 +636,24 @@ def threshold_is_good(entry):
 
 
 def header_is_good(book):
-    return book.switch in (0, 1)
+    return book.switch in (0, 1) and last_is_good(book)
+
+
+def last_is_good(book):
+    """Order 8: "that player's number is not 0, and this needs its use to be an interval entry's only open one, begun at first"."""
+    if book.latest_player > PLAYERS or book.latest_started > 1:
+        return False
+    if book.latest_player == 0:
+        return book.latest_started == 0
+    player = book.players[book.latest_player - 1]
+    return player.number != 0 and (book.latest_started == 0 or started_an_interval(book, player))
+
+
+def started_an_interval(book, player):
+    if player.open == 0 or player.open_entry >= len(book.entries):
+        return False
+    entry = book.entries[player.open_entry]
+    return entry.has(INTERVAL) and player.begin == entry.first and len(book.users(player.open_entry)) == 1
 
 
 def player_is_good(book, player):

@@ -8,7 +8,7 @@ writes, for the program of each crate, its input, its book, and the text that it
   crates/run_cut      its first two lines and a record cut short, on its book in version 2
   crates/run_missing  the afternoon without a book
   crates/run_refused  the afternoon on its book with an entry of kind 9: refused
-  crates/run_long     a book of the greatest size, 5,391 bytes, and 16,000 and a half records: several times the 65,551 bytes
+  crates/run_long     a book of the greatest size, 5,399 bytes, and 16,000 and a half records: several times the 65,551 bytes
                       that the program reads at once
   crates/run_over     the same book with one byte after it: refused, and no record is answered
 """

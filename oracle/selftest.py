@@ -1,12 +1,13 @@
 """The second program tests itself: python3 oracle/selftest.py [events]
 
 The afternoon of document 01, then random days. On each day, demand 3 is judged by the ledger; every book along
-the way is written and read back, and its marks are those of the ledger's open uses; events turned away and resends must leave the book
-unchanged; and the day without its resends is run again. On every other day the lines of the usage report are handed on from zeros and
-must be the ledger's sums; on the others each event is lent any list, the same in both runs. The days written by hand are judged by the
-ledger too, the rules of the choice before order 6 answer those otherwise that say so, and the lists lent by hand get their answers. Then
-servers with one planted fault each must be caught, by the ledger on random days, and by the stored days, images or lists. Last, the
-stored texts get their answers from the reader of XML texts, and readers with one planted fault each must be caught by them.
+the way is written and read back, its marks are those of the ledger's open uses, and its header has the last event taken; events turned
+away and resends must leave the book unchanged; and the day without its resends is run again. On every other day the lines of the usage
+report are handed on from zeros and must be the ledger's sums; on the others each event is lent any list, the same in both runs. The days
+written by hand are judged by the ledger too, the rules of the choice before order 6 answer those otherwise that say so, and the lists
+lent by hand get their answers. Then servers with one planted fault each must be caught, by the ledger on random days, and by the stored
+days, images or lists. Last, the stored texts get their answers from the reader of XML texts, and readers with one planted fault each
+must be caught by them.
 """
 
 import copy
@@ -46,6 +47,10 @@ def go_on(player, number, t):
 
 def stop(player, number, t):
     return Event(player, number, rights.STOP, 0, 0, t)
+
+
+def cancel(player, number, t):
+    return Event(player, number, rights.CANCEL, 0, 0, t)
 
 
 AFTERNOON = [
@@ -99,18 +104,21 @@ def check_records():
     demand(rights.decode(rights.encode(event)) == event, "a record decodes to its event")
     record = bytes.fromhex("0f 0123456789abcdef 01 0102 05 03040506")
     demand(rights.decode(record) == begin(15, 0x0123456789ABCDEF, 0x0102, 5, 0x03040506), "the fields of a record")
+    for told, wanted in (("04 0000 00", cancel(3, 2, 5)), ("04 0001 00", 1), ("04 0100 00", 1), ("04 0000 01", 1), ("05 0000 00", 1)):
+        record = bytes.fromhex("03 0000000000000002" + told + "00000005")
+        demand(rights.decode(record) == wanted, f"the record of {told}")
 
 
 def check_image():
-    """The bytes of an image of version 4, field by field."""
+    """The bytes of an image of version 5, field by field."""
     book = Book(0x00010203, [Asset(0x0405, 0x0607, 1)], [Entry(
         0x0809, 0x0405, 1, 63, 0x0A0B, 0x0C0D, 0x0E0F, 0x00000010, 0x01111213, 0x00141516, 0x00171819, 0x1A, 0x1B, 0x00010200, 0x1C, 1,
-        1, 0x1D1E1F20, 1, 2, 0x8000)], switch=1)
+        1, 0x1D1E1F20, 1, 2, 0x8000)], switch=1, latest_player=16, latest_started=1)
     book.players[15] = rights.Player(
-        0x2122232425262728, 1, 0x292A, 1, 0, 0, 0x2B2C2D2E, 1, 0, 0x00010201, 0x00010210, 0x0405)
-    told = """52424b 0004 01 01 00010203 00000001  0405 0607 01  0809 0405 01 3f
+        0x2122232425262728, 1, 0x292A, 1, 0, 0, 0x2B2C2D2E, 1, 0, 0x00010200, 0x00010210, 0x0405)
+    told = """52424b 0005 01 01 00010203 00000001 00000010 00000001  0405 0607 01  0809 0405 01 3f
         00000a0b 00000c0d 00000e0f 00000010 01111213 00141516 00171819 0000001a 0000001b 00010200 0000001c 01 00000001 1d1e1f20 00000001
-        00000002 00008000""" + "00" * 32 * 15 + """2122232425262728 01 292a 01 00 00 2b2c2d2e 01 00 00010201 00010210 00000405"""
+        00000002 00008000""" + "00" * 32 * 15 + """2122232425262728 01 292a 01 00 00 2b2c2d2e 01 00 00010200 00010210 00000405"""
     demand(rights.write(book) == bytes.fromhex(told), "the fields of an image")
     demand(rights.read(bytes.fromhex(told)) == (0, book), "an image read field by field")
 
@@ -216,9 +224,11 @@ def run_day(rng, length, books=True):
     """One random day, checked: the answers, and the books on the way unless they are left out. Returns how often each code was
     answered."""
     around = rng.choice((0, 1000, 1000, 1_700_000_000, rights.LATEST - 500, rights.LATEST - 60))
-    sort = rng.choices(("rivals", "groups", "crowd"), (4, 3, 3))[0]
+    sort = rng.choices(("rivals", "groups", "loading", "crowd"), (4, 3, 4, 3))[0]
     if sort == "rivals":
         fresh = days.rival_book(rng, around, length)
+    elif sort == "loading":
+        fresh = days.loading_book(rng, around)
     else:
         fresh = days.group_book(rng, around) if sort == "groups" else days.fresh_book(rng, around)
     cabins = days.PLAYED[sort](rng, fresh) if sort in days.PLAYED else None
@@ -241,6 +251,7 @@ def run_day(rng, length, books=True):
             demand(code == 0 and again == book, "each book on the way reads back as itself")
             demand(ledger.T == book.time, "T is the book's time")
             check_marks(book, ledger)
+            check_last(book, ledger)
             book = again
         demand(not handed or plain(lines) == ledger.report() + further, "from zeros, the lines are the ledger's sums")
         if not resend:
@@ -260,6 +271,12 @@ def check_marks(book, ledger):
         demand(entry.marks == sum(1 << player for player in users), f"the marks of entry {position}")
 
 
+def check_last(book, ledger):
+    """The header has the player of the last event taken by the ledger, and whether that opened a use that started an interval."""
+    demand(book.latest_player == (ledger.last[0].player + 1 if ledger.last else 0), "the player last taken")
+    demand(book.latest_started == ledger.started_an_interval(), "whether the last event opened a use that started an interval")
+
+
 def check_without_resends(fresh, kept, book):
     """The same answers and the same book, each event lent what it was lent before; it then leaves the same lines."""
     second = copy.deepcopy(fresh)
@@ -272,7 +289,9 @@ def check_without_resends(fresh, kept, book):
 def check_older(book):
     """What an older version can say of the book is read back as that, with the marks of its open uses, and written as the newest
     version."""
-    shared, counted = copy.deepcopy(book), days.with_short_numbers(book)
+    before_8, shared, counted = copy.deepcopy(book), copy.deepcopy(book), days.with_short_numbers(book)
+    for each in (before_8, shared, counted):
+        each.latest_player = each.latest_started = 0
     for entry in shared.entries + counted.entries:
         entry.threshold = 0
     plain_book = copy.deepcopy(counted)
@@ -281,10 +300,10 @@ def check_older(book):
         for name in ("tracked", "timed_value", "mark", "content"):
             if hasattr(thing, name):
                 setattr(thing, name, 0)
-    for version, told in ((1, plain_book), (2, counted), (3, shared)):
-        image = rights.write(book if version == 3 else days.with_short_numbers(book), version)
+    for version, told in ((1, plain_book), (2, counted), (3, shared), (4, before_8)):
+        image = rights.write(book if version >= 3 else days.with_short_numbers(book), version)
         demand(rights.read(image) == (0, told), f"an image of version {version} is the book, without what it has no field for")
-        demand(rights.write(rights.read(image)[1]) == images.widened(image), f"an image of version {version} is written back as version 4")
+        demand(rights.write(rights.read(image)[1]) == images.widened(image), f"an image of version {version} is written back as version 5")
 
 
 # ---- Planted faults: each must be caught, or the tests above are too weak
@@ -1369,8 +1388,657 @@ def version_3_is_refused(real):
     return lambda data: (22, None) if data[3:5] == b"\0\3" and len(data) >= 11 and data[:3] == b"RBK" else real(data)
 
 
-def version_5_is_read(real):
-    return lambda data: real(data[:4] + b"\4" + data[5:]) if data[3:5] == b"\0\5" else real(data)
+def version_6_is_read(real):
+    return lambda data: real(data[:4] + b"\5" + data[5:]) if data[3:5] == b"\0\6" else real(data)
+
+
+# Order 8: a begin is taken back. A fault of what comes back is told by the entry before and after it, the use and the book.
+
+def comes_back(rule):
+    def fault(real):
+        def take_off(book, player):
+            entry = book.entries[player.open_entry]
+            was = copy.copy(entry)
+            real(book, player)
+            rule(entry, was, player, book)
+        return take_off
+    fault.__name__ = rule.__name__
+    return fault
+
+
+def others(use, book):
+    """The other players that have its entry open: what they have used is never given back."""
+    return [player for player in book.users(use.open_entry) if player is not use]
+
+
+def the_count_stays(entry, was, use, book):
+    entry.used_count = was.used_count
+
+
+def the_count_comes_back_twice(entry, was, use, book):
+    entry.used_count = max(len(others(use, book)), 2 * entry.used_count - was.used_count)
+
+
+def the_timed_count_stays(entry, was, use, book):
+    entry.used_timed = was.used_timed
+
+
+def the_timed_count_comes_back_before_its_timer_only(entry, was, use, book):
+    if book.time - use.begin >= entry.timer:
+        entry.used_timed = was.used_timed
+
+
+def the_timed_count_comes_back_again_before_its_timer(entry, was, use, book):
+    if entry.has(rights.TIMED) and book.time - use.begin < entry.timer:
+        entry.used_timed = max(len(others(use, book)), entry.used_timed - 1)
+
+
+def the_seconds_stay(entry, was, use, book):
+    entry.used_seconds = was.used_seconds
+
+
+def only_the_unused_seconds_come_back(entry, was, use, book):
+    if entry.has(rights.ACCUMULATED):
+        entry.used_seconds += book.time - use.begin
+
+
+def all_seconds_come_back(entry, was, use, book):
+    if entry.has(rights.ACCUMULATED):
+        entry.used_seconds = sum(other.until - other.begin for other in others(use, book))
+
+
+def the_interval_stays_started(entry, was, use, book):
+    entry.started, entry.first = was.started, was.first
+
+
+def the_interval_is_unstarted_whoever_started_it(entry, was, use, book):
+    entry.started = entry.first = 0
+
+
+def the_interval_is_unstarted_if_the_use_begins_with_it(entry, was, use, book):
+    if was.started and was.first == use.begin:
+        entry.started = entry.first = 0
+
+
+def the_interval_is_unstarted_if_nobody_else_has_it_open(entry, was, use, book):
+    if was.marks.bit_count() == 1:
+        entry.started = entry.first = 0
+
+
+def the_interval_is_unstarted_if_it_seems_to_be_its_own(entry, was, use, book):
+    """Without the header's mark: the use begins with it, and nobody else has the entry open."""
+    if was.started and was.first == use.begin and was.marks.bit_count() == 1:
+        entry.started = entry.first = 0
+
+
+def the_first_use_time_is_left(entry, was, use, book):
+    entry.first = was.first
+
+
+def may_be_taken_back(rule):
+    """A fault of which begin may be taken back, told by the book, the player, its index and what is right."""
+    def fault(real):
+        def may_cancel(book, player):
+            index = next(i for i, each in enumerate(book.players) if each is player)
+            return bool(rule(book, player, index, real(book, player)))
+        return may_cancel
+    fault.__name__ = rule.__name__
+    return fault
+
+
+def is_stored(player):
+    return player.operation == rights.BEGIN and (player.code, player.entry, player.answer_until) == (0, player.open_entry, player.until)
+
+
+def every_open_use(book, player, index, right):
+    return True
+
+
+def no_use(book, player, index, right):
+    return False
+
+
+def whoever_asked_since(book, player, index, right):
+    return is_stored(player)
+
+
+def whatever_it_asked_since(book, player, index, right):
+    return book.latest_player == index + 1
+
+
+def behind_a_continue_too(book, player, index, right):
+    granted = (player.code, player.entry, player.answer_until) == (0, player.open_entry, player.until)
+    return right or book.latest_player == index + 1 and player.operation == rights.CONTINUE and granted
+
+
+def in_the_second_of_its_begin_only(book, player, index, right):
+    return right and player.begin == book.time
+
+
+def in_the_second_of_its_begin_whoever_asked(book, player, index, right):
+    return right or is_stored(player) and player.begin == book.time
+
+
+def while_nobody_else_has_something_open(book, player, index, right):
+    return right and sum(each.open for each in book.players) == 1
+
+
+def not_for_player_0(book, player, index, right):
+    return right and index != 0
+
+
+def not_for_player_15(book, player, index, right):
+    return right and index != 15
+
+
+def whatever_the_entry(book, player, index, right):
+    return right or book.latest_player == index + 1 and is_stored(changed(player, entry=player.open_entry))
+
+
+def whatever_the_until(book, player, index, right):
+    return right or book.latest_player == index + 1 and is_stored(changed(player, answer_until=player.until))
+
+
+def whatever_the_code(book, player, index, right):
+    return right or book.latest_player == index + 1 and player.operation == rights.BEGIN
+
+
+def whatever_the_operation(book, player, index, right):
+    return right or book.latest_player == index + 1 and is_stored(changed(player, operation=rights.BEGIN))
+
+
+def answers_of_a_cancel(rule):
+    """A fault of its answer, told by that, the use, the book's time and whether something was open."""
+    def fault(real):
+        def cancel(book, player):
+            use = copy.copy(player)
+            return rule(real(book, player), use, book.time)
+        return cancel
+    fault.__name__ = rule.__name__
+    return fault
+
+
+def its_until_is_answered(answer, use, t):
+    return (0, answer[1], use.until) if answer[0] == 0 else answer
+
+
+def its_time_is_answered(answer, use, t):
+    return (0, answer[1], t) if answer[0] == 0 else answer
+
+
+def until_0_is_answered(answer, use, t):
+    return (0, answer[1], 0) if answer[0] == 0 else answer
+
+
+def entry_255_is_answered(answer, use, t):
+    return (0, 255, answer[2]) if answer[0] == 0 else answer
+
+
+def nothing_open_gets_44(answer, use, t):
+    return rights.refused(44) if answer[0] == 14 else answer
+
+
+def too_late_gets_14(answer, use, t):
+    return rights.refused(14) if answer[0] == 44 else answer
+
+
+def too_late_gets_15(answer, use, t):
+    return rights.refused(15) if answer[0] == 44 else answer
+
+
+def a_cancel_is_a_stop(real):
+    return lambda book, player: real(book, player) if not player.open else rights.stop(book, player, book.time, rights.zeros(book))
+
+
+def a_refused_cancel_stops(real):
+    def cancel(book, player):
+        answer = real(book, player)
+        if answer[0] == 44:
+            rights.stop(book, player, book.time, rights.zeros(book))
+        return answer
+    return cancel
+
+
+def a_cancel_changes_nothing(real):
+    def cancel(book, player):
+        entries, was = copy.deepcopy(book.entries), copy.copy(player)
+        answer = real(book, player)
+        book.entries[:] = entries
+        vars(player).update(vars(was))
+        return answer
+    return cancel
+
+
+def a_cancel_leaves_the_mark(real):
+    def cancel(book, player):
+        marks = [entry.marks for entry in book.entries]
+        answer = real(book, player)
+        for entry, was in zip(book.entries, marks):
+            entry.marks = was
+        return answer
+    return cancel
+
+
+def a_cancel_can_be_done_twice(real):
+    """A second one gives the same back again."""
+    def cancel(book, player):
+        if not player.open and (player.operation, player.code) == (rights.CANCEL, 0):
+            entry = book.entries[player.entry]
+            entry.used_count = min(entry.used_count, max(len(book.users(player.entry)), entry.used_count - 1))
+            return (0, player.entry, player.answer_until)
+        return real(book, player)
+    return cancel
+
+
+def a_cancel_is_recorded(seconds):
+    """The use taken back is in the report, with these seconds of it."""
+    def fault(real):
+        def answered(book, event, lines):
+            index = event.player if event.player < rights.PLAYERS else 0
+            player, use = book.players[index], copy.copy(book.players[index])
+            answer = real(book, event, lines)
+            cancelled = (player.number, player.operation, answer[0]) == (event.number, rights.CANCEL, 0)
+            if cancelled and use.open and not player.open and use.number != event.number:
+                rights.record_use(book, book.entries[use.open_entry], use.content, seconds(use, event.time), lines)
+            return answer
+        return answered
+    fault.__name__ = f"a_cancel_is_recorded_with_{seconds.__name__}"
+    return fault
+
+
+def its_seconds(use, t):
+    return t - use.begin
+
+
+def all_its_seconds(use, t):
+    return use.until - use.begin
+
+
+def no_seconds(use, t):
+    return 0
+
+
+def a_cancel_records_no_other_use(real):
+    """Nor those that are over with its time."""
+    def answered(book, event, lines):
+        before = copy.deepcopy(lines)
+        answer = real(book, event, lines)
+        if event.operation == rights.CANCEL and answer[0] == 0:
+            lines[:] = before
+        return answer
+    return answered
+
+
+def header_written(rule):
+    """A fault of what a taken event writes into the header, told by the book, the event, its answer and what stood there before."""
+    def fault(real):
+        def note_last(book, event, answer):
+            before, mark = book.latest_player, book.latest_started
+            real(book, event, answer)
+            rule(book, event, answer, before, mark)
+        return note_last
+    fault.__name__ = rule.__name__
+    return fault
+
+
+def a_refusal_is_not_written(book, event, answer, before, mark):
+    if answer[0] != 0:
+        book.latest_player, book.latest_started = before, mark
+
+
+def a_refused_continue_is_not_written(book, event, answer, before, mark):
+    if answer[0] in (14, 15):
+        book.latest_player, book.latest_started = before, mark
+
+
+def a_13_is_not_written(book, event, answer, before, mark):
+    if answer[0] in (13, 43):
+        book.latest_player, book.latest_started = before, mark
+
+
+def a_10_is_not_written(book, event, answer, before, mark):
+    if answer[0] in (10, 12):
+        book.latest_player, book.latest_started = before, mark
+
+
+def a_stop_is_not_written(book, event, answer, before, mark):
+    if event.operation == rights.STOP:
+        book.latest_player, book.latest_started = before, mark
+
+
+def a_continue_is_not_written(book, event, answer, before, mark):
+    if event.operation == rights.CONTINUE:
+        book.latest_player, book.latest_started = before, mark
+
+
+def a_cancel_is_not_written(book, event, answer, before, mark):
+    if event.operation == rights.CANCEL:
+        book.latest_player, book.latest_started = before, mark
+
+
+def a_momentary_use_is_not_written(book, event, answer, before, mark):
+    if answer[0] == 0 and book.entries[answer[1]].is_momentary():
+        book.latest_player, book.latest_started = before, mark
+
+
+def the_player_itself_is_written(book, event, answer, before, mark):
+    book.latest_player = event.player
+
+
+def begins_alone_are_written(book, event, answer, before, mark):
+    if event.operation != rights.BEGIN:
+        book.latest_player = before
+
+
+def the_mark_is_never_written(book, event, answer, before, mark):
+    book.latest_started = 0
+
+
+def every_begin_on_an_interval_is_marked(book, event, answer, before, mark):
+    player = book.players[event.player]
+    if event.operation == rights.BEGIN and answer[0] == 0 and player.open and book.entries[answer[1]].has(rights.INTERVAL):
+        book.latest_started = 1
+
+
+def the_mark_is_left(book, event, answer, before, mark):
+    book.latest_started = mark
+
+
+def a_momentary_use_sets_the_mark(real):
+    def begin(book, player, number, kind, t, lines):
+        started = [entry.started for entry in book.entries]
+        answer = real(book, player, number, kind, t, lines)
+        if answer[0] == 0 and book.entries[answer[1]].started != started[answer[1]]:
+            book.latest_started = 1
+        return answer
+    return begin
+
+
+def seen_by_the_header(which):
+    """What is not taken is written into the header, if it is of this sort."""
+    def fault(real):
+        def answered(book, event, lines):
+            numbers = [player.number for player in book.players] + [0] * 256
+            answer = real(book, event, lines)
+            last = book.players[event.player].number if event.player < rights.PLAYERS else None
+            if last == numbers[event.player] and which(numbers, event, answer):
+                book.latest_player, book.latest_started = event.player + 1, 0
+            return answer
+        return answered
+    fault.__name__ = f"{which.__name__}_is_written"
+    return fault
+
+
+def a_resend(numbers, event, answer):
+    return event.number == numbers[event.player] and answer[0] not in (1, 4)
+
+
+def a_number_out_of_line(numbers, event, answer):
+    return answer[0] == 3 and numbers[event.player] != 0
+
+
+def a_used_number(numbers, event, answer):
+    return answer[0] == 4
+
+
+def a_bad_time(numbers, event, answer):
+    return answer[0] == 5 and numbers[event.player] != 0
+
+
+def a_bad_record_is_written(real):
+    def answer_record(book, record, lines):
+        answer = real(book, record, lines)
+        if answer[0] == 1 and book.players[record[0]].number:
+            book.latest_player, book.latest_started = record[0] + 1, 0
+        return answer
+    return answer_record
+
+
+def a_44_is_not_taken(real):
+    def answered(book, event, lines):
+        before = copy.deepcopy(book)
+        answer = real(book, event, lines)
+        if answer[0] == 44:
+            for name in ("time", "players", "entries", "latest_player", "latest_started"):
+                setattr(book, name, getattr(before, name))
+        return answer
+    return answered
+
+
+def a_cancel_comes_before_settling(real):
+    """The use that is over with its time can still be taken back."""
+    def answered(book, event, lines):
+        def leaving(real):
+            def settle(book, t, lines):
+                own = book.players[event.player]
+                kept = event.operation == rights.CANCEL and own.open and own.until <= t
+                until, own.until = own.until, t + 1 if kept else own.until
+                real(book, t, lines)
+                if kept:
+                    own.until = until
+            return settle
+        with planted("settle", leaving):
+            return real(book, event, lines)
+    return answered
+
+
+def requests(rule):
+    """A fault of which requests are good, told by operation, asset, kind and what is right."""
+    def fault(real):
+        return lambda operation, asset, kind: rule(operation, asset, kind, real(operation, asset, kind))
+    fault.__name__ = rule.__name__
+    return fault
+
+
+def operation_4_gets_1(operation, asset, kind, right):
+    return right and operation != 4
+
+
+def operation_5_is_a_cancel(operation, asset, kind, right):
+    return right or (operation, asset, kind) == (5, 0, 0)
+
+
+def a_cancel_may_have_an_asset(operation, asset, kind, right):
+    return right or operation == 4 and kind == 0
+
+
+def a_cancel_may_have_a_kind(operation, asset, kind, right):
+    return right or operation == 4 and asset == 0
+
+
+def a_stored_44_is_refused(real):
+    return lambda book, player: real(book, player) and player.code != 44
+
+
+def a_stored_cancel_is_refused(real):
+    return lambda book, player: real(book, player) and player.operation != rights.CANCEL
+
+
+def a_stored_45_is_accepted(real):
+    return lambda book, player: real(book, changed(player, code=44) if player.code == 45 else player)
+
+
+def the_header_is_not_read(real):
+    def read(data):
+        code, book = real(data)
+        if code == 0:
+            book.latest_player = book.latest_started = 0
+        return code, book
+    return read
+
+
+def the_mark_is_not_read(real):
+    def read(data):
+        code, book = real(data)
+        if code == 0:
+            book.latest_started = 0
+        return code, book
+    return read
+
+
+def the_header_of_older_images_is_made_up(real):
+    """Of an older image, the first player whose stored begin is open counts as the last."""
+    def read(data):
+        code, book = real(data)
+        begun = [index for index, player in enumerate(book.players) if player.open and is_stored(player)] if code == 0 else []
+        if begun and data[4] < 5:
+            book.latest_player = begun[0] + 1
+        return code, book
+    return read
+
+
+def version_4_is_refused(real):
+    return lambda data: (22, None) if data[3:5] == b"\0\4" and len(data) >= 11 and data[:3] == b"RBK" else real(data)
+
+
+def header_good_if(rule):
+    """A fault of which headers are good, told by the player last taken, plus 1, the mark, that player (a blank one if there is none), its
+    entry (likewise), the book, and what is right."""
+    def fault(real):
+        def good(book):
+            player = book.players[book.latest_player - 1] if 1 <= book.latest_player <= rights.PLAYERS else rights.Player()
+            entry = book.entries[player.open_entry] if player.open and player.open_entry < len(book.entries) else Entry()
+            return bool(rule(book.latest_player, book.latest_started, player, entry, book, real(book)))
+        return good
+    fault.__name__ = rule.__name__
+    return fault
+
+
+def started_it(player, entry, book):
+    return player.open == 1 and entry.has(rights.INTERVAL) and player.begin == entry.first and len(book.users(player.open_entry)) == 1
+
+
+def player_17_may_be_last(last, mark, player, entry, book, right):
+    return right or last == 17 and mark == 0
+
+
+def any_number_above_16_may_be_last(last, mark, player, entry, book, right):
+    return right or last > 16 and mark <= 1
+
+
+def player_15_may_not_be_last(last, mark, player, entry, book, right):
+    return right and last != 16
+
+
+def one_without_a_number_may_be_last(last, mark, player, entry, book, right):
+    return right or 1 <= last <= 16 and player.number == 0 and mark == 0
+
+
+def one_whose_counter_is_0_may_not_be_last(last, mark, player, entry, book, right):
+    return right and (last == 0 or player.number % 2 ** 32 != 0)
+
+
+def one_must_be_last_if_any_asked(last, mark, player, entry, book, right):
+    return right and (last != 0 or not any(each.number for each in book.players))
+
+
+def only_one_with_a_use_may_be_last(last, mark, player, entry, book, right):
+    return right and (last == 0 or player.open == 1)
+
+
+def only_one_with_a_grant_may_be_last(last, mark, player, entry, book, right):
+    return right and (last == 0 or player.code == 0)
+
+
+def nobody_may_have_a_mark(last, mark, player, entry, book, right):
+    return right or (last, mark) == (0, 1)
+
+
+def the_mark_may_be_2(last, mark, player, entry, book, right):
+    return right or mark == 2 and player.number != 0 and started_it(player, entry, book)
+
+
+def any_mark_is_1(last, mark, player, entry, book, right):
+    return right or mark > 1 and player.number != 0 and started_it(player, entry, book)
+
+
+def a_mark_is_refused(last, mark, player, entry, book, right):
+    return right and mark == 0
+
+
+def the_mark_is_not_judged(last, mark, player, entry, book, right):
+    return right or mark == 1 and player.number != 0
+
+
+def a_mark_needs_no_open_use(last, mark, player, entry, book, right):
+    return right or mark == 1 and player.number != 0 and player.open == 0
+
+
+def a_mark_needs_no_interval(last, mark, player, entry, book, right):
+    return right or mark == 1 and player.number != 0 and player.open == 1 and not entry.has(rights.INTERVAL)
+
+
+def a_mark_needs_no_first(last, mark, player, entry, book, right):
+    return right or mark == 1 and player.number != 0 and started_it(changed(player, begin=entry.first), entry, book)
+
+
+def a_mark_may_begin_a_second_later(last, mark, player, entry, book, right):
+    return right or mark == 1 and player.number != 0 and started_it(changed(player, begin=player.begin - 1), entry, book)
+
+
+def others_may_have_it_open(last, mark, player, entry, book, right):
+    return right or mark == 1 and player.open == 1 and entry.has(rights.INTERVAL) and player.begin == entry.first
+
+
+def others_before_it_may_have_it_open(last, mark, player, entry, book, right):
+    behind = dataclasses.replace(book, players=book.players[last - 1:]) if last else book
+    return right or mark == 1 and player.number != 0 and started_it(player, entry, behind)
+
+
+def others_behind_it_may_have_it_open(last, mark, player, entry, book, right):
+    return right or mark == 1 and player.number != 0 and started_it(player, entry, dataclasses.replace(book, players=book.players[:last]))
+
+
+def one_other_may_have_it_open(last, mark, player, entry, book, right):
+    others = player.open == 1 and entry.has(rights.INTERVAL) and player.begin == entry.first and len(book.users(player.open_entry)) == 2
+    return right or mark == 1 and others
+
+
+def nobody_may_have_anything_else_open(last, mark, player, entry, book, right):
+    return right and (mark == 0 or sum(each.open for each in book.players) == 1)
+
+
+def a_mark_needs_a_stored_begin(last, mark, player, entry, book, right):
+    return right and (mark == 0 or player.operation == rights.BEGIN)
+
+
+def a_mark_needs_its_stored_answer(last, mark, player, entry, book, right):
+    return right and (mark == 0 or (player.code, player.entry, player.answer_until) == (0, player.open_entry, player.until))
+
+
+def a_use_that_begins_with_its_interval_needs_the_mark(last, mark, player, entry, book, right):
+    return right and (mark == 1 or last == 0 or not started_it(player, entry, book))
+
+
+def last_is_compared_in(bits):
+    def fault(real):
+        def good(book):
+            low = book.latest_player % 2 ** bits
+            return real(dataclasses.replace(book, latest_player=low if low else book.latest_player))
+        return good
+    fault.__name__ = f"last_is_compared_in_{bits}_bits"
+    return fault
+
+
+def marks_are_compared_in(bits):
+    def fault(real):
+        return lambda book: real(dataclasses.replace(book, latest_started=book.latest_started % 2 ** bits))
+    fault.__name__ = f"marks_are_compared_in_{bits}_bits"
+    return fault
+
+
+def the_header_gets(code):
+    """Another number for a header's player or mark against its rule, in its place in the order."""
+    def fault(real):
+        def read(data):
+            with planted("last_is_good", lambda real: lambda book: True):
+                found, book = real(data)
+            if found in (0, 26, 27)[:2 if code == 25 else 3] and real(data)[0] == 26:
+                return (code, None) if found in ((0, 26) if code == 25 else (0, 27)) else (found, book)
+            return real(data)
+        return read
+    fault.__name__ = f"the_header_gets_{code}"
+    return fault
 
 
 # Order 3: images
@@ -1522,12 +2190,40 @@ THRESHOLD_FAULTS = [        # caught by the ledger on random days, by the answer
     ("stop", a_stop_leaves_the_mark), ("settle", a_lapse_leaves_the_mark), ("end_use", an_end_clears_every_mark),
     *(("answered", fault) for fault in (
         only_the_askers_lapse_clears_a_mark, the_threshold_is_asked_before_settling, a_refused_begin_is_tried_again))]
-MIDDLE_FAULTS = [           # of numbers and books that no day from a fresh book comes to: caught by a stored day
+CANCEL_FAULTS = [           # caught by the ledger on random days, by the answers alone too, and by a stored day
+    *(("take_off", comes_back(rule)) for rule in (
+        the_count_stays, the_count_comes_back_twice, the_timed_count_stays, the_timed_count_comes_back_before_its_timer_only,
+        the_timed_count_comes_back_again_before_its_timer, the_seconds_stay, only_the_unused_seconds_come_back, all_seconds_come_back,
+        the_interval_stays_started, the_interval_is_unstarted_whoever_started_it, the_interval_is_unstarted_if_the_use_begins_with_it,
+        the_interval_is_unstarted_if_nobody_else_has_it_open, the_interval_is_unstarted_if_it_seems_to_be_its_own)),
+    *(("may_cancel", may_be_taken_back(rule)) for rule in (
+        every_open_use, no_use, whoever_asked_since, whatever_it_asked_since, behind_a_continue_too, in_the_second_of_its_begin_only,
+        in_the_second_of_its_begin_whoever_asked, while_nobody_else_has_something_open, not_for_player_0, not_for_player_15)),
+    *(("cancel", answers_of_a_cancel(rule)) for rule in (
+        its_until_is_answered, its_time_is_answered, until_0_is_answered, entry_255_is_answered, nothing_open_gets_44, too_late_gets_14,
+        too_late_gets_15)),
+    *(("cancel", fault) for fault in (
+        a_cancel_is_a_stop, a_refused_cancel_stops, a_cancel_changes_nothing, a_cancel_leaves_the_mark, a_cancel_can_be_done_twice)),
+    *(("note_last", header_written(rule)) for rule in (
+        a_refusal_is_not_written, a_refused_continue_is_not_written, a_13_is_not_written, a_10_is_not_written, a_stop_is_not_written,
+        a_continue_is_not_written, a_cancel_is_not_written, a_momentary_use_is_not_written, the_player_itself_is_written,
+        begins_alone_are_written, the_mark_is_never_written, every_begin_on_an_interval_is_marked)),
+    *(("answered", seen_by_the_header(which)) for which in (a_resend, a_number_out_of_line, a_used_number, a_bad_time)),
+    ("answered", a_44_is_not_taken), ("answered", a_cancel_comes_before_settling),
+    *(("request_is_good", requests(rule)) for rule in (
+        operation_4_gets_1, operation_5_is_a_cancel, a_cancel_may_have_an_asset, a_cancel_may_have_a_kind))]
+MIDDLE_FAULTS = [           # of numbers and books that no day from a fresh book comes to, or of records: caught by a stored day
     *(("is_in_line", in_line_if(rule)) for rule in (
         nothing_follows_the_last_counter, nothing_follows_the_last_counter_of_boot_0, no_counter_0,
         counter_0_of_any_greater_boot_number_after_the_last, zero_follows_the_last_number, one_follows_the_last_number)),
     ("decode", records_of_13_bytes_are_read_too), ("read", old_numbers_become_boot_numbers),
-    ("none_grantable", full_and_switched_off_gets_43), ("read", version_3_is_refused), ("set_marks", older_marks_are_left_0)]
+    ("none_grantable", full_and_switched_off_gets_43), ("read", version_3_is_refused), ("set_marks", older_marks_are_left_0),
+    *(("may_cancel", may_be_taken_back(rule)) for rule in (
+        whatever_the_entry, whatever_the_until, whatever_the_code, whatever_the_operation)),
+    ("answer_record", a_bad_record_is_written),
+    *(("player_is_good", fault) for fault in (a_stored_44_is_refused, a_stored_cancel_is_refused)),
+    *(("read", fault) for fault in (
+        the_header_is_not_read, the_mark_is_not_read, the_header_of_older_images_is_made_up, version_4_is_refused))]
 REPORT_FAULTS = [           # caught by the ledger on random days, and by the report of a written day or by a list by hand
     *(("record_use", recording(change)) for change in (
         recorded_with_the_switch_off, recorded_untracked, recorded_with_a_mark_only, recorded_for_the_entrys_asset,
@@ -1541,7 +2237,9 @@ REPORT_FAULTS = [           # caught by the ledger on random days, and by the re
         great_times_are_accepted, great_seconds_are_accepted, great_names_are_accepted, further_lines_are_not_judged,
         two_to_the_62_is_accepted, two_to_the_62_less_one_is_refused)),
     ("list_is_good", too_few_lines_are_accepted), ("list_is_good", further_lines_are_refused),
-    ("step", a_resend_comes_before_30), ("step", a_bad_list_takes_the_event)]
+    ("step", a_resend_comes_before_30), ("step", a_bad_list_takes_the_event),
+    *(("answered", a_cancel_is_recorded(seconds)) for seconds in (its_seconds, all_its_seconds, no_seconds)),
+    ("answered", a_cancel_records_no_other_use)]
 READER_FAULTS = [           # of images that no day from a fresh book leads to, or of no event: caught by a stored image
     ("meters_are_good", a_started_interval_of_0_gets_27), ("meters_are_good", a_meter_above_a_limit_of_0_is_accepted),
     ("open_use_is_good", an_open_use_in_an_interval_of_0_is_accepted),
@@ -1566,10 +2264,26 @@ READER_FAULTS = [           # of images that no day from a fresh book leads to, 
     ("header_is_good", marks_get_26), ("read", thresholds_are_judged_with_the_players),
     *(("set_marks", fault) for fault in (
         older_marks_are_left_0, older_marks_are_set_from_the_last_answers, older_marks_are_set_on_the_first_entry)),
-    ("read", version_3_is_refused), ("read", version_5_is_read), ("mark_of", bits_from_the_top)]
+    ("read", version_3_is_refused), ("read", version_6_is_read), ("mark_of", bits_from_the_top),
+    *(("last_is_good", header_good_if(rule)) for rule in (
+        player_17_may_be_last, any_number_above_16_may_be_last, player_15_may_not_be_last, one_without_a_number_may_be_last,
+        one_whose_counter_is_0_may_not_be_last, one_must_be_last_if_any_asked, only_one_with_a_use_may_be_last,
+        only_one_with_a_grant_may_be_last, nobody_may_have_a_mark, the_mark_may_be_2, any_mark_is_1, a_mark_is_refused,
+        the_mark_is_not_judged, a_mark_needs_no_open_use, a_mark_needs_no_interval, a_mark_needs_no_first, a_mark_may_begin_a_second_later,
+        others_may_have_it_open, others_before_it_may_have_it_open, others_behind_it_may_have_it_open, one_other_may_have_it_open,
+        nobody_may_have_anything_else_open, a_mark_needs_a_stored_begin, a_mark_needs_its_stored_answer,
+        a_use_that_begins_with_its_interval_needs_the_mark)),
+    *(("last_is_good", last_is_compared_in(bits)) for bits in (8, 16)),
+    *(("last_is_good", marks_are_compared_in(bits)) for bits in (8, 16)),
+    *(("read", the_header_gets(code)) for code in (25, 27)),
+    *(("player_is_good", fault) for fault in (a_stored_44_is_refused, a_stored_cancel_is_refused, a_stored_45_is_accepted)),
+    *(("read", fault) for fault in (
+        the_header_is_not_read, the_mark_is_not_read, the_header_of_older_images_is_made_up, version_4_is_refused))]
 KEPT_FAULTS = [             # of what no answer shows: caught by what the ledger says of the book
     ("begin", the_content_is_kept_of_tracked_entries_only), ("end_use", the_content_is_kept_after_the_end),
-    ("begin", marks_only_with_a_threshold), ("mark_of", bits_from_the_top)]
+    ("begin", marks_only_with_a_threshold), ("mark_of", bits_from_the_top),
+    ("take_off", comes_back(the_first_use_time_is_left)), ("begin", a_momentary_use_sets_the_mark),
+    ("note_last", header_written(the_mark_is_left))]
 
 
 @contextmanager
@@ -1621,10 +2335,10 @@ def is_caught_by_reports(name, fault):
 
 def check_faults():
     stored_days, stored_images = list(days.stored_days()), list(images.answers())
-    for name, fault in FAULTS + THRESHOLD_FAULTS:
+    for name, fault in FAULTS + THRESHOLD_FAULTS + CANCEL_FAULTS:
         demand(is_caught(name, fault), f"the fault {fault.__name__} is caught")
         demand(is_caught_by_stored_days(name, fault, stored_days), f"the fault {fault.__name__} is caught by the stored days")
-    for name, fault in THRESHOLD_FAULTS:
+    for name, fault in THRESHOLD_FAULTS + CANCEL_FAULTS:
         demand(is_caught(name, fault, books=False), f"the fault {fault.__name__} is caught by the answers")
     for name, fault in MIDDLE_FAULTS:
         demand(is_caught_by_stored_days(name, fault, stored_days), f"the fault {fault.__name__} is caught by the stored days")
@@ -1637,7 +2351,7 @@ def check_faults():
         demand(is_caught_by_what_is_kept(name, fault), f"the fault {fault.__name__} is caught")
     demand(is_caught_by_reports("answer_record", the_checks_come_before_30), "30 comes before the checks of a record")
     demand(is_caught_by_stored_days("go_on", a_continue_asks_the_switch, stored_days), "a continue does not ask the switch")
-    listed = FAULTS + THRESHOLD_FAULTS + MIDDLE_FAULTS + REPORT_FAULTS + READER_FAULTS + KEPT_FAULTS
+    listed = FAULTS + THRESHOLD_FAULTS + CANCEL_FAULTS + MIDDLE_FAULTS + REPORT_FAULTS + READER_FAULTS + KEPT_FAULTS
     return len({fault.__name__ for _, fault in listed}) + 2
 
 
@@ -1651,8 +2365,8 @@ def is_caught_by_what_is_kept(name, fault):
 
 
 def check_kept():
-    """After each event of the written days from a fresh book, a player's content is the ledger's of its open use, or 0, and the marks are
-    those of the ledger's open uses."""
+    """After each event of the written days from a fresh book, a player's content is the ledger's of its open use, or 0, the marks are those
+    of the ledger's open uses, the header has the last event taken, and the book is read back as itself."""
     for name, version, book, steps, _ in written_days.written():
         if is_fresh(book):
             ledger, book = Ledger(book.assets, book.entries, book.switch), copy.deepcopy(book)
@@ -1664,6 +2378,8 @@ def check_kept():
                     use = ledger.open_use(index, ledger.T)
                     demand(player.content == (use.content if use else 0), f"{name}: the content that player {index} has open")
                 check_marks(book, ledger)
+                check_last(book, ledger)
+                demand(rights.read(rights.write(book)) == (0, book), f"{name}: the book after {event} is read back as itself")
 
 
 def main():

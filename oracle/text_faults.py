@@ -367,6 +367,14 @@ def metering_is_on(real):
     return made
 
 
+@fault("Reader.__init__")
+def player_0_was_taken_last(real):
+    def made(self):
+        real(self)
+        self.book.latest_player = 1
+    return made
+
+
 @fault("Reader.add_entries")
 def entries_are_tracked(real):
     def add_entries(self):

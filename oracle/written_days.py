@@ -4,8 +4,9 @@ The book is told in words, as in texts.py: its assets, a bar, its entries, as `9
 and the like set meters, `started 1` and `first 900` an interval that runs, `tracked 1`, `timed_value 30` and `mark 1` a track,
 `threshold 2` how many players may have the entry open together; the marks are those of the players that have it open. A line is an
 event and its answer as document 01 writes them: `0.1 begin 1 play 1000: 0 0 1060`, where a code alone has 255 0 behind it; `0.3.1` is
-player 0 with counter 1 under boot number 3. `was 0 1 1060` behind the answer says that the rules of the choice before order 6 gave that
-one, and that the day's answers before it were the same; a day without it is answered by those rules as by today's.
+player 0 with counter 1 under boot number 3; `0.2 asks 5 0 0 1000` has the numbers of an operation, an asset and a kind.
+`was 0 1 1060` behind the answer says that the rules of the choice before order 6 gave that one, and that the day's answers before it
+were the same; a day without it is answered by those rules as by today's.
 `-> 1 2 90` behind it says that content 1 has 2 times and 90 seconds in the report from there on; a report begins with zeros, and what
 is not told stays. `days.py` stores the days behind its random ones, without the report, which the run program does not print.
 """
@@ -18,18 +19,19 @@ from texts import KINDS, book_of
 
 DAYS = []                   # (name, version of the image, book, steps: event, answer, report after it, bytes behind the last record)
 WAS = {}                    # by the name of a day: which of its steps the rules before order 6 answered otherwise first, and how
-LINE = re.compile(r"(\d+)\.(?:(\d+)\.)?(\d+) (begin (\d+) (\w+)|continue|stop) (\d+): (\d+)(?: (\d+) (\d+))?"
+LINE = re.compile(r"(\d+)\.(?:(\d+)\.)?(\d+) (begin (\d+) (\w+)|asks \d+ \d+ \d+|continue|stop|cancel) (\d+): (\d+)(?: (\d+) (\d+))?"
                   r"(?: was (\d+) (\d+) (\d+))?(?: -> (.*))?")
 TOP = 4_294_967_295         # the last counter, and the greatest boot number
-OPERATIONS = {"begin": rights.BEGIN, "continue": rights.CONTINUE, "stop": rights.STOP}
+OPERATIONS = {"begin": rights.BEGIN, "continue": rights.CONTINUE, "stop": rights.STOP, "cancel": rights.CANCEL}
 
 
-def day(name, words, *lines, time=0, switch=0, players=(), version=rights.NEWEST, tail=""):
-    """A day from this book. Players that have asked before are pairs of their index and their record. A tail is the bytes of a record cut
-    short."""
+def day(name, words, *lines, time=0, switch=0, players=(), last=0, mark=0, version=rights.NEWEST, tail=""):
+    """A day from this book. Players that have asked before are pairs of their index and their record; `last` and `mark` are the header's
+    player last taken, plus 1, and its mark of an interval. A tail is the bytes of a record cut short."""
     book = book_of(words)
-    book.time, book.switch = time, switch
-    assert version == rights.NEWEST or not any(entry.threshold for entry in book.entries), f"{name}: a threshold needs version 4"
+    book.time, book.switch, book.latest_player, book.latest_started = time, switch, last, mark
+    assert version >= 4 or not any(entry.threshold for entry in book.entries), f"{name}: a threshold needs version 4"
+    assert version >= 5 or (last, mark) == (0, 0), f"{name}: a player last taken needs version 5"
     for index, player in players:
         book.players[index] = player
         if player.open:
@@ -50,9 +52,12 @@ def parts_of(line):
     """The event of a line, its answer, the answer of the rules before order 6 if it was another (empty if not), and what the line says of
     the report: times and seconds by content."""
     player, boot, counter, request, asset, kind, t, code, entry, until, *was, told = LINE.fullmatch(line).groups()
-    operation = OPERATIONS[request.split()[0]]
     number = int(boot or 0) * 2 ** 32 + int(counter)
-    event = Event(int(player), number, operation, int(asset or 0), KINDS.index(kind) + 1 if kind else 0, int(t))
+    if request.startswith("asks"):
+        asked = map(int, request.split()[1:])
+    else:
+        asked = (OPERATIONS[request.split()[0]], int(asset or 0), KINDS.index(kind) + 1 if kind else 0)
+    event = Event(int(player), number, *asked, int(t))
     sums = [tuple(map(int, part.split())) for part in (told or "").split(",") if part]
     gained = {content: (times, seconds) for content, times, seconds in sums}
     return event, (int(code), int(entry or 255), int(until or 0)), tuple(int(each) for each in was if each), gained
@@ -859,10 +864,306 @@ def marked_images():
         players=[(3, Player(7, rights.BEGIN, 1, rights.PLAY, 13, 255, 0))])
 
 
+# ---- Order 8: a begin is taken back
+
+def given_back():
+    """What the begin took of count, timed count and seconds is there again, and nothing else."""
+    for kind in ("play", "display", "execute"):
+        day(f"a count comes back, {kind}", f"1 key | 1 {kind} count 1",
+            f"0.1 begin 1 {kind} 1000: 0 0 1060", "0.2 cancel 1005: 0 0 1000", f"1.1 begin 1 {kind} 1005: 0 0 1065",
+            f"0.3 begin 1 {kind} 1006: 13", "1.2 stop 1006: 0 0 1006", f"0.4 begin 1 {kind} 1006: 13")
+    day("the counts of other uses stay", "1 key | 1 play count 3",
+        "0.1 begin 1 play 1000: 0 0 1060", "0.2 stop 1010: 0 0 1010", "0.3 begin 1 play 1010: 0 0 1070", "0.4 cancel 1011: 0 0 1010",
+        "0.5 begin 1 play 1011: 0 0 1071", "0.6 stop 1012: 0 0 1012", "0.7 begin 1 play 1012: 0 0 1072", "0.8 stop 1013: 0 0 1013",
+        "0.9 begin 1 play 1013: 13")
+    day("a count of another's open use stays", "1 key | 1 play count 2",
+        "0.1 begin 1 play 1000: 0 0 1060", "1.1 begin 1 play 1001: 0 0 1061", "1.2 cancel 1002: 0 0 1001",
+        "2.1 begin 1 play 1002: 0 0 1062",
+        "3.1 begin 1 play 1002: 13", "0.2 continue 1003: 0 0 1063")
+    for timer in (0, 1, 5, 6, 59, 60, 61, 1_000_000):
+        day(f"a timed count comes back once, timer {timer}", f"1 key | 1 play timed 2 timer {timer}",
+            "0.1 begin 1 play 1000: 0 0 1060", "1.1 begin 1 play 1000: 0 0 1060", "1.2 cancel 1005: 0 0 1000",
+            "1.3 begin 1 play 1005: 0 0 1065", "2.1 begin 1 play 1005: 13")
+    day("a timed count comes back behind its timer", "1 key | 1 play timed 1 timer 30",
+        "0.1 begin 1 play 1000: 0 0 1060", "0.2 cancel 1059: 0 0 1000", "1.1 begin 1 play 1059: 0 0 1119", "2.1 begin 1 play 1060: 13",
+        "1.2 stop 1089: 0 0 1089", "2.2 begin 1 play 1089: 13")
+    day("all seconds come back, not the rest", "1 key | 1 play accumulated 60",
+        "0.1 begin 1 play 1000: 0 0 1060", "0.2 cancel 1030: 0 0 1000", "1.1 begin 1 play 1030: 0 0 1090", "2.1 begin 1 play 1031: 13")
+    day("seconds come back beside another's", "1 key | 1 play accumulated 100",
+        "0.1 begin 1 play 1000: 0 0 1060", "1.1 begin 1 play 1010: 0 0 1050", "1.2 cancel 1020: 0 0 1010",
+        "2.1 begin 1 play 1021: 0 0 1061", "0.2 continue 1022: 15", "3.1 begin 1 play 1022: 13")
+    day("everything at once", "1 key | 1 play count 1 timed 1 timer 10 interval 100 accumulated 60",
+        "0.1 begin 1 play 1000: 0 0 1060", "0.2 cancel 1059: 0 0 1000", "0.3 begin 1 play 2000: 0 0 2060", "0.4 cancel 2000: 0 0 2000",
+        "0.5 begin 1 play 2000: 0 0 2060", "1.1 begin 1 play 2001: 13")
+    day("no limit and nothing to give back", "1 key | 1 play",
+        "0.1 begin 1 play 1000: 0 0 1060", "0.2 cancel 1001: 0 0 1000", "0.3 cancel 1001: 14", "0.4 begin 1 play 1001: 0 0 1061",
+        "0.5 begin 1 play 1001: 11")
+    day("cut by its end", "1 key | 1 play count 1 start 1000 end 1010",
+        "0.1 begin 1 play 1000: 0 0 1011", "0.2 cancel 1010: 0 0 1000", "0.3 begin 1 play 1010: 0 0 1011", "0.4 cancel 1011: 14",
+        "0.5 begin 1 play 1011: 13")
+    day("a use of the parent's entry", "1 inherits 9 key; 2 inherits 9 key; 9 | 1 play count 0; 9 play count 1; 2 display count 1",
+        "0.1 begin 1 play 1000: 0 1 1060", "0.2 cancel 1001: 0 1 1000", "1.1 begin 2 play 1001: 0 1 1061", "1.2 cancel 1002: 0 1 1001",
+        "15.1 begin 2 display 1002: 0 2 1062", "15.2 cancel 1003: 0 2 1002", "15.3 begin 1 play 1003: 0 1 1063",
+        "0.3 begin 2 play 1003: 13")
+    day("at the latest second", "1 key | 1 play count 1",
+        "0.1 begin 1 play 3999999950: 0 0 4000000010", "0.2 cancel 4000000001: 5", "0.2 cancel 4000000000: 0 0 3999999950",
+        "0.3 begin 1 play 4000000000: 0 0 4000000060", "0.4 cancel 4000000000: 0 0 4000000000", "0.4 cancel 0: 0 0 4000000000",
+        "1.1 begin 1 play 4000000000: 0 0 4000000060", "0.5 begin 1 play 4000000000: 13")
+    day("at 0", "1 key | 1 play count 1 interval 50", "0.1 begin 1 play 0: 0 0 50", "0.2 cancel 0: 0 0 0", "0.3 begin 1 play 10: 0 0 60",
+        "0.4 cancel 10: 0 0 10", "0.5 begin 1 play 60: 0 0 110")
+
+
+def unstarted():
+    """An interval is unstarted if the begin taken back started it, and by that begin alone."""
+    day("an interval that the begin started", "1 key | 1 play interval 100",
+        "0.1 begin 1 play 1000: 0 0 1060", "0.2 cancel 1050: 0 0 1000", "0.3 begin 1 play 2000: 0 0 2060", "0.4 stop 2001: 0 0 2001",
+        "0.5 begin 1 play 2099: 0 0 2100", "0.6 begin 1 play 2100: 13")
+    day("an interval that an earlier use started", "1 key | 1 play interval 100",
+        "0.1 begin 1 play 1000: 0 0 1060", "0.2 stop 1010: 0 0 1010", "0.3 begin 1 play 1020: 0 0 1080", "0.4 cancel 1021: 0 0 1020",
+        "0.5 begin 1 play 1099: 0 0 1100", "0.6 begin 1 play 1100: 13")
+    day("an interval that another's open use started", "1 key | 1 play interval 100",
+        "0.1 begin 1 play 1000: 0 0 1060", "1.1 begin 1 play 1001: 0 0 1061", "1.2 cancel 1001: 0 0 1001",
+        "2.1 begin 1 play 1099: 0 0 1100",
+        "3.1 begin 1 play 1100: 13")
+    day("two begins in one second, the second taken back", "1 key | 1 play interval 100",
+        "0.1 begin 1 play 1000: 0 0 1060", "1.1 begin 1 play 1000: 0 0 1060", "1.2 cancel 1000: 0 0 1000", "0.2 stop 1000: 0 0 1000",
+        "2.1 begin 1 play 1099: 0 0 1100", "3.1 begin 1 play 1100: 13")
+    day("two begins in one second, the first stopped in it", "1 key | 1 play interval 100",
+        "0.1 begin 1 play 1000: 0 0 1060", "0.2 stop 1000: 0 0 1000", "0.3 begin 1 play 1000: 0 0 1060", "0.4 cancel 1000: 0 0 1000",
+        "0.5 begin 1 play 1099: 0 0 1100", "0.6 begin 1 play 1100: 13")
+    day("two begins in one second, the first taken back before", "1 key | 1 play interval 100",
+        "0.1 begin 1 play 1000: 0 0 1060", "0.2 cancel 1000: 0 0 1000", "1.1 begin 1 play 1000: 0 0 1060", "1.2 cancel 1001: 0 0 1000",
+        "2.1 begin 1 play 1200: 0 0 1260", "2.2 stop 1200: 0 0 1200", "1.3 begin 1 play 1299: 0 0 1300", "1.4 begin 1 play 1300: 13")
+    day("the interval of another entry stays", "1 key; 2 key | 1 play interval 100; 2 play interval 100",
+        "0.1 begin 1 play 1000: 0 0 1060", "1.1 begin 2 play 1010: 0 1 1070", "1.2 cancel 1011: 0 1 1010", "2.1 begin 1 play 1100: 13",
+        "2.2 begin 2 play 1110: 0 1 1170")
+    day("in the last second of the interval", "1 key | 1 play interval 10",
+        "0.1 begin 1 play 1000: 0 0 1010", "0.2 cancel 1009: 0 0 1000", "0.3 begin 1 play 1009: 0 0 1019", "0.4 cancel 1019: 14",
+        "0.5 begin 1 play 1019: 13")
+    day("an interval started by a print", "1 key | 1 print interval 100; 1 play interval 100",
+        "0.1 begin 1 print 1000: 0 0 1000", "0.2 cancel 1000: 14", "0.3 begin 1 print 1099: 0 0 1099", "0.4 begin 1 print 1100: 13",
+        "0.5 begin 1 play 1100: 0 1 1160", "0.6 cancel 1100: 0 1 1100", "0.7 begin 1 play 1300: 0 1 1360")
+    day("the choice after an interval is unstarted", "1 inherits 9 key; 2 inherits 9 key; 9 | 9 play interval 300; 1 play end 2000",
+        "0.1 begin 1 play 1000: 0 1 1060", "0.2 cancel 1001: 0 1 1000", "1.1 begin 2 play 1010: 0 0 1070", "1.2 cancel 1010: 0 0 1010",
+        "0.3 begin 1 play 1010: 0 1 1070", "0.4 cancel 1010: 0 1 1010", "1.3 begin 2 play 1010: 0 0 1070",
+        "0.5 begin 1 play 1010: 0 0 1070 was 0 1 1070", "0.6 cancel 1011: 0 0 1010", "0.7 begin 1 play 1309: 0 0 1310",
+        "0.8 begin 1 play 1310: 0 1 1370")
+    day("the choice between two intervals, one unstarted",
+        "1 inherits 9 key; 2 inherits 9 key; 9 | 1 play interval 900; 9 play interval 500",
+        "0.1 begin 2 play 1000: 0 1 1060", "0.2 cancel 1000: 0 1 1000", "1.1 begin 1 play 1000: 0 0 1060", "1.2 cancel 1000: 0 0 1000",
+        "0.3 begin 2 play 1000: 0 1 1060", "1.3 begin 1 play 1000: 0 1 1060", "1.4 cancel 1000: 0 1 1000",
+        "1.5 begin 1 play 1000: 0 1 1060")
+
+
+def place_free():
+    """A begin that is taken back gives its place in a group pack away."""
+    for player in (0, 1, 7, 8, 15):
+        other = (player + 1) % 16
+        day(f"threshold 1, taken back by player {player}", "1 key | 1 play threshold 1",
+            f"{player}.1 begin 1 play 1000: 0 0 1060", f"{player}.2 cancel 1001: 0 0 1000", f"{other}.1 begin 1 play 1001: 0 0 1061",
+            f"{player}.3 begin 1 play 1001: 13", f"{other}.2 cancel 1001: 44", f"{player}.4 begin 1 play 1061: 0 0 1121")
+    day("a group pack for two", "1 inherits 9 key; 2 inherits 9 key; 9 | 9 play threshold 2",
+        "0.1 begin 1 play 1000: 0 0 1060", "1.1 begin 2 play 1001: 0 0 1061", "1.2 cancel 1002: 0 0 1001",
+        "2.1 begin 1 play 1002: 0 0 1062",
+        "3.1 begin 2 play 1003: 13", "2.2 cancel 1003: 44", "0.2 stop 1004: 0 0 1004", "3.2 begin 2 play 1004: 0 0 1064",
+        "3.3 cancel 1004: 0 0 1004", "0.3 begin 1 play 1004: 0 0 1064", "1.3 begin 1 play 1004: 13")
+    day("15 of 16 stay", "1 key | 1 play threshold 16", *(f"{player}.1 begin 1 play 1000: 0 0 1060" for player in range(16)),
+        "15.2 cancel 1000: 0 0 1000", "15.3 begin 1 play 1000: 0 0 1060", "15.4 cancel 1000: 0 0 1000", "14.2 cancel 1000: 44")
+    day("a threshold beside a count", "1 key | 1 play threshold 1 count 2",
+        "0.1 begin 1 play 1000: 0 0 1060", "0.2 cancel 1000: 0 0 1000", "0.3 begin 1 play 1000: 0 0 1060", "0.4 stop 1001: 0 0 1001",
+        "1.1 begin 1 play 1001: 0 0 1061", "1.2 cancel 1001: 0 0 1001", "2.1 begin 1 play 1001: 0 0 1061", "2.2 stop 1002: 0 0 1002",
+        "2.3 begin 1 play 1002: 13")
+
+
+def unrecorded():
+    """What is taken back is not in the report; other uses that are over are."""
+    for timed_value in (0, 30, 61):
+        times = 1 if timed_value < 61 else 0
+        day(f"not reported, timed value {timed_value}", f"1 key | 1 play tracked 1 timed_value {timed_value}",
+            "0.1 begin 1 play 1000: 0 0 1060", "0.2 cancel 1050: 0 0 1000", "0.3 begin 1 play 1060: 0 0 1120", "0.4 cancel 1060: 0 0 1060",
+            "0.5 begin 1 play 1060: 0 0 1120", f"0.6 stop 1120: 14 -> 1 {times} 60", switch=1)
+    day("a cancel ends others' uses", "1 key; 2 key | 1 play tracked 1; 2 play tracked 1",
+        "0.1 begin 1 play 1000: 0 0 1060", "1.1 begin 2 play 1050: 0 1 1110", "1.2 cancel 1060: 0 1 1050 -> 1 1 60", "2.1 stop 1200: 14",
+        "1.3 begin 2 play 1200: 0 1 1260", "2.2 stop 1260: 14 -> 2 1 60", switch=1)
+    day("a cancel too late: the use is over and reported", "1 key | 1 play tracked 1",
+        "0.1 begin 1 play 1000: 0 0 1060", "0.2 cancel 1060: 14 -> 1 1 60", "0.2 cancel 1060: 14", switch=1)
+    day("a cancel refused: the use goes on and is reported", "1 key | 1 play tracked 1 timed_value 30",
+        "0.1 begin 1 play 1000: 0 0 1060", "0.2 continue 1010: 0 0 1070", "0.3 cancel 1011: 44", "0.4 stop 1020: 0 0 1020 -> 1 0 20",
+        switch=1)
+    day("a print is reported and not taken back", "1 key | 1 print tracked 1 count 1",
+        "0.1 begin 1 print 1000: 0 0 1000 -> 1 1 0", "0.2 cancel 1000: 14", "0.3 begin 1 print 1000: 13", switch=1)
+    day("tracked with a mark, the switch off", "1 key | 1 play tracked 1 mark 1 count 1",
+        "0.1 begin 1 play 1000: 0 0 1060", "0.2 cancel 1050: 0 0 1000", "0.3 begin 1 play 1050: 0 0 1110", "0.4 stop 1060: 0 0 1060")
+
+
+LOADING = "1 key; 2 key; 7 | 1 play count 9; 2 play count 0; 2 display tracked 1; 1 print"
+
+
+def still_the_last():
+    """Resends and what is turned away are not taken, so the begin is still the last event."""
+    day("the begin sent again before the cancel", LOADING,
+        "0.1 begin 1 play 1000: 0 0 1060", "0.1 begin 1 play 1001: 0 0 1060", "0.1 begin 1 play 1059: 0 0 1060",
+        "0.2 cancel 1002: 0 0 1000")
+    day("another's request sent again before the cancel", LOADING,
+        "1.1 stop 990: 14", "0.1 begin 1 play 1000: 0 0 1060", "1.1 stop 1001: 14", "0.2 cancel 1001: 0 0 1000")
+    for line in ("0.2 asks 0 0 0 1001: 1", "0.2 asks 5 0 0 1001: 1", "0.2 asks 255 0 0 1001: 1", "0.2 asks 4 1 0 1001: 1",
+                 "0.2 asks 4 256 0 1001: 1", "0.2 asks 4 0 1 1001: 1", "0.2 asks 1 1 6 1001: 1", "3.2 asks 5 0 0 1001: 1",
+                 "3.2 asks 4 1 0 1001: 1", "1.1 asks 0 0 0 1001: 1", "16.1 cancel 1001: 2", "0.3 cancel 1001: 3", "0.0 cancel 1001: 3",
+                 "1.2 begin 1 play 1001: 3", "3.3 stop 1001: 3", "3.0.0 cancel 1001: 3", "0.1 cancel 1001: 4", "0.1 stop 1001: 4",
+                 "0.1 begin 2 play 1001: 4", "3.1 cancel 1001: 4", "0.2 cancel 999: 5", "0.2 cancel 4000000001: 5", "0.2 stop 999: 5",
+                 "3.2 cancel 999: 5", "1.1 begin 1 play 999: 5", "0.1 begin 1 play 1001: 0 0 1060", "3.1 stop 1001: 14"):
+        day(f"a cancel behind {line}", "1 key; 2 key | 1 play count 1 interval 100; 2 play",
+            "3.1 stop 990: 14", "0.1 begin 1 play 1000: 0 0 1060", line, "0.2 cancel 1001: 0 0 1000", "1.1 begin 1 play 1200: 0 0 1260")
+    day("all of them behind one another", LOADING,
+        "3.1 stop 900: 14", "0.1 begin 1 play 1000: 0 0 1060", "16.1 cancel 1001: 2", "0.2 asks 4 0 2 1001: 1",
+        "0.1 begin 1 play 0: 0 0 1060",
+        "0.3 cancel 1001: 3", "3.1 stop 1001: 14", "0.1 cancel 1001: 4", "1.1 cancel 999: 5", "0.2 cancel 1059: 0 0 1000")
+    day("one second before its time is over", LOADING, "0.1 begin 1 play 1000: 0 0 1060", "0.2 cancel 1059: 0 0 1000")
+
+
+def no_longer_the_last():
+    """44 if anybody's event was taken since, a refused one too. It is taken, and leaves the use open."""
+    for line in ("1.1 begin 1 play 1001: 0 0 1061", "1.1 begin 1 print 1001: 0 3 1001", "1.1 begin 3 play 1001: 10",
+                 "1.1 begin 7 play 1001: 10", "0.2 begin 1 play 1001: 11", "0.2 begin 3 play 1001: 11", "1.1 begin 1 execute 1001: 12",
+                 "1.1 begin 2 play 1001: 13", "1.1 begin 2 display 1001: 43", "1.1 continue 1001: 14", "1.1 stop 1001: 14",
+                 "1.1 cancel 1001: 14", "0.2 continue 1000: 15", "0.2 continue 1001: 0 0 1061", "15.1 stop 1001: 14"):
+        number = 3 if line.startswith("0.") else 2
+        day(f"no cancel behind {line}", LOADING, "0.1 begin 1 play 1000: 0 0 1060", line, f"0.{number} cancel 1002: 44",
+            f"0.{number} cancel 1002: 44", f"0.{number + 1} cancel 1002: 44", f"0.{number + 2} continue 1010: 0 0 1070",
+            f"0.{number + 3} cancel 1011: 44", f"0.{number + 4} stop 1012: 0 0 1012", f"0.{number + 5} cancel 1012: 14")
+    day("no cancel behind another's stop", LOADING,
+        "1.1 begin 1 play 1000: 0 0 1060", "0.1 begin 1 play 1000: 0 0 1060", "1.2 stop 1001: 0 0 1001", "0.2 cancel 1001: 44")
+    day("no cancel behind another's continue", LOADING,
+        "1.1 begin 1 play 999: 0 0 1059", "0.1 begin 1 play 1000: 0 0 1060", "1.2 continue 1000: 0 0 1060", "0.2 cancel 1001: 44",
+        "1.3 cancel 1001: 44")
+    day("no cancel behind another's continue without more time", LOADING,
+        "1.1 begin 1 play 1000: 0 0 1060", "0.1 begin 1 play 1000: 0 0 1060", "1.2 continue 1000: 15", "0.2 cancel 1001: 44")
+    day("no cancel behind another's cancel", LOADING,
+        "0.1 begin 1 play 1000: 0 0 1060", "1.1 begin 1 play 1000: 0 0 1060", "1.2 cancel 1001: 0 0 1000", "0.2 cancel 1001: 44",
+        "1.3 cancel 1001: 14")
+    day("no cancel behind another's cancel that got 44", LOADING,
+        "1.1 begin 1 play 1000: 0 0 1060", "0.1 begin 1 play 1000: 0 0 1060", "1.2 cancel 1000: 44", "0.2 cancel 1000: 44")
+    day("one that is refused uses its limits on", "1 key | 1 play count 1 interval 100 threshold 1",
+        "0.1 begin 1 play 1000: 0 0 1060", "1.1 begin 1 play 1000: 13", "0.2 cancel 1001: 44", "0.3 stop 1002: 0 0 1002",
+        "1.2 begin 1 play 1002: 13")
+    day("44 does not unstart an interval", "1 key | 1 play interval 100",
+        "0.1 begin 1 play 1000: 0 0 1060", "0.2 continue 1000: 15", "0.3 cancel 1001: 44", "0.4 stop 1002: 0 0 1002",
+        "0.5 begin 1 play 1099: 0 0 1100", "0.6 cancel 1099: 0 0 1099", "0.7 begin 1 play 1100: 13")
+    day("refused for itself, granted for the next begin", "1 key | 1 play count 2",
+        "0.1 begin 1 play 1000: 0 0 1060", "0.2 continue 1000: 15", "0.3 cancel 1000: 44", "0.4 stop 1000: 0 0 1000",
+        "0.5 begin 1 play 1001: 0 0 1061", "0.6 cancel 1001: 0 0 1001", "0.7 begin 1 play 1001: 0 0 1061", "1.1 begin 1 play 1001: 13")
+    day("44 sent again when it would be granted", "1 key | 1 play count 2",
+        "0.1 begin 1 play 1000: 0 0 1060", "0.2 continue 1000: 15", "0.3 cancel 1000: 44", "0.3 cancel 1001: 44", "0.3 stop 1001: 4",
+        "0.3 cancel 0: 44")
+
+
+def nothing_to_take_back():
+    """14 if nothing is open, whatever was taken since."""
+    day("a player's first event is a cancel", LOADING, "0.1 cancel 1000: 14", "0.1 cancel 1000: 14", "0.2 cancel 1000: 14",
+        "0.3 begin 1 play 1000: 0 0 1060", "0.4 cancel 1000: 0 0 1000")
+    day("a use that was stopped", LOADING, "0.1 begin 1 play 1000: 0 0 1060", "0.2 stop 1000: 0 0 1000", "0.3 cancel 1000: 14")
+    day("a use that is over", LOADING, "0.1 begin 1 play 1000: 0 0 1060", "0.2 cancel 1060: 14", "1.1 begin 1 play 1060: 0 0 1120",
+        "1.2 cancel 1121: 14")
+    day("a use that is over, and another's event", LOADING, "0.1 begin 1 play 1000: 0 0 1060", "1.1 stop 1030: 14", "0.2 cancel 1060: 14")
+    day("a use that is over, and another's begin", "1 key | 1 play count 2", "0.1 begin 1 play 1000: 0 0 1060",
+        "1.1 begin 1 play 1060: 0 0 1120", "0.2 cancel 1060: 14", "1.2 cancel 1060: 44", "2.1 begin 1 play 1060: 13")
+    for kind in ("print", "export"):
+        day(f"a momentary use, {kind}", f"1 key | 1 {kind} count 1", f"0.1 begin 1 {kind} 1000: 0 0 1000", "0.2 cancel 1000: 14",
+            f"1.1 begin 1 {kind} 1000: 13")
+    day("a begin that was refused", LOADING, "0.1 begin 2 play 1000: 13", "0.2 cancel 1000: 14", "0.3 begin 2 display 1000: 43",
+        "0.4 cancel 1000: 14", "0.5 begin 3 play 1000: 10", "0.6 cancel 1000: 14")
+    day("another's open use is not taken back", LOADING, "0.1 begin 1 play 1000: 0 0 1060", "1.1 cancel 1000: 14", "0.2 cancel 1000: 44")
+
+
+def taken_back_again():
+    """A cancel is an event like others: its number, its resends, and what follows it."""
+    day("a cancel sent again", "1 key | 1 play count 1",
+        "0.1 begin 1 play 1000: 0 0 1060", "0.2 cancel 1005: 0 0 1000", "0.2 cancel 1010: 0 0 1000", "0.2 cancel 0: 0 0 1000",
+        "0.2 stop 1010: 4", "0.1 begin 1 play 1010: 3", "0.3 cancel 1010: 14", "0.4 begin 1 play 1010: 0 0 1070", "0.2 cancel 1010: 3",
+        "1.1 begin 1 play 1010: 13")
+    day("a cancel sent again behind another's begin", "1 key | 1 play count 1",
+        "0.1 begin 1 play 1000: 0 0 1060", "0.2 cancel 1001: 0 0 1000", "1.1 begin 1 play 1001: 0 0 1061", "0.2 cancel 1001: 0 0 1000",
+        "2.1 begin 1 play 1001: 13", "1.2 stop 1002: 0 0 1002", "0.3 begin 1 play 1002: 13")
+    day("a begin sent again behind its cancel", "1 key | 1 play count 1",
+        "0.1 begin 1 play 1000: 0 0 1060", "0.2 cancel 1001: 0 0 1000", "0.1 begin 1 play 1001: 3", "0.3 begin 1 play 1001: 0 0 1061",
+        "0.3 begin 1 play 1002: 0 0 1061", "1.1 begin 1 play 1002: 13")
+    day("again and again", "1 key | 1 play count 1 interval 30",
+        *(line for each in range(6) for line in (f"0.{2 * each + 1} begin 1 play {1000 + 40 * each}: 0 0 {1030 + 40 * each}",
+                                                 f"0.{2 * each + 2} cancel {1029 + 40 * each}: 0 0 {1000 + 40 * each}")),
+        "1.1 begin 1 play 1300: 0 0 1330", "0.13 begin 1 play 1301: 13")
+    day("a restart between the begin and its cancel", "1 key | 1 play count 1",
+        "0.1.1 begin 1 play 1000: 0 0 1060", "0.2.1 cancel 1001: 0 0 1000", "0.2.2 begin 1 play 1001: 0 0 1061",
+        "0.3.1 begin 1 play 1001: 11",
+        "0.4.1 cancel 1001: 44")
+    day("two players take back in turn", "1 key | 1 play count 1",
+        "0.1 begin 1 play 1000: 0 0 1060", "0.2 cancel 1000: 0 0 1000", "1.1 begin 1 play 1000: 0 0 1060", "1.2 cancel 1000: 0 0 1000",
+        "0.3 begin 1 play 1000: 0 0 1060", "0.4 cancel 1000: 0 0 1000", "15.1 begin 1 play 1000: 0 0 1060", "15.2 cancel 1000: 0 0 1000",
+        "1.3 begin 1 play 1000: 0 0 1060", "0.5 begin 1 play 1000: 13")
+    day("another entry after it", "1 key | 1 play count 1 end 2000; 1 play count 1",
+        "0.1 begin 1 play 1000: 0 0 1060", "0.2 cancel 1000: 0 0 1000", "1.1 begin 1 play 1000: 0 0 1060",
+        "0.3 begin 1 play 1000: 0 1 1060",
+        "0.4 cancel 1000: 0 1 1000", "2.1 begin 1 play 1000: 0 1 1060", "0.5 begin 1 play 1000: 13")
+    day("a request of operation 5", "1 key | 1 play", "0.1 asks 5 0 0 1000: 1", "0.1 asks 4 0 0 1000: 14", "0.1 cancel 1000: 14",
+        "0.2 asks 4 0 5 1000: 1", "0.2 asks 4 65535 0 1000: 1", "0.2 asks 4 1 1 1000: 1", "0.2 asks 4 0 0 1000: 14")
+
+
+def begun_images():
+    """From an image in the middle of a use. Before version 5 it does not say what was taken last."""
+    opened = (0, Player(1, rights.BEGIN, 1, rights.PLAY, 0, 0, 1050, 1, 0, 990, 1050))
+    other = (1, Player(3, rights.STOP, 0, 0, 14, 255, 0))
+    for version in rights.VERSIONS:
+        day(f"a use open in the image, nobody taken last, version {version}", "1 key | 1 play count 2 used_count 1",
+            "0.2 cancel 1010: 44", "1.1 begin 1 play 1010: 0 0 1070", "1.2 cancel 1011: 0 0 1010", "0.3 stop 1012: 0 0 1012",
+            "0.4 begin 1 play 1012: 0 0 1072", "1.3 begin 1 play 1012: 13", time=1000, players=[opened], version=version)
+        day(f"a stored 44, version {version}", "1 key | 1 play", "3.7 cancel 5: 44", "3.7 stop 1000: 4", "3.8 cancel 1000: 14",
+            "3.9 begin 1 play 1000: 0 0 1060", "3.10 cancel 1000: 0 0 1000",
+            time=1000, players=[(3, Player(7, rights.CANCEL, 0, 0, 44, 255, 0))], version=version)
+        day(f"a stored cancel, version {version}", "1 key | 1 play", "3.7 cancel 5: 0 0 900", "3.8 cancel 1001: 14", time=1000,
+            players=[(3, Player(7, rights.CANCEL, 0, 0, 0, 0, 900))], version=version)
+    day("in the middle of a begin", "1 key | 1 play count 1 used_count 1 timed 1 used_timed 1 timer 5 accumulated 60 used_seconds 60",
+        "0.1 begin 1 play 1010: 0 0 1050", "0.2 cancel 1010: 0 0 990", "1.4 begin 1 play 1010: 0 0 1070", "0.3 begin 1 play 1010: 13",
+        time=1000, players=[opened, other], last=1)
+    day("in the middle of a begin, too late", "1 key | 1 play count 1 used_count 1", "0.2 cancel 1050: 14", "0.3 begin 1 play 1050: 13",
+        time=1000, players=[opened], last=1)
+    day("in the middle of a begin that started an interval", "1 key | 1 play interval 300 started 1 first 990",
+        "0.2 cancel 1010: 0 0 990", "1.1 begin 1 play 1500: 0 0 1560", time=1000, players=[opened], last=1, mark=1)
+    day("in the middle of a begin at its interval's first second, without the mark", "1 key | 1 play interval 300 started 1 first 990",
+        "0.2 cancel 1010: 0 0 990", "1.1 begin 1 play 1289: 0 0 1290", "2.1 begin 1 play 1290: 13", time=1000, players=[opened], last=1)
+    day("the mark goes with another's event", "1 key | 1 play interval 300 started 1 first 990",
+        "1.1 begin 1 play 1000: 0 0 1060", "1.2 cancel 1000: 0 0 1000", "0.2 cancel 1000: 44", "2.1 begin 1 play 1290: 13", time=1000,
+        players=[opened], last=1, mark=1)
+    day("another was taken last", "1 key | 1 play", "0.2 cancel 1000: 44", "1.3 stop 0: 14", time=1000, players=[opened, other], last=2)
+    day("another's resend, then the cancel", "1 key | 1 play", "1.3 stop 1000: 14", "0.2 cancel 1000: 0 0 990", time=1000,
+        players=[opened, other], last=1)
+    day("player 15 was taken last", "1 key | 1 play", "15.2 cancel 1000: 0 0 990", "0.1 cancel 1000: 14", time=1000,
+        players=[(15, opened[1])], last=16)
+    day("player 14 has a use open, 15 was taken last", "1 key | 1 play", "14.2 cancel 1000: 44", "15.4 cancel 1000: 14", time=1000,
+        players=[(14, opened[1]), (15, other[1])], last=16)
+    for name, *stored in (("a continue", 1, rights.CONTINUE, 0, 0, 0, 0, 1050), ("a stop", 1, rights.STOP, 0, 0, 0, 0, 1050),
+                          ("a cancel", 1, rights.CANCEL, 0, 0, 0, 0, 1050),
+                          ("a begin answered 11", 1, rights.BEGIN, 1, rights.PLAY, 11, 255, 0),
+                          ("a begin of another entry", 1, rights.BEGIN, 1, rights.PLAY, 0, 1, 1050),
+                          ("a begin with a later until", 1, rights.BEGIN, 1, rights.PLAY, 0, 0, 1051),
+                          ("a begin with an earlier until", 1, rights.BEGIN, 1, rights.PLAY, 0, 0, 1049),
+                          ("a begin with the begin for its until", 1, rights.BEGIN, 1, rights.PLAY, 0, 0, 990)):
+        for mark in (0, 1):
+            day(f"its stored request is {name}, mark {mark}", "1 key | 1 play interval 300 started 1 first 990; 1 play",
+                "0.2 cancel 1010: 44", "0.3 stop 1010: 0 0 1010", time=1000,
+                players=[(0, Player(*stored, 1, 0, 990, 1050))], last=1, mark=mark)
+    for name, asset, kind in (("another asset", 2, rights.PLAY), ("another kind", 1, rights.PRINT)):
+        day(f"its stored request has {name}", "1 key; 2 key | 1 play count 1 used_count 1",
+            "0.2 cancel 1010: 0 0 990", "1.1 begin 1 play 1010: 0 0 1070", time=1000,
+            players=[(0, Player(1, rights.BEGIN, asset, kind, 0, 0, 1050, 1, 0, 990, 1050))], last=1)
+    day("a tracked use of the image is not reported", "1 key; 2 key | 1 play tracked 1 timed_value 5 threshold 1",
+        "0.2 cancel 1010: 0 0 990", "1.1 begin 1 play 1010: 0 0 1070", "1.2 stop 1020: 0 0 1020 -> 1 1 10", time=1000, switch=1,
+        players=[(0, Player(1, rights.BEGIN, 2, rights.PLAY, 0, 0, 1050, 1, 0, 990, 1050, 2))], last=1)
+
+
 GROUPS = [base, alone, beside, with_dates, from_the_middle, switched_off, none_left, recorded, contents, continued, boot_numbers,
           last_counters, resent_numbers, record_lengths, older_images, end_and_interval, both_limits, ties, neither, not_started,
           not_grantable, running_images, latest_seconds, together, room_again, going_on_together, resent_together, momentary_together,
-          full_passed_over, full_and_switched_off, marked_images]
+          full_passed_over, full_and_switched_off, marked_images, given_back, unstarted, place_free, unrecorded, still_the_last,
+          no_longer_the_last, nothing_to_take_back, taken_back_again, begun_images]
 
 
 def written():

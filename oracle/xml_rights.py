@@ -2,8 +2,8 @@
 of 004 alone.
 
 read(text) gives (code, elements, book): 0, the number of elements and the fresh book of an accepted text, or 40, 41 or
-42 with 0 and None. No text switches metering on or tracks an entry: in its book those fields are 0. judge(text) tells people
-more: the number of the rights object too, or where the text is at fault and why.
+42 with 0 and None. No text switches metering on or tracks an entry, and nobody was taken last: in its book those fields
+are 0. judge(text) tells people more: the number of the rights object too, or where the text is at fault and why.
 
 `units` takes the text apart: a unit is one tag with the text in front of it. It stops at the first byte that cannot stand
 where it stands. `Reader` judges one unit after the other, so the first tag at fault decides, and what is not well formed

@@ -85,9 +85,10 @@ def refused(name, fragment, *args, **how):
 
 BOOK = "asset 1 key\nasset 9 parent\n"
 ENTRY = "entry 0: object 1, asset 1, play"
+ASKED = "player 3: number 1, stop, refused 14"
 NINES = "9" * 5000
 BOOK_LINES = [          # the text after BOOK, the number of the line that is named, a part of the message
-    ("count 2", 3, "a line begins with time, metering, asset, entry or player, not with `count`"),
+    ("count 2", 3, "a line begins with time, metering, asset, entry, player or latest player, not with `count`"),
     ("metering", 3, "the line ends where the switch is expected"),
     ("metering 1", 3, "`1` is not a known switch; known are: off, on"),
     ("metering on\nmetering off", 4, "`metering` is given twice"),
@@ -201,10 +202,12 @@ BOOK_LINES = [          # the text after BOOK, the number of the line that is na
     ("player 0: number 1, halt, refused 14", 3, "`halt` is not a known operation; known are: begin, continue, stop"),
     ("player 0: number 1, begin 1 watch, refused 13", 3, "`watch` is not a known kind; known are: play"),
     ("player 0: number 1, stop", 3, "the last answer is expected here"),
-    ("player 0: number 1, stop, refused 7", 3, "a stored refusal is 10 to 15 or 43, not 7"),
-    ("player 0: number 1, stop, refused 16", 3, "a stored refusal is 10 to 15 or 43, not 16"),
-    ("player 0: number 1, stop, refused 30", 3, "a stored refusal is 10 to 15 or 43, not 30"),
-    ("player 0: number 1, stop, refused 44", 3, "a stored refusal is 10 to 15 or 43, not 44"),
+    ("player 0: number 1, stop, refused 7", 3, "a stored refusal is 10 to 15, 43 or 44, not 7"),
+    ("player 0: number 1, stop, refused 16", 3, "a stored refusal is 10 to 15, 43 or 44, not 16"),
+    ("player 0: number 1, stop, refused 30", 3, "a stored refusal is 10 to 15, 43 or 44, not 30"),
+    ("player 0: number 1, stop, refused 42", 3, "a stored refusal is 10 to 15, 43 or 44, not 42"),
+    ("player 0: number 1, cancel, refused 45", 3, "a stored refusal is 10 to 15, 43 or 44, not 45"),
+    ("player 0: number 1, cancel 1 play, refused 14", 3, "the last answer is expected here"),
     (f"{ENTRY}, tracked\nplayer 0: number 1, stop, refused 14, open 0 0 6", 4, "entry 0 is tracked: `content` and the asset"),
     (f"{ENTRY}, tracked\nplayer 0: number 1, stop, refused 14, open 0 0 6 content 0", 4, "1 is the least"),
     (f"{ENTRY}, tracked\nplayer 0: number 1, stop, refused 14, open 0 0 6 content 2", 4, "open use is 2, which is not in the book"),
@@ -232,6 +235,30 @@ BOOK_LINES = [          # the text after BOOK, the number of the line that is na
         f"player {p}: number 1, stop, refused 14, open 1 0 6\n" for p in range(15 - most, 16)), 4,
        f"{most + 1} players have it open, more than its threshold, {most}") for most in (1, 2, 15)),
     ("entry 0: object 1, asset 1, print, threshold 1\nplayer 0: number 1, stop, refused 14, open 0 0 6", 4, "a print is never open"),
+    *((line, 3, "the event taken last is told as `latest player N` or `latest player N, started an interval`")
+      for line in ("latest", "latest 3", "latest: none", "latest taken: player 3", "latest started", "latest started an interval")),
+    *((line, 3, "player or latest player, not with `last`") for line in ("last", "last player 3", "last taken: player 3")),
+    ("latest player", 3, "the line ends where the latest player is expected"),
+    ("latest player x", 3, "the latest player should be a number, not `x`"),
+    ("latest player: none", 3, "the latest player should be a number, not `none`"),
+    ("latest player 16", 3, "the latest player is 16, but 15 is the greatest"),
+    (f"latest player {NINES}", 3, "15 is the greatest"),
+    ("latest player 3", 3, "player 3 has not asked yet, so no event of it was taken"),
+    (f"{ASKED}\nlatest player 4", 4, "player 4 has not asked yet"),
+    (f"{ASKED}\nlatest player 3, started", 4, "`started an interval` is expected here"),
+    (f"{ASKED}\nlatest player 3, started an", 4, "`started an interval` is expected here"),
+    (f"{ASKED}\nlatest player 3, started interval", 4, "`started an interval` is expected here"),
+    (f"{ASKED}\nlatest player 3, an interval", 4, "`an interval` is not understood here"),
+    (f"{ASKED}\nlatest player 3, started an interval twice", 4, "`twice` is not understood here"),
+    (f"{ASKED}\nlatest player 3\nlatest player 3", 5, "`latest player` is given twice"),
+    (f"latest player 3\nlatest player 5\n{ASKED}", 4, "`latest player` is given twice"),
+    (f"{ASKED}\nlatest player 3, started an interval", 4, "player 3 has nothing open, so its last event opened no use that"),
+    (f"latest player 3, started an interval\n{ASKED}", 3, "player 3 has nothing open, so its last event opened no use that"),
+    (f"{ENTRY}\n{ASKED}, open 0 0 6\nlatest player 3, started an interval", 5, "entry 0 open, which has no interval to start"),
+    (f"{ENTRY}, interval 90, first 0\ntime 5\n{ASKED}, open 0 2 6\nlatest player 3, started an interval", 6,
+     "the use of player 3 began at 2, but the interval of entry 0 at 0"),
+    (f"{ENTRY}, interval 90, first 0\n{ASKED}, open 0 0 6\n{ASKED.replace('3', '9')}, open 0 0 6\n"
+     "latest player 3, started an interval", 6, "others have entry 0 open too, so its interval had started before"),
 ]
 EVENT_LINES = [
     ("begin 1 play 5", 1, "an event begins with player and number"),
@@ -256,6 +283,9 @@ EVENT_LINES = [
     ("0.1 stop 4294967296", 1, "4294967295 is the greatest"),
     ("0.1 stop 5 6", 1, "`6` is not understood here"),
     ("0.1 stop 1 play 5", 1, "`play 5` is not understood here"),
+    ("0.1 cancel", 1, "the line ends where the time is expected"),
+    ("0.1 cancel 1 play 5", 1, "`play 5` is not understood here"),
+    ("0.1 cancels 5", 1, "`cancels` is not a known operation; known are: begin, continue, stop, cancel"),
     ("raw 0", 1, "each as two of the digits"),
     ("raw", 1, "this one has 0"),
     ("raw " + "00" * 18, 1, "a record has 17 bytes, and the last one may have fewer; this one has 18"),
@@ -339,9 +369,10 @@ def test_inputs(folder):
     refused("make: not UTF-8", "latin.txt, line 2: byte 0xfc is not UTF-8", "make", folder / "latin.txt", out)
     (folder / "wide.txt").write_text("asset 1 key\n", encoding="utf-16")
     refused("make: UTF-16", "UTF-16; save it as UTF-8", "make", folder / "wide.txt", out)
-    for cut, code in ((b"", 20), (b"RBK", 20), (b"RBX" + bytes(400), 21), (b"RBK\0\0" + bytes(400), 22), (b"RBK\0\5" + bytes(522), 22),
-                      (b"RBK\0\4" + bytes(521), 20), (b"RBK\0\4" + bytes(523), 20), (b"RBK\0\3" + bytes(523), 20),
-                      (b"RBK\0\2" + bytes(522), 20), (b"RBK\0\1" + bytes(522), 20), *bad_groups()):
+    for cut, code in ((b"", 20), (b"RBK", 20), (b"RBX" + bytes(400), 21), (b"RBK\0\0" + bytes(400), 22), (b"RBK\0\6" + bytes(530), 22),
+                      (b"RBK\0\5" + bytes(529), 20), (b"RBK\0\5" + bytes(531), 20), (b"RBK\0\5" + bytes(522), 20),
+                      (b"RBK\0\4" + bytes(530), 20), (b"RBK\0\3" + bytes(523), 20),
+                      (b"RBK\0\2" + bytes(522), 20), (b"RBK\0\1" + bytes(522), 20), *bad_groups(), *bad_lasts()):
         (folder / "bad.rbk").write_bytes(cut)
         refused(f"show: an image refused with {code}", f"with {code}", "show", folder / "bad.rbk")
         refused(f"after: an image refused with {code}", f"with {code}", "after", folder / "bad.rbk", events, out)
@@ -369,11 +400,26 @@ def bad_groups():
             yield image, code
 
 
+def bad_lasts():
+    """Images that are refused for the latest player or for its mark of an interval; those next to them are accepted."""
+    book = Book(100, [Asset(1, 0, 1)], [Entry(1, 1, 1, rights.INTERVAL, interval=90, first=100, started=1), Entry(1, 1, 1)])
+    for index, entry in ((3, 0), (15, 1)):
+        book.players[index] = rights.Player(1, rights.BEGIN, 1, 1, 0, entry, 160, 1, entry, 100, 160, 1)
+    rights.set_marks(book)
+    for code, last, mark in ((0, 0, 0), (0, 4, 0), (0, 4, 1), (0, 16, 0), (26, 17, 0), (26, 3, 0), (26, 5, 0), (26, 0, 1), (26, 16, 1),
+                             (26, 4, 2), (26, 2**32 - 1, 0), (26, 4, 2**32 - 1)):
+        book.latest_player, book.latest_started = last, mark
+        image = rights.write(book)
+        assert rights.read(image)[0] == code, (last, mark, rights.read(image))
+        if code:
+            yield image, code
+
+
 def test_forgiving(folder):
     """What a text may contain: Windows line ends, tabs, a byte order mark, an empty file, no line feed at the end."""
     plain = "time 5\nasset 1 key\nentry 0: object 1, asset 1, play, count 2\n"
     wanted = call("make", "-", "-", stdin=plain.encode())
-    check("make from and to standard streams", wanted.status == 0 and wanted.err == "" and len(wanted.out) == 603, wanted)
+    check("make from and to standard streams", wanted.status == 0 and wanted.err == "" and len(wanted.out) == 611, wanted)
     for name, text in (("Windows line ends", plain.replace("\n", "\r\n")), ("old line ends", plain.replace("\n", "\r")),
                        ("tabs", plain.replace(" ", "\t")), ("no colons or commas", re.sub("[:,]", "", plain)),
                        ("no line feed at the end", plain[:-1]), ("empty lines", plain.replace("\n", "\n\n  \n# x\n"))):
@@ -382,7 +428,7 @@ def test_forgiving(folder):
     done = call("make", "-", "-", stdin=plain.encode("utf-8-sig"))
     check("make: a byte order mark", done.status == 0 and done.out == wanted.out and "byte order mark" in done.err, done)
     done = call("make", "-", "-", stdin=b"")
-    check("make: an empty text is an empty book", done.status == 0 and len(done.out) == 527, done)
+    check("make: an empty text is an empty book", done.status == 0 and len(done.out) == 535, done)
     done = call("events", "-", "-", stdin=b"")
     check("events: an empty text", done.status == 0 and done.out == b"" and done.err == "", done)
     done = call("left", "-", stdin=call("make", "-", "-", stdin=b"").out)
@@ -477,7 +523,7 @@ def test_files(folder):
           and records_file.read_bytes() == before[records_file] and not new.exists())
     check("a failed write leaves nothing beside it", not [path for path in folder.iterdir() if path.name.startswith(".")])
     done = call("make", other, image)
-    check("make replaces a book", done.status == 0 and len(image.read_bytes()) == 532, done)
+    check("make replaces a book", done.status == 0 and len(image.read_bytes()) == 540, done)
     check("make keeps the file's mode", image.stat().st_mode & 0o777 == 0o640)
     (folder / "to").symlink_to(image)
     done = call("make", text, folder / "to")
@@ -544,8 +590,18 @@ def wild_book(rng):
         if rng.random() < (0.8 if now else 0.3):
             entry.threshold = rng.choice((max(1, now), max(1, now), min(16, now + 1), 16))
     rights.set_marks(book)
+    wild_last(rng, book)
     assert rights.read(rights.write(book))[0] == 0
     return book
+
+
+def wild_last(rng, book):
+    """Any player that has asked, or none, as the latest one; mostly one with a use that can be told to have started its interval."""
+    asked = [index for index, player in enumerate(book.players) if player.number]
+    starters = [index for index in asked if rights.started_an_interval(book, book.players[index])]
+    if asked and rng.random() < 0.8:
+        book.latest_player = rng.choice(starters or asked) + 1
+        book.latest_started = rng.choice((0, 1, 1)) if starters else 0
 
 
 def wild_entry(rng, asset, now):
@@ -577,10 +633,10 @@ def wild_entry(rng, asset, now):
 
 def wild_player(rng, book, player):
     player.number = rng.choice((1, 7, rng.randint(1, 2**32 - 1), 2**32 - 1, 2**32, rng.randint(2**32, 2**64 - 1), 2**64 - 1))
-    player.operation = rng.randint(1, 3)
+    player.operation = rng.randint(1, 4)
     if player.operation == 1:
         player.asset, player.kind = rng.randrange(65_536), rng.randint(1, 5)
-    player.code, player.entry = rng.choice((*range(10, 16), 43)), 255
+    player.code, player.entry = rng.choice((*range(10, 16), 43, 44)), 255
     if book.entries and rng.random() < 0.5:
         player.code, player.entry = 0, rng.randrange(len(book.entries))
         player.answer_until = rng.choice((0, 1119, rng.randrange(2**32), 2**32 - 1))
@@ -590,6 +646,8 @@ def wild_player(rng, book, player):
         player.begin = max(0, book.time - rng.choice((0, 1, 30, 59, 10**6)))
         player.until = book.time + rng.choice((1, 30, 60))
         player.content = rng.choice(book.assets).number if book.entries[position].tracked or rng.random() < 0.5 else 0
+        if book.entries[position].started and rng.random() < 0.3:
+            player.begin = book.entries[position].first
         if rights.open_use_is_good(book, player):
             break
         player.open = player.open_entry = player.begin = player.until = player.content = 0
@@ -597,7 +655,7 @@ def wild_player(rng, book, player):
 
 def played_book(rng, seed):
     """A book in the middle of a random day of the second program."""
-    kind = rng.choice(("crowd", "wide", "cabins", "rivals", "groups", "groups", "going on", "old"))
+    kind = rng.choice(("crowd", "wide", "cabins", "rivals", "groups", "groups", "loading", "loading", "going on", "old"))
     image, events, _ = days.make_day(seed, rng.choice((1, 20, 60)), kind)
     _, book = rights.read(image)
     play(book, events)
@@ -618,7 +676,7 @@ def random_books(how_many):
 
 def test_round_trips(folder, how_many):
     path, image = folder / "trip.txt", folder / "trip.rbk"
-    opened = never = tracked = metered = contents = groups = full = 0
+    opened = never = tracked = metered = contents = groups = full = last = marked = 0
     for seed, rng, book in random_books(how_many):
         data = rights.write(book)
         opened += any(player.open for player in book.players)
@@ -628,6 +686,8 @@ def test_round_trips(folder, how_many):
         contents += any(player.content for player in book.players)
         groups += any(entry.threshold and entry.marks for entry in book.entries)
         full += any(rights.is_full(entry) for entry in book.entries)
+        last += book.latest_player != 0
+        marked += book.latest_started
         text = "\n".join(texts.text_lines(book)) + "\n"
         path.write_text(text)
         again = texts.book_of_text(path)
@@ -644,19 +704,21 @@ def test_round_trips(folder, how_many):
     check("many of the books have tracked entries, metering on, contents", min(tracked, metered, contents) > how_many / 8,
           f"{tracked} {metered} {contents}")
     check("many of the books have thresholds, full ones too", min(groups, full) > how_many / 8, f"{groups} {full}")
+    check("many of the books have a latest player, some whose use started an interval", last > how_many / 2 and marked > how_many / 50,
+          f"{last} {marked}")
 
 
 def test_older(folder):
-    """Images of older versions: read like those of the newest, of version 1 with nothing metered, of all with no threshold and with the
-    marks of their open uses; `make` writes the newest."""
+    """Images of older versions: read like those of the newest, of version 1 with nothing metered, of 1 to 3 with no threshold, of all with
+    the marks of their open uses and no latest player; `make` writes the newest."""
     marked = 0
-    for seed, rng, book in random_books(30):
-        old, new, version = folder / "old.rbk", folder / "new.rbk", seed // 2 % 3 + 1
-        old.write_bytes(rights.write(book if version == 3 else days.with_short_numbers(book), version))
+    for seed, rng, book in random_books(40):
+        old, new, version = folder / "old.rbk", folder / "new.rbk", seed // 2 % 4 + 1
+        old.write_bytes(rights.write(book if version >= 3 else days.with_short_numbers(book), version))
         shown = call("text", old).out
         new.write_bytes(call("make", "-", "-", stdin=shown).out)
         check(f"book {seed} of version {version}, as text and made again", rights.read(old.read_bytes()) == rights.read(new.read_bytes())
-              and new.read_bytes()[4] == rights.NEWEST == 4 and b"threshold" not in shown
+              and new.read_bytes()[4] == rights.NEWEST == 5 and b"latest" not in shown and (version == 4 or b"threshold" not in shown)
               and (version > 1 or b"tracked" not in shown and b"metering" not in shown), shown.decode()[:300])
         entries = rights.read(new.read_bytes())[1].entries
         marked += any(entry.marks for entry in entries)
@@ -744,6 +806,13 @@ def test_together(folder):
     check_page_day(folder, "a group pack", "\n".join(book), lines[5:])
 
 
+def test_film_did_not_load(folder):
+    _, lines = page_section("A film did not load: cancel")
+    book = [line for line in lines if line.startswith(("asset ", "entry "))]
+    check("the page's example of a cancel has 4 lines of a book and 13 requests", (len(book), len(lines)) == (4, 17), lines)
+    check_page_day(folder, "a cancel", "\n".join(book), lines[4:])
+
+
 def shortened(events):
     """The whole records, of 13 bytes each: without boot numbers."""
     return b"".join(record[:1] + record[5:] for record in rights.records_in(events) if len(record) == rights.RECORD.size)
@@ -803,6 +872,9 @@ def fields_of(book):
 def test_diff(folder, how_many):
     for seed, rng, book in random_books(how_many):
         check(f"diff of book {seed} with itself", list(state.differences(book, copy.deepcopy(book))) == [])
+        before = dataclasses.replace(book, latest_player=0, latest_started=0)
+        told = [f"latest player: none -> {texts.latest_text(book)}"] if book.latest_player else []
+        check(f"diff of book {seed} with no latest player", list(state.differences(before, book)) == told)
         other, parts = copy.deepcopy(book), []
         fields = list(fields_of(other))
         for where, record, field in rng.sample(fields, min(20, len(fields))):
@@ -831,8 +903,37 @@ def test_diff(folder, how_many):
     asked = copy.deepcopy(group)
     rights.step(asked, Event(4, 1, rights.BEGIN, 1, 1, 50), rights.zeros(asked))
     lines = list(state.differences(group, asked))
-    check("diff: a mark is told with its player", asked.entries[0].marks == 16 and len(lines) == 2 and lines[1].startswith(
-        "player 4: number none -> 1; ") and "open use none -> entry 0, 1970-01-01 00:00:50 (50) until" in lines[1], str(lines))
+    check("diff: a mark is told with its player", asked.entries[0].marks == 16 and len(lines) == 3 and lines[2].startswith(
+        "player 4: number none -> 1; ") and "open use none -> entry 0, 1970-01-01 00:00:50 (50) until" in lines[2], str(lines))
+    check("diff: who was taken last", lines[1] == "latest player: none -> 4", str(lines))
+    group.entries[0].flags, group.entries[0].interval = rights.INTERVAL, 90
+    asked = copy.deepcopy(group)
+    rights.step(asked, Event(15, 1, rights.BEGIN, 1, 1, 50), rights.zeros(asked))
+    other = copy.deepcopy(asked)
+    rights.step(other, Event(15, 2, rights.CANCEL, 0, 0, 55), rights.zeros(other))
+    lines = list(state.differences(asked, other))
+    check("diff: a begin taken back", lines == [
+        "time: 1970-01-01 00:00:50 (50) -> 1970-01-01 00:00:55 (55)", "entry 0: first use 1970-01-01 00:00:50 (50) -> none",
+        "latest player: 15, started an interval -> 15",
+        "player 15: number 1 -> 2; request begin, play asset 1 -> cancel; answer granted entry 0 until 1970-01-01 00:01:50 (110) -> "
+        "cancelled entry 0, begun at 1970-01-01 00:00:50 (50); open use entry 0, "
+        "1970-01-01 00:00:50 (50) until 1970-01-01 00:01:50 (110) -> none; content 1 -> none"], str(lines))
+    answered = Book(60, [Asset(1, 0, 1)], [Entry(1, 1, 1), Entry(1, 1, 4)])
+    for operation, asset, kind, entry, words in (
+            (rights.BEGIN, 1, 1, 0, "granted entry 0 until 1970-01-01 00:01:00 (60)"),
+            (rights.BEGIN, 1, 4, 1, "granted entry 1, once, at 1970-01-01 00:01:00 (60)"),
+            (rights.BEGIN, 1, 5, 1, "granted entry 1, once, at 1970-01-01 00:01:00 (60)"),
+            (rights.CONTINUE, 0, 0, 0, "granted entry 0 until 1970-01-01 00:01:00 (60)"),
+            (rights.STOP, 0, 0, 0, "stopped entry 0 at 1970-01-01 00:01:00 (60)"),
+            (rights.CANCEL, 0, 0, 0, "cancelled entry 0, begun at 1970-01-01 00:01:00 (60)")):
+        other = copy.deepcopy(answered)
+        other.players[2] = rights.Player(1, operation, asset, kind, 0, entry, 60)
+        lines = list(state.differences(answered, other))
+        check(f"diff: a stored answer, {words[:9]}, operation {operation}, kind {kind}",
+              len(lines) == 1 and lines[0].endswith(f"; answer none -> {words}"), str(lines))
+        other.players[2] = rights.Player(1, operation, asset, kind, 14, 255, 0)
+        lines = list(state.differences(answered, other))
+        check(f"diff: a stored refusal, operation {operation}, kind {kind}", lines[0].endswith("; answer none -> refused 14"), str(lines))
     first, second = AFTERNOON / "rights.rbk", folder / "second.rbk"
     second.write_bytes(rights.write(Book(time=5)))
     check("diff: the same", (lambda done: (done.status, done.out, done.err))(call("diff", first, first)) == (0, b"", ""))
@@ -846,7 +947,7 @@ OTHER_KIND = {1: 2, 2: 3, 3: 1, 4: 5, 5: 4}
 
 
 def copy_of(book):
-    return Book(book.time, book.assets, [copy.copy(entry) for entry in book.entries], [copy.copy(p) for p in book.players], book.switch)
+    return dataclasses.replace(book, entries=[copy.copy(entry) for entry in book.entries], players=[copy.copy(p) for p in book.players])
 
 
 def free_player(book, t):
@@ -884,7 +985,7 @@ def granted_by_run(folder, book, events):
 
 
 def test_left(folder, how_many):
-    seen = {True: 0, False: 0}
+    seen, cancels = {True: 0, False: 0}, {True: 0, False: 0}
     for seed, rng, book in random_books(how_many):
         t = rng.choice((book.time, book.time + 1, book.time + 30, book.time + 60, rng.randrange(LATEST + 1),
                         *days.edges(book, book.time)))
@@ -905,7 +1006,19 @@ def test_left(folder, how_many):
                 parts.append((says == granted_by_run(folder, *alone), f"by the run program, at {t}: {line}"))
         check_all(f"left of book {seed}: who can be granted what", parts)
         check_all(f"left of book {seed}: figures", figures(copy_of(book), t, lines))
+        check_all(f"left of book {seed}: who may take back a begin", cancelled(book, t, lines, cancels))
     check("left: both cases are met often", min(seen.values()) > how_many, str(seen))
+    check("left: both cases of a cancel are met", min(cancels.values()) > how_many / 50, str(cancels))
+
+
+def cancelled(book, t, lines, seen):
+    """A player may still take back its begin where a cancel at t would be granted."""
+    for index, player in enumerate(book.players):
+        if player.open and player.until > t and player.number < rights.LAST_NUMBER:
+            code = rights.step(copy_of(book), Event(index, player.number + 1, rights.CANCEL, 0, 0, t), rights.zeros(book))[0]
+            found = re.search(f"player {index} until [0-9-]+ [0-9:]+( .may still take back its begin.)?", lines[player.open_entry])
+            seen[code == 0] += 1
+            yield found and (found[1] is not None) == (code == 0), f"a cancel of player {index} gets {code}: {lines[player.open_entry]}"
 
 
 def figures(book, t, lines):
@@ -966,6 +1079,7 @@ player 6: number 1, begin 1 display, granted 20 1040, open 20 980 1040
 player 7: number 1, begin 1 display, granted 21 1030, open 21 970 1030 content 1
 player 15: number 1, begin 1 display, granted 21 1060, open 21 1000 1060 content 1
 player 8: number 1, begin 1 display, granted 22 1030, open 22 1000 1030
+latest player 15
 """)
     image = folder / "cases.rbk"
     call("make", path, image)
@@ -1002,7 +1116,8 @@ entry 19: play of asset 1; no count and no seconds to use up; 0 of 16 players ha
 entry 20: display of asset 1; count 2 of 5 used, 3 left; 2 of 3 players have it open; open: player 5 until 1970-01-01 00:17:10, \
 player 6 until 1970-01-01 00:17:20; can be granted, no end
 entry 21: display of asset 1; no count and no seconds to use up; 2 of 2 players have it open; open: player 7 until 1970-01-01 00:17:10, \
-player 15 until 1970-01-01 00:17:40; nobody can use it: as many players have it open as may (a stop of an open use makes room)
+player 15 until 1970-01-01 00:17:40 (may still take back its begin); nobody can use it: as many players have it open as may \
+(a stop of an open use makes room)
 entry 22: display of asset 1; timed count 1 of 1 used, 0 left (a use counts from 1 min on); 1 of 1 players have it open; \
 open: player 8 until 1970-01-01 00:17:10; nobody can use it: the timed count is used up and as many players have it open as may \
 (a stop of an open use gives some back)
@@ -1086,6 +1201,19 @@ Metering: off
          0 of 1 players have it open
      24"""):
         check(f"show: thresholds, {lines.strip()[:20]}", lines in out, out)
+    check("show: who was taken last", out.endswith("\nLatest player: 15\n"), out)
+    lasts = path.read_text()
+    for line, wanted in (("", "none"), ("latest player 4", "4"),
+                         ("latest player 9, started an interval", "9, started an interval")):
+        path.write_text(lasts.replace("latest player 15", line).replace("entry 8:", "entry 8: threshold 1,").replace(
+            "interval 100, first 900", "interval 200, first 990") + "player 9: number 7, begin 1 play, granted 8 1050, open 8 990 1050\n")
+        call("make", path, image)
+        out = call("show", image).out.decode()
+        check(f"show: latest player, {wanted}", out.endswith(f"\nLatest player: {wanted}\n"), out)
+        may = [line for line in call("left", image, "--at", 1000).out.decode().splitlines() if "may still take back" in line]
+        check(f"left: latest player, {wanted}", len(may) == ("9" in wanted) and all(line.startswith("entry 8: ") for line in may), may)
+        check(f"left: latest player, {wanted}, too late", b"may still" not in call("left", image, "--at", 1050).out)
+    path.write_text(lasts)
     path.write_text(path.read_text() + "metering on\n")
     call("make", path, image)
     out = call("show", image).out.decode()
@@ -1198,6 +1326,7 @@ player 7: number 1, begin 2 play, granted 19 1040, open 19 1000 1040
 player 8: number 1, begin 2 play, granted 19 1060, open 19 1000 1060
 player 9: number 1, begin 2 execute, granted 20 1060, open 20 1000 1060 content 2
 player 10: number 1, begin 3 display, granted 22 1060, open 22 1000 1060
+latest player 10
 """)
     call("make", path, image)
     cases = (((3, 1, "play", "--at", "1970-01-01 00:16:40 (1000)"), """\
@@ -1293,6 +1422,11 @@ The answer would be 0, granted by entry 21, once, at 1970-01-01 00:16:40 (1000).
 """), ((3, 3, "display", "--at=1000"), """\
 Player 3 asks to display asset 3 at 1970-01-01 00:16:40 (1000), UTC, as asked.
 The answer would be 13, refused: every entry for it is used up, out of its dates, open to no more players, or never granted.
+  entry 22 (its own, rights object 6): seconds: 60 of 60 used; 1 of 1 players have it open (a stop of an open use gives some back)
+"""), ((10, 3, "display", "--at=1059"), """\
+Player 10 asks to display asset 3 at 1970-01-01 00:17:39 (1059), UTC, as asked.
+The answer would be 11, refused: the player has a use open: entry 22, since 1970-01-01 00:16:40, until 1970-01-01 00:17:40 \
+(may still take back its begin).
   entry 22 (its own, rights object 6): seconds: 60 of 60 used; 1 of 1 players have it open (a stop of an open use gives some back)
 """), ((3, 1, "print", "--at=1059"), """\
 Player 3 asks to print asset 1 at 1970-01-01 00:17:39 (1059), UTC, as asked.
@@ -1767,12 +1901,26 @@ def test_explain(folder):
                               (b"0 0 99999999999\n", "is not an answer"), (b"1 2\n", "is not an answer"),
                               (b"0 0 " + NINES.encode(), "is not an answer"),
                               (b"43 255 0\n", "43 255 0: refused: metering is off, and what is left for it is tracked and has no mark"),
+                              (b"44 255 0\n", "44 255 0: refused: there is something open, but its begin was not the last event taken, so "
+                               "it cannot be taken back"),
                               (b"30 255 0\n", "30 255 0: turned away: the list that was lent for the report does not fit the book"),
                               (b"99 255 0\n", "an unknown answer"), (b"0 0 1\n" * 23, "there is no event for this answer")):
         done = call("explain", AFTERNOON / "events.bin", "-", stdin=answers)
         plain = done.status == 0 and done.err == ""
         check(f"explain: answers {answers[:20]}", plain and fragment in done.out.decode(), done)
-    for first, again in ((b"30", False), (b"5", False), (b"43", True), (b"13", True)):
+    events = call("events", "-", "-", stdin=b"0.2 cancel 1005\n0.2 cancel 1006\nraw 00 0000000000000003 04 0001 00 000003e8").out
+    (folder / "cancel.bin").write_bytes(events)
+    done = call("explain", folder / "cancel.bin", "-", stdin=b"0 3 1000\n0 3 1000\n1 255 0\n")
+    check("explain: a cancel", done.out.decode() == """\
+    1  player 0, request 2: cancel, at 1970-01-01 00:16:45 (1005)
+         0 3 1000: taken back: the use of entry 3 that began at 1970-01-01 00:16:40 (1000) counts for nothing
+    2  player 0, request 2: cancel, at 1970-01-01 00:16:46 (1006)
+         0 3 1000: taken back: the use of entry 3 that began at 1970-01-01 00:16:40 (1000) counts for nothing (asked again: the same \
+answer as before)
+    3  player 0, request 3: cancel, asset 1, kind 0, at 1970-01-01 00:16:40 (1000)
+         1 255 0: turned away: not a valid begin, continue, stop or cancel
+""", done.out.decode())
+    for first, again in ((b"30", False), (b"5", False), (b"43", True), (b"44", True), (b"13", True)):
         done = call("explain", AFTERNOON / "events.bin", "-", stdin=first + b" 255 0\n" + first + b" 255 0\n")
         check(f"explain: {first.decode()} and the same again", ("asked again" in done.out.decode()) == again, done)
 
@@ -1783,14 +1931,14 @@ def test_help(folder):
     lines = [re.sub("  .*", "", line.strip()) for line in shown.splitlines() if line.startswith("    ")]
     book = [line for line in lines if line.split()[0] in ("time", "metering", "asset", "entry")]
     done = call("make", "-", "-", stdin="\n".join(book).encode())
-    check("help: its book is a book", done.status == 0 and len(book) == 12 and len(done.out) == 527 + 20 + 426, done)
+    check("help: its book is a book", done.status == 0 and len(book) == 12 and len(done.out) == 535 + 20 + 426, done)
     events = [line for line in lines if re.match("[0-9]|raw", line)]
     done = call("events", "-", "-", stdin="\n".join(events).encode())
-    check("help: its events are events", done.status == 0 and len(events) == 5 and len(done.out) == 85, done)
-    players = [line for line in lines if line.startswith("player")]
+    check("help: its events are events", done.status == 0 and len(events) == 6 and len(done.out) == 102, done)
+    players = [line for line in lines if line.startswith(("player", "latest player"))]
     text = "\n".join(["time 1070", "asset 1 key", "entry 0: object 1 asset 1 play count 2 used count 1", *players])
     done = call("make", "-", "-", stdin=text.encode())
-    check("help: its players are players", done.status == 0 and len(players) == 2, done)
+    check("help: its players are players", done.status == 0 and len(players) == 3 and rights.read(done.out)[1].latest_player == 1, done)
 
 
 def test_damage(folder, how_many):
@@ -1807,7 +1955,7 @@ def test_damage(folder, how_many):
             at = rng.randrange(len(data) + 1)
             piece = rng.choice((b"", bytes([rng.randrange(256)]), b" ", b"\n", b"9" * 30, b"#", b",", b":", b"-1", b"\xff",
                                 b"count 2", b"tracked", b"timed value", b"mark", b"threshold 2", b"metering on\n", b"content 1",
-                                b"2026-12-24",
+                                b"latest player 3\n", b"latest player 0, started an interval\n", b"cancel", b"2026-12-24",
                                 b"18:30", b"(5)", b"3.1", b".", "\u0663".encode(),
                                 bytes(data[:rng.randrange(40)])))
             data[at:at + rng.choice((0, 0, 1, 5))] = piece
@@ -1831,7 +1979,7 @@ def main():
         sys.exit(f"there is no {RUN}: `rt check run` makes it")
     parts = [(test_lines,), (test_inputs,), (test_forgiving,), (test_times,), (test_files,), (test_streams,),
              (test_round_trips, how_many), (test_older,), (test_numbers,), (test_next_number,), (test_which_right,), (test_together,),
-             (test_widen,), (test_diff, how_many),
+             (test_film_did_not_load,), (test_widen,), (test_diff, how_many),
              (test_left, how_many), (test_left_words,),
              (test_why, how_many // 3), (test_why_words,),
              (test_after, how_many // 5), (test_report, how_many // 2), (test_import,), (test_import_made,), (test_import_places,),

@@ -321,7 +321,7 @@ def test_a_file_that_may_not_be_read():
 
 
 def test_the_longest_image_and_one_byte_more():
-    same(len(LONG), 5391, "length of the image")
+    same(len(LONG), 5399, "length of the image")
     same(run(LONG, LONG_EVENTS[:2 * RECORD])[0], rights.run(LONG, LONG_EVENTS[:2 * RECORD]), "the longest image")
     for more in (1, 2, 5000):
         out, err = run(LONG + bytes(more), LONG_EVENTS[:2 * RECORD])
@@ -330,7 +330,7 @@ def test_the_longest_image_and_one_byte_more():
 
 
 def test_the_longest_image_of_older_versions_and_one_byte_more():
-    for version, length in ((1, 3979), (2, 4815), (3, 4879)):
+    for version, length in ((1, 3979), (2, 4815), (3, 4879), (4, 5391)):
         old = rights.write(rights.read(LONG)[1], version)
         same(len(old), length, "length of the image")
         events = LONG_EVENTS[:200 * RECORD]

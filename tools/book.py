@@ -57,11 +57,15 @@ and `first TIME` (when its interval started). A player that has asked before:
 
     player 0: number 2, continue, granted 0 1119, open 0 1000 1119 content 1
     player 4: number 1, begin 1 play, refused 13
+    latest player 0
 
-that is its last number and request, the answer (granted ENTRY UNTIL, or refused CODE), and the open use, if there is
-one (open ENTRY BEGIN UNTIL, then content ASSET, the asset asked for, which only an open use of an untracked entry may lack).
+that is its last number and request, the answer (granted ENTRY UNTIL, or refused CODE; UNTIL is the time of a stop, and the begin of
+the use that a cancel took back), and the open use, if there is one (open ENTRY BEGIN UNTIL, then content ASSET, the asset asked
+for, which only an open use of an untracked entry may lack).
 A number is the player's counter alone, or BOOT.COUNTER, as 3.1, if the player puts a boot number before it; one number, boot
-number times 2 to the 32 plus counter, is read too.
+number times 2 to the 32 plus counter, is read too. The latest player is that of the event taken last, with `started an interval`
+behind it if that was a begin that opened a use and started its entry's interval with it; none if not given, and then no begin in the
+book can be taken back.
 
 The text of events, one a line, player and number with a dot between:
 
@@ -69,6 +73,7 @@ The text of events, one a line, player and number with a dot between:
     0.2 continue 1059
     0.3.1 stop 1070                      player 0, counter 1 under boot number 3
     2.2 stop 2026-12-24T18:30:00
+    0.3.3 cancel 1085                    takes back what player 0 began last, if nothing was taken since
     raw 10 0000000000000001 03 0000 00 00000430     the bytes of a record, for trying out bad ones; only the last may be cut
 
 Times are seconds since 1970 or a date in UTC: 2026-12-24, 2026-12-24T18:30:00, or as `show` prints it,

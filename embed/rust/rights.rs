@@ -13,7 +13,7 @@ pub const RECORD: usize = 17;
 /// The longest line of an answer, including its line feed.
 pub const LINE: usize = 19;
 /// Room for any next image.
-pub const LONGEST_IMAGE: usize = 5391;
+pub const LONGEST_IMAGE: usize = 5399;
 /// The most lines of a list.
 pub const LINES: usize = 64;
 /// Bytes of stack that are enough for any call that reads no XML (`docs/EMBEDDING.md`).
@@ -36,8 +36,9 @@ pub enum Refused {
     Text(u8),
 }
 
-/// An event in numbers, as they are in a record: operation 1 begin, 2 continue, 3 stop; kind 1 play, 2 display,
-/// 3 execute, 4 print, 5 export. Asset and kind are 0 for a continue and a stop. `numbered` makes the number from boot number and counter.
+/// An event in numbers, as they are in a record: operation 1 begin, 2 continue, 3 stop, 4 cancel; kind 1 play, 2 display,
+/// 3 execute, 4 print, 5 export. Asset and kind are 0 for a continue, a stop and a cancel, which takes back the begin of what the player
+/// has open if nothing was taken since. `numbered` makes the number from boot number and counter.
 #[derive(Clone, Copy, Debug, PartialEq, Eq)]
 pub struct Event {
     pub player: u8,
@@ -48,7 +49,8 @@ pub struct Event {
     pub time: u32,
 }
 
-/// The answer to an event. Code 0 is a grant; every other code comes with entry 255 and until 0.
+/// The answer to an event. Code 0 is a grant; every other code comes with entry 255 and until 0. Of a granted cancel until is the begin
+/// of the use that it took back.
 #[derive(Clone, Copy, Debug, PartialEq, Eq)]
 pub struct Answer {
     pub code: u8,
@@ -76,6 +78,10 @@ pub struct Book {
     pub entries: u32,
     pub time: u32,
     pub switch: u32,
+    /// The player of the latest event taken, plus 1; 0: none, or the image was written by an older server.
+    pub latest_player: u32,
+    /// 1: that event opened a use that started an interval.
+    pub latest_started: u32,
 }
 
 #[derive(Clone, Copy, Debug, PartialEq, Eq)]
@@ -402,11 +408,11 @@ pub fn fresh_book(text: &[u8]) -> Result<(Vec<u8>, u64), Refused> {
 
 /// What the book in an image holds.
 pub fn book(image: &[u8]) -> Result<Book, Refused> {
-    let mut out = [0; 4];
+    let mut out = [0; 6];
     // Here and below the slices are valid for the call, and the function only reads the image and keeps no pointer.
     let code = unsafe { library::rights_book(image.as_ptr(), image.len(), out.as_mut_ptr(), out.len()) };
-    let [assets, entries, time, switch] = out;
-    judged(code).map(|()| Book { assets, entries, time, switch })
+    let [assets, entries, time, switch, latest_player, latest_started] = out;
+    judged(code).map(|()| Book { assets, entries, time, switch, latest_player, latest_started })
 }
 
 /// The list to begin with: a line for each asset of the book in the image, in its order, with no times and no seconds.

@@ -68,7 +68,7 @@ static size_t next_length_of(size_t image_length)
     uint32_t book[RIGHTS_BOOK_NUMBERS];
     if (rights_book(image, image_length, book, RIGHTS_BOOK_NUMBERS) != RIGHTS_OK)
         return image_length;
-    return 527 + 5 * book[RIGHTS_BOOK_ASSETS] + 71 * book[RIGHTS_BOOK_ENTRIES];
+    return 535 + 5 * book[RIGHTS_BOOK_ASSETS] + 71 * book[RIGHTS_BOOK_ENTRIES];
 }
 
 /* One call; everything it must not touch is compared before and after. Returns the code, the next image's length and the

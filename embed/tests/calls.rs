@@ -317,7 +317,8 @@ fn player_numbers(image: &[u8], player: u32) -> Result<Vec<u32>, Refused> {
 
 fn see(image: &[u8], print: &mut impl Write) {
     let book = rights::book(image);
-    seen_line(print, "book", 0, None, book.map(|b| vec![b.assets, b.entries, b.time, b.switch]));
+    let numbers = book.map(|b| vec![b.assets, b.entries, b.time, b.switch, b.latest_player, b.latest_started]);
+    seen_line(print, "book", 0, None, numbers);
     let (assets, entries, now) = book.map_or((0, 0, 0), |b| (b.assets, b.entries, b.time));
     for i in 0..=assets {
         seen_line(print, "asset", i, None, rights::asset(image, i).map(|a| vec![a.number, a.inherit, a.key]));

@@ -12,7 +12,7 @@ import rights  # noqa: E402
 import xml_rights  # noqa: E402
 
 RECORD_FIELDS = [("player", 1), ("number", 8), ("operation", 1), ("asset", 2), ("kind", 1), ("time", 4)]
-HEADER_FIELDS = [("mark", 3), ("version", 2), ("assets", 1), ("entries", 1), ("time", 4), ("switch", 4)]
+HEADER_FIELDS = [("mark", 3), ("version", 2), ("assets", 1), ("entries", 1), ("time", 4)] + rights.HEADER_FIELDS
 TABLES = [
     ("An event record", RECORD_FIELDS), ("Header", HEADER_FIELDS), ("Asset", rights.ASSET_FIELDS),
     ("Entry", rights.ENTRY_FIELDS), ("Player", rights.PLAYER_FIELDS)]
@@ -26,7 +26,7 @@ CODES = [
     (20, "IMAGE_LENGTH IMAGE_MARK IMAGE_VERSION IMAGE_HEADER IMAGE_ASSETS IMAGE_ENTRIES IMAGE_PLAYERS IMAGE_METERS"),
     (30, "SHORT_OUT NOT_THERE"),
     (30, "BAD_LIST"),
-    (40, "XML_FORM XML_CONTENT XML_TOO_MANY SWITCHED_OFF"),
+    (40, "XML_FORM XML_CONTENT XML_TOO_MANY SWITCHED_OFF NOT_THE_LAST"),
 ]
 
 # the grounds in the order of embed/tests/seen.py
@@ -80,7 +80,7 @@ def page_example(page):
     image = (ROOT / "examples/afternoon/rights.rbk").read_bytes()
     lines = re.findall(r"^    ((?:[0-9a-f]{2} +)+)(?:\.\.)? *[a-z]", page, re.M)
     shown = bytes.fromhex("".join(lines).replace(" ", ""))
-    must(len(lines) == 6 and image.startswith(shown), "the example of an image")
+    must(len(lines) == 7 and image.startswith(shown), "the example of an image")
 
 
 def page_xml(page):
@@ -115,7 +115,7 @@ def header_numbers(header):
 
 
 def header_positions(numbers):
-    for prefix, fields in (("ASSET", rights.ASSET_FIELDS), ("ENTRY", rights.ENTRY_FIELDS),
+    for prefix, fields in (("BOOK", HEADER_FIELDS[2:]), ("ASSET", rights.ASSET_FIELDS), ("ENTRY", rights.ENTRY_FIELDS),
                            ("PLAYER", [("counter", 4)] + rights.PLAYER_FIELDS[1:] + [("boot", 4)])):
         for position, (name, _) in enumerate(fields):
             named = RENAMED.get(name, name) if prefix == "PLAYER" else name
@@ -129,7 +129,7 @@ def header_positions(numbers):
 
 
 def header_words(numbers):
-    for name in ("BEGIN", "CONTINUE", "STOP", "PLAY", "DISPLAY", "EXECUTE", "PRINT", "EXPORT", "PLAYERS"):
+    for name in ("BEGIN", "CONTINUE", "STOP", "CANCEL", "PLAY", "DISPLAY", "EXECUTE", "PRINT", "EXPORT", "PLAYERS"):
         must(numbers[f"RIGHTS_{name}"] == getattr(rights, name), name)
     for name in ("COUNT", "TIMED", "START", "END", "INTERVAL", "ACCUMULATED"):
         must(numbers[f"RIGHTS_HAS_{name}"] == getattr(rights, name), name)

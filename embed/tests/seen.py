@@ -84,7 +84,7 @@ def see(image):
         print_line("player", NO_LIMIT, refused)
         return
     now = book.time
-    print_line("book", 0, [len(book.assets), len(book.entries), now, book.switch])
+    print_line("book", 0, [len(book.assets), len(book.entries), now, book.switch, book.latest_player, book.latest_started])
     for position in range(len(book.assets) + 1):
         print_line("asset", position, absent(book.assets, position, astuple))
     times = [0, now, now + 1, now + 30, now + 59, now + 60, now + 86400, NO_LIMIT]

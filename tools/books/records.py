@@ -15,7 +15,7 @@ from .words import KINDS, OPERATIONS, TOP, Mistake, Trouble, kind_name, lines_of
 SIZE = rights.RECORD.size
 SHORT = 13                  # bytes of a record before order 4 of document 02: a number of 4 bytes, not of 8
 MEANINGS = {
-    1: "turned away: not a valid begin, continue or stop",
+    1: "turned away: not a valid begin, continue, stop or cancel",
     2: "turned away: there is no such player (0 to 15)",
     3: "turned away: its number is not the player's next one, nor counter 1 under a greater boot number",
     4: "turned away: the player used this number for another request",
@@ -29,10 +29,12 @@ MEANINGS = {
     15: "refused: no more time can be given",
     30: "turned away: the list that was lent for the report does not fit the book",
     43: "refused: metering is off, and what is left for it is tracked and has no mark",
+    44: "refused: there is something open, but its begin was not the last event taken, so it cannot be taken back",
 }
 
 # A line of a text for `make` or `events`.
-TEXT = re.compile(rb"^\s*((time|asset|entry|player)\s+[0-9]|metering\s+o|[0-9]+(\.[0-9]+){1,2}\s+(begin|continue|stop)\s)", re.MULTILINE)
+TEXT = re.compile(rb"^\s*((time|asset|entry|player)\s+[0-9]|metering\s+o|latest\s+player\s*:?\s+[0-9]"
+                  rb"|[0-9]+(\.[0-9]+){1,2}\s+(begin|continue|stop|cancel)\s)", re.MULTILINE)
 
 
 class EventText:
@@ -144,7 +146,7 @@ def event_of(record):
 def request_words(operation, asset, kind):
     if operation == rights.BEGIN:
         return f"begin, {kind_name(kind)} asset {asset}"
-    name = {2: "continue", 3: "stop"}.get(operation, f"operation {operation}")
+    name = {2: "continue", 3: "stop", 4: "cancel"}.get(operation, f"operation {operation}")
     return name if asset == 0 and kind == 0 else f"{name}, asset {asset}, kind {kind}"
 
 
@@ -153,6 +155,8 @@ def answer_words(operation, kind, code, entry, until):
         return MEANINGS.get(code, "an unknown answer")
     if operation == rights.STOP:
         return f"stopped at {when(until)}, under entry {entry}"
+    if operation == rights.CANCEL:
+        return f"taken back: the use of entry {entry} that began at {when(until)} counts for nothing"
     if operation == rights.BEGIN and kind >= rights.PRINT:
         return f"granted by entry {entry}, once, at {when(until)}"
     return f"granted by entry {entry} until {when(until)}"

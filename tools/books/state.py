@@ -6,7 +6,7 @@ import time
 import rights
 
 from .records import answer_words, request_words
-from .texts import FLAGS, asset_text, entry_text, load
+from .texts import FLAGS, asset_text, entry_text, latest_text, load
 from .words import Mistake, Trouble, Words, date, kind_name, number_text, span, when
 
 FULL = "as many players have it open as may"
@@ -188,6 +188,7 @@ def show(image):
     for index in asked:
         for line in player_lines(index, book.players[index]):
             print(line)
+    print(f"Latest player: {latest_text(book)}")
 
 
 def player_lines(index, player):
@@ -230,13 +231,18 @@ def left_lines(book, t):
     for position, entry in enumerate(book.entries):
         asset = book.asset(entry.asset)
         for_whom = f" (for {', '.join(map(str, heirs(book, asset)))})" if asset.is_parent() and heirs(book, asset) else ""
-        uses = [f"player {index} until {date(player.until)}" for index, player in enumerate(book.players)
+        uses = [f"player {index} until {date(player.until)}{cancel_words(book, player)}" for index, player in enumerate(book.players)
                 if player.open and player.open_entry == position]
         parts = [f"entry {position}: {kind_name(entry.kind)} of asset {asset.number}{for_whom}"]
         parts += used_words(entry) or ["no count and no seconds to use up"]
         parts += group_words(entry)
         parts += [f"open: {', '.join(uses) or 'nobody'}", state_words(book, position, t)]
         yield "; ".join(parts)
+
+
+def cancel_words(book, player):
+    """Behind a player that has a use open in a settled book, whether a cancel would be granted."""
+    return " (may still take back its begin)" if rights.may_cancel(book, player) else ""
 
 
 # ---- diff
@@ -264,6 +270,8 @@ def differences(a, b):
         yield from changed(f"entry {position}", entry_fields(a.entries[position]), entry_fields(b.entries[position]))
     yield from only_in("entry", dict(enumerate(map(entry_text, a.entries[common:]), common)),
                        dict(enumerate(map(entry_text, b.entries[common:]), common)))
+    if latest_text(a) != latest_text(b):
+        yield f"latest player: {latest_text(a)} -> {latest_text(b)}"
     for index in range(rights.PLAYERS):
         yield from changed(f"player {index}", player_fields(a.players[index]), player_fields(b.players[index]))
 
@@ -303,7 +311,19 @@ def entry_fields(entry):
 def player_fields(player):
     if player.number == 0:
         return {"number": "none", "request": "none", "answer": "none", "open use": "none", "content": "none"}
-    answer = f"refused {player.code}" if player.code else f"granted entry {player.entry} until {when(player.answer_until)}"
     use = f"entry {player.open_entry}, {when(player.begin)} until {when(player.until)}" if player.open else "none"
     return {"number": number_text(player.number), "request": request_words(player.operation, player.asset, player.kind),
-            "answer": answer, "open use": use, "content": player.content or "none"}
+            "answer": answer_field(player), "open use": use, "content": player.content or "none"}
+
+
+def answer_field(player):
+    """A stored answer in a few words: what its until means goes by the request that it answers."""
+    if player.code:
+        return f"refused {player.code}"
+    if player.operation == rights.CANCEL:
+        return f"cancelled entry {player.entry}, begun at {when(player.answer_until)}"
+    if player.operation == rights.STOP:
+        return f"stopped entry {player.entry} at {when(player.answer_until)}"
+    if player.operation == rights.BEGIN and player.kind >= rights.PRINT:
+        return f"granted entry {player.entry}, once, at {when(player.answer_until)}"
+    return f"granted entry {player.entry} until {when(player.answer_until)}"

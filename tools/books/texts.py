@@ -20,7 +20,7 @@ REFUSED = {
     23: "it has more than 64 assets or entries, or its time is too late",
     24: "an asset breaks the rules: number 0, a number twice, or key not 0 or 1",
     25: "an entry breaks the rules",
-    26: "a player's record or the metering switch breaks the rules",
+    26: "a player's record, the metering switch or what was taken last breaks the rules",
     27: "what is used or marked does not fit the limits or the open uses",
 }
 
@@ -46,12 +46,14 @@ class BookText:
         self.once = Once()
         self.entry_lines = {}
         self.player_lines = {}
+        self.latest_line = None
 
     def line(self, words):
         first = words.take("a word")
-        read = {"time": self.time, "metering": self.metering, "asset": self.asset, "entry": self.entry, "player": self.player}.get(first)
+        read = {"time": self.time, "metering": self.metering, "asset": self.asset, "entry": self.entry, "player": self.player,
+                "latest": self.latest}.get(first)
         if read is None:
-            raise Mistake(f"a line begins with time, metering, asset, entry or player, not with `{short(first)}`")
+            raise Mistake(f"a line begins with time, metering, asset, entry, player or latest player, not with `{short(first)}`")
         read(words)
 
     def time(self, words):
@@ -157,7 +159,7 @@ class BookText:
         elif words.accept("refused"):
             player.code, player.entry = words.number(TOP, "the code"), 255
             if player.code not in STORED:
-                raise Mistake(f"a stored refusal is 10 to 15 or 43, not {player.code}; what is turned away (1 to 6, 30) is not stored")
+                raise Mistake(f"a stored refusal is 10 to 15, 43 or 44, not {player.code}; what is turned away (1 to 6, 30) is not stored")
         else:
             raise Mistake("the last answer is expected here: `granted ENTRY UNTIL` or `refused CODE`")
         if words.accept("open"):
@@ -167,6 +169,17 @@ class BookText:
             if words.accept("content"):
                 player.content = words.number(65_535, "the content of the open use", 1)
         self.player_lines[index] = (words.at, words.line)
+
+    def latest(self, words):
+        if not words.accept("player"):
+            raise Mistake("the event taken last is told as `latest player N` or `latest player N, started an interval`")
+        self.once("the latest player", "latest player")
+        self.book.latest_player = words.number(rights.PLAYERS - 1, "the latest player") + 1
+        if words.accept("started"):
+            self.book.latest_started = 1
+            if not words.accept("an") or not words.accept("interval"):
+                raise Mistake("`started an interval` is expected here")
+        self.latest_line = (words.at, words.line)
 
 
 def check_entry(book, entry):
@@ -224,6 +237,26 @@ def player_fault(book, player):
     return None
 
 
+def latest_fault(book):
+    """Why the latest player does not fit the book's players, or None."""
+    index = book.latest_player - 1
+    player = book.players[index]
+    if player.number == 0:
+        return f"player {index} has not asked yet, so no event of it was taken"
+    if not book.latest_started:
+        return None
+    if not player.open:
+        return f"player {index} has nothing open, so its last event opened no use that started an interval"
+    entry = book.entries[player.open_entry]
+    if not entry.has(rights.INTERVAL):
+        return f"player {index} has entry {player.open_entry} open, which has no interval to start"
+    if player.begin != entry.first:
+        return f"the use of player {index} began at {player.begin}, but the interval of entry {player.open_entry} at {entry.first}"
+    if len(book.users(player.open_entry)) > 1:
+        return f"others have entry {player.open_entry} open too, so its interval had started before"
+    return None
+
+
 def meter_fault(book, position):
     """Why what is used of an entry does not fit the book, or None."""
     entry = book.entries[position]
@@ -247,6 +280,9 @@ def book_of_text(path):
         fault = player_fault(book, book.players[index])
         if fault:
             raise at_line(path, *line, fault)
+    fault = latest_fault(book) if maker.latest_line else None
+    if fault:
+        raise at_line(path, *maker.latest_line, fault)
     rights.set_marks(book)      # a text has none: they say the same as the players' open uses
     for position, line in maker.entry_lines.items():
         fault = meter_fault(book, position)
@@ -295,6 +331,15 @@ def text_lines(book):
     for index, player in enumerate(book.players):
         if player.number != 0:
             yield f"player {index}: {player_text(player)}"
+    if book.latest_player:
+        yield f"latest player {latest_text(book)}"
+
+
+def latest_text(book):
+    """The player of the event taken last, and whether that opened a use that started an interval."""
+    if not book.latest_player:
+        return "none"
+    return f"{book.latest_player - 1}" + ", started an interval" * book.latest_started
 
 
 def asset_text(asset):

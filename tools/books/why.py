@@ -8,7 +8,7 @@ from rights import Event
 from .files import read_image
 from .library import judged
 from .records import answer_words
-from .state import group_words, settled, stop_words, told_time
+from .state import cancel_words, group_words, settled, stop_words, told_time
 from .texts import refusal
 from .words import KINDS, Mistake, Trouble, Words, date, kind_name, number, number_text, when
 
@@ -62,7 +62,7 @@ def because(book, player, asset, kind, code):
     if code == 10:
         return f": asset {asset} {'is not in the book' if found is None else 'is a parent' if found.is_parent() else 'has no key'}"
     if code == 11:
-        return f": entry {user.open_entry}, since {date(user.begin)}, until {date(user.until)}"
+        return f": entry {user.open_entry}, since {date(user.begin)}, until {date(user.until)}{cancel_words(book, user)}"
     if code == 12:
         others = sorted({entry_kind for entry_kind in KINDS.values() if suitable(book, asset, entry_kind)})
         return f": it has {', '.join(map(kind_name, others)) or 'none of any kind'}"

@@ -9,7 +9,7 @@ import re
 import rights
 
 KINDS = {"play": 1, "display": 2, "execute": 3, "print": 4, "export": 5}
-OPERATIONS = {"begin": 1, "continue": 2, "stop": 3}
+OPERATIONS = {"begin": 1, "continue": 2, "stop": 3, "cancel": 4}
 UNITS = {"s": 1, "m": 60, "min": 60, "h": 3600, "d": 86_400}
 TOP = 4_294_967_295         # the greatest 32-bit number
 

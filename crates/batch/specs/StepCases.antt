@@ -14,13 +14,15 @@ use Rattle.book.specs.declared.Limits.{Limits}
 use Rattle.book.specs.declared.Meters.{Meters}
 use Rattle.book.specs.declared.Entry.{Entry}
 use Rattle.book.specs.declared.Last.{Last}
+use Rattle.book.specs.declared.Latest.{Latest}
 use Rattle.book.specs.declared.Open.{Open}
 use Rattle.book.specs.declared.Player.{Player}
 use Rattle.book.specs.declared.Book.{Book}
 use Rattle.book.specs.declared.Ask.{Ask}
+use Rattle.book.specs.declared.Recent.{Recent}
 use Rattle.book.specs.declared.Event.{Event}
 use Rattle.book.specs.declared.Request.{Request}
-use Rattle.book.specs.declared.Request.the-variants.{Begin, Continue, Stop}
+use Rattle.book.specs.declared.Request.the-variants.{Begin, Continue, Stop, Cancel}
 use Rattle.book.specs.declared.Gate.{Gate}
 use Rattle.book.specs.declared.Gate.the-variants.{Refuse, Resend, Take}
 use Rattle.book.specs.declared.Kind.{Kind}
@@ -34,7 +36,7 @@ use Rattle.book.specs.Changed.{changed}
 use Rattle.model.specs.Book.{limitsAt, metersAt, playerAt, latestTime, entriesIn, requestLegal}
 use Rattle.model.specs.Choice.{asks, Catalog, catalogOf, usable, parentOf, suits, anyOf, grantable, failsForSwitch}
 use Rattle.model.specs.Step.{Done, unchanged, refusal, noted, stepBy, step, arrive, done, doBegin, doContinue, doStop, lastAt}
-use Rattle.model.specs.Step.{openAt}
+use Rattle.model.specs.Step.{openAt, latestBy, doCancel}
 use Rattle.model.specs.Record.{recordWidths, recordField, kindNumber, eventIn, decoded}
 use Rattle.model.specs.Gate.{gate}
 use Rattle.model.specs.Meters.{isOn, expired, shut, released, amend, ended}
@@ -56,13 +58,14 @@ use Rattle.choice.specs.Row.{rowOf}
 use Rattle.index.specs.Rows.{rowOfEntry, rows-set}
 use Rattle.index.specs.Places.{placesOf, parentsOf, reachAt, reach-usable, reach-parent}
 use Rattle.uses.specs.declared.Effect.{Effect}
-use Rattle.uses.specs.Uses.{kept, placed, stored, begunOn, beginOn, continueOn, stopOn, continue-placed, stop-placed}
+use Rattle.uses.specs.Uses.{kept, placed, stored, begunOn, beginOn, continueOn, stopOn, cancelOn, continue-placed, stop-placed}
+use Rattle.uses.specs.Uses.{cancel-placed}
 use Rattle.step.specs.Settle.{settledBook, settledTo, player-next, released-out}
 use Rattle.metering.specs.Good.{goodLines}
 use Rattle.metering.specs.Recording.{lineFor, due-still, due-out, due-raised, due-kept, requestLine, requestSeconds, requestEntry}
 use Rattle.metering.specs.Recording.{request-onward, request-still}
 use Rattle.step.specs.Lines.{linesTaken, linesWith, lines-own, reportedOn}
-use Rattle.step.specs.Step.{storedBook, takenFrom, taken-is, begin-refused, begin-placed-at}
+use Rattle.step.specs.Step.{storedBook, takenFrom, recentOn, taken-is, begin-refused, begin-placed-at}
 
 -- ## A record with its lines
 
@@ -181,9 +184,9 @@ case-lines b d e ls a c h =
 
 -- ## A taken event
 
--- the book n with those entries, the player's record and the time stored
-abbrev pub closing : Book → List Entry → ℕ → ℕ → Last → Open → Book
-closing n es j t last current = changed n t es (set (n .players) j (record { last = last; current = current }))
+-- the book n with those entries, the player's record, the time and the event taken last stored
+abbrev pub closing : Book → List Entry → ℕ → ℕ → Latest → Last → Open → Book
+closing n es j t latest last current = changed n t latest es (set (n .players) j (record { last = last; current = current }))
 
 -- what is stored of an event, with its answer put in
 abbrev pub answeredBy : Last → Answer → Last
@@ -193,59 +196,66 @@ pub noted-answer : (e : Event) (a b : Answer) (l : Last) → l ≡ noted e a →
 noted-answer e a b l h = ap (λ (x : Last). answeredBy x b) h
 
 abbrev pub doneOn : Book → Event → Done
-doneOn n e = done (e .request) (catalogOf n) (n .entries) (openAt (n .players) (e .player)) (asks n e)
+doneOn n e = done (e .request) (catalogOf n) (n .entries) (openAt (n .players) (e .player)) (asks n e) (recentOn n e)
 
 pub case-taken :
-    (b : Book) (r : Decoded) (e : Event) (n : Book) (d : Done) (j : ℕ) (last : Last) →
+    (b : Book) (r : Decoded) (e : Event) (n : Book) (d : Done) (j : ℕ) (latest : Latest) (last : Last) →
     Admitted b r e →
     n ≡ settledBook (e .time) b →
     d ≡ doneOn n e →
     j ≡ e .player →
+    latest ≡ latestBy e (d .started) →
     last ≡ noted e (d .answer) →
-    arrive b r ≡ record { answer = d .answer; book = closing n (d .entries) j (e .time) last (d .current) }
+    arrive b r ≡ record { answer = d .answer; book = closing n (d .entries) j (e .time) latest last (d .current) }
 unfolding arrive step stepBy storedBook
-case-taken b r e n d j last c hn hd hj hl =
+case-taken b r e n d j latest last c hn hd hj hx hl =
     ap (arrive b) (c .valid)
     ∙ ap (λ (x : Gate). stepBy x b e) (c .takes)
     ∙ sym (taken-is b e)
     ∙ ap (λ (x : Book). takenFrom x e (doneOn x e)) (sym hn)
     ∙ ap (takenFrom n e) (sym hd)
-    ∙ ap₂ (λ (x : ℕ) (y : Last). record { answer = d .answer; book = closing n (d .entries) x (e .time) y (d .current) }) (sym hj) (sym hl)
+    ∙ ap (λ (x : Latest). closed-by (e .player) x (noted e (d .answer))) (sym hx)
+    ∙ ap₂ (λ (x : ℕ) (y : Last). closed-by x latest y) (sym hj) (sym hl)
+  where
+    closed-by : ℕ → Latest → Last → Outcome
+    closed-by x y z = record { answer = d .answer; book = closing n (d .entries) x (e .time) y z (d .current) }
 
 -- the operation of a request, on the entry at a position
-abbrev pub actOn : Request → ℕ → Ask → Limits → Meters → Open → Effect
-actOn (Begin kind asset) i ask l m o = beginOn i asset ask l m o
-actOn Continue i ask l m o = continueOn (ask .time) l m o
-actOn Stop i ask l m o = stopOn (ask .player) (ask .time) l m o
+abbrev pub actOn : Request → ℕ → Ask → Recent → Limits → Meters → Open → Effect
+actOn (Begin kind asset) i ask r l m o = beginOn i asset ask l m o
+actOn Continue i ask r l m o = continueOn (ask .time) l m o
+actOn Stop i ask r l m o = stopOn (ask .player) (ask .time) l m o
+actOn Cancel i ask r l m o = cancelOn (ask .player) r l m o
 
 -- what a taken event is about to do: refused by a code that is not 0, or done at entry k
 pub record Planned (n : Book) (e : Event) (o : Open) (k code : ℕ) : Type 0 where
   pub refuses : (code ≡ 0 → ⊥) → unchanged code (n .entries) o ≡ doneOn n e
   pub acts :
       code ≡ 0 → (part : Effect) →
-      part ≡ actOn (e .request) (k % 256) (asks n e) (limitsAt (n .entries) k) (metersAt (n .entries) k) o →
+      part ≡ actOn (e .request) (k % 256) (asks n e) (recentOn n e) (limitsAt (n .entries) k) (metersAt (n .entries) k) o →
       placed k part (n .entries) ≡ doneOn n e
   -- the entry that a granted request names is the one at k
   pub names :
       code ≡ 0 → (part : Effect) →
-      part ≡ actOn (e .request) (k % 256) (asks n e) (limitsAt (n .entries) k) (metersAt (n .entries) k) o →
+      part ≡ actOn (e .request) (k % 256) (asks n e) (recentOn n e) (limitsAt (n .entries) k) (metersAt (n .entries) k) o →
       eqb (part .answer .code) 0 ≡ true →
       requestEntry (e .request) o (part .answer) ≡ k
 
 module _ (n : Book) (e : Event) (o : Open) (ho : o ≡ openAt (n .players) (e .player)) where
-  done-as : (q : Request) → e .request ≡ q → done q (catalogOf n) (n .entries) o (asks n e) ≡ doneOn n e
+  done-as : (q : Request) → e .request ≡ q → done q (catalogOf n) (n .entries) o (asks n e) (recentOn n e) ≡ doneOn n e
   done-as q hq =
-      ap (λ (x : Request). done x (catalogOf n) (n .entries) o (asks n e)) (sym hq)
-      ∙ ap (λ (x : Open). done (e .request) (catalogOf n) (n .entries) x (asks n e)) ho
+      ap (λ (x : Request). done x (catalogOf n) (n .entries) o (asks n e) (recentOn n e)) (sym hq)
+      ∙ ap (λ (x : Open). done (e .request) (catalogOf n) (n .entries) x (asks n e) (recentOn n e)) ho
 
   module _ (k code : ℕ) (hk : k ≡ o .entry) (hc : code ≡ cond (isOn o) 0 14) where
-    -- a continue or a stop, with what it does to its entry
+    -- a continue, a stop or a cancel, with what it does to its entry
     further :
         (q : Request) (d : Done) →
         e .request ≡ q →
         d ≡ doneOn n e →
         (isOn o ≡ false → unchanged 14 (n .entries) o ≡ d) →
-        placed (o .entry) (actOn q (o .entry % 256) (asks n e) (limitsAt (n .entries) (o .entry)) (metersAt (n .entries) (o .entry)) o)
+        placed (o .entry)
+        (actOn q (o .entry % 256) (asks n e) (recentOn n e) (limitsAt (n .entries) (o .entry)) (metersAt (n .entries) (o .entry)) o)
         (n .entries) ≡ d →
         ((a : Answer) → requestEntry q o a ≡ o .entry) →
         Planned n e o k code
@@ -272,6 +282,12 @@ module _ (n : Book) (e : Event) (o : Open) (ho : o ≡ openAt (n .players) (e .p
     planned-stop hq =
         further Stop (doStop (n .entries) o (asks n e)) hq (done-as Stop hq) (λ off. rw off refl) (stop-placed (asks n e) (n .entries) o)
         (λ a. refl)
+
+    pub planned-cancel : e .request ≡ Cancel → Planned n e o k code
+    unfolding done doCancel requestEntry
+    planned-cancel hq =
+        further Cancel (doCancel (n .entries) o (e .player) (recentOn n e)) hq (done-as Cancel hq) (λ off. rw off refl)
+        (cancel-placed (e .player) (recentOn n e) (n .entries) o) (λ a. refl)
 
 -- ## A begin
 

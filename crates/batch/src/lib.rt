@@ -47,9 +47,12 @@ use record::decode;
 use rules::begin_code;
 use rules::gate_of;
 use rules::kind_number;
+use rules::latest_by;
 use rules::noted_last;
+use rules::recent_of;
 use text::put_line;
 use uses::begin_on;
+use uses::cancel_on;
 use uses::continue_on;
 use uses::ended_meters;
 use uses::kept;
@@ -74,7 +77,7 @@ fn looked_at(on: bool, usable: bool, entries: usize) -> usize
     }
 }
 
-// The code that refuses a continue or a stop before its entry is looked at, otherwise 0.
+// The code that refuses a continue, a stop or a cancel before its entry is looked at, otherwise 0.
 fn further_code(on: bool) -> u8
     ensures { λ r. ⌜ r ≡ cond on 0 14 ⌝ }
 {
@@ -93,7 +96,8 @@ fn received(good: bool, s: &[u8]) -> Decoded
 }
 
 // If out has no room for 19 bytes per record, nothing is done.
-// Rules out: a record left out or answered twice, a last record cut short that gets no line, a byte touched after the text.
+// Rules out: a record left out or answered twice, a last record cut short that gets no line, a byte touched after the text, a taken
+// event that the header does not tell of.
 pub fn answer_block(
     b: Book,
     records: &[u8],
@@ -261,6 +265,7 @@ pub fn answer_block(
                             }
                             Request::Continue => {}
                             Request::Stop => {}
+                            Request::Cancel => {}
                         }
                         book.time = t;
                         let mut answer = refusal(code);
@@ -284,6 +289,13 @@ pub fn answer_block(
                                 Request::Stop => {
                                     part = stop_on(l, m, o, ask.player, t);
                                 }
+                                Request::Cancel => {
+                                    let latest = book.latest;
+                                    let own = book.players[j];
+                                    let begin = own.last;
+                                    let recent = recent_of(latest, ask.player, begin, o);
+                                    part = cancel_on(l, m, o, ask.player, recent);
+                                }
                             }
                             if k < 64 {
                                 let meters = part.meters;
@@ -296,6 +308,9 @@ pub fn answer_block(
                             }
                             answer = part.answer;
                             current = part.current;
+                            // The header is written in both cases and not behind them, which is quicker.
+                            let header = latest_by(ask.player, part.started);
+                            book.latest = header;
                             let w = request_line(
                                 request,
                                 answer,
@@ -315,6 +330,9 @@ pub fn answer_block(
                             let end = end_of(current);
                             ends[j] = end;
                             next = min_time(next, end);
+                        } else {
+                            let unmarked = latest_by(ask.player, false);
+                            book.latest = unmarked;
                         }
                         let mut stored = noted;
                         stored.answer = answer;

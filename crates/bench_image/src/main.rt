@@ -2,7 +2,7 @@
 // It prints the last answer and the last length.
 use book::Book;
 
-const IMAGE: usize = 5391;
+const IMAGE: usize = 5399;
 
 struct Turn {
     code: u8,

@@ -10,6 +10,7 @@ use Rattle.book.specs.declared.Open.{Open}
 use Rattle.book.specs.declared.Player.{Player}
 use Rattle.book.specs.declared.Book.{Book}
 use Rattle.book.specs.declared.Line.{Line}
+use Rattle.book.specs.declared.Latest.{Latest}
 
 abbrev pub noAsset : Asset
 noAsset = record { number = 0; inherit = 0; key = 0 }
@@ -51,10 +52,15 @@ closed = record { on = 0; entry = 0; begin = 0; until = 0; content = 0 }
 abbrev pub noPlayer : Player
 noPlayer = record { last = noLast; current = closed }
 
+-- no event was taken yet
+abbrev pub noLatest : Latest
+noLatest = record { player = 0; started = 0 }
+
 abbrev pub noBook : Book
 noBook = record {
   time = 0;
   switch = 0;
+  latest = noLatest;
   assetcount = 0;
   entrycount = 0;
   assets = replicate 64 noAsset;

@@ -107,10 +107,17 @@ pub struct Line {
     pub seconds: u64,
 }
 
+// The event taken last: its player plus 1, 0 for none, and 1 if it opened a use that started its entry's interval.
+pub struct Latest {
+    pub player: u32,
+    pub started: u32,
+}
+
 // Slots past the counts are blank in a legal book, so that equal books are equal values. Switch is 1 if uses are metered for the report.
 pub struct Book {
     pub time: u32,
     pub switch: u32,
+    pub latest: Latest,
     pub assetcount: u8,
     pub entrycount: u8,
     pub assets: [Asset; 64],
@@ -126,10 +133,12 @@ pub enum Kind {
     Export,
 }
 
+// Cancel takes a begin back: the film did not load.
 pub enum Request {
     Begin(Kind, u16),
     Continue,
     Stop,
+    Cancel,
 }
 
 pub struct Event {
@@ -144,6 +153,13 @@ pub struct Ask {
     pub player: u8,
     pub time: u32,
     pub switch: u32,
+}
+
+// What a cancel reads of the event taken last: whether it was the asking player's begin of the use that it has open, and whether that
+// started the interval.
+pub struct Recent {
+    pub begun: bool,
+    pub started: bool,
 }
 
 // What stands against granting an entry, each ground under its name.
@@ -273,6 +289,17 @@ pub fn entry_at(entries: [Entry; 64], k: usize) -> Entry
     blank_entry()
 }
 
+// The player at a position, blank past the table's end.
+// Rules out: the last player for a position past the end, a neighbouring player.
+pub fn player_at(players: [Player; 16], i: usize) -> Player
+    ensures { λ r. ⌜ r ≡ getD players i noPlayer ⌝ }
+{
+    if i < 16 {
+        return players[i];
+    }
+    blank_player()
+}
+
 // How many slots of a table are in use: a count above 64, which no image has, counts as 64.
 // Rules out: 63 for 64, a count above 64 passed on.
 pub fn at_most_64(count: u8) -> usize
@@ -302,6 +329,10 @@ pub fn blank_book() -> Book
     Book {
         time: 0,
         switch: 0,
+        latest: Latest {
+            player: 0,
+            started: 0,
+        },
         assetcount: 0,
         entrycount: 0,
         assets: [blank_asset(); 64],
@@ -324,7 +355,7 @@ pub fn closed_use() -> Open
     }
 }
 
-// "Each of 1 to 15 returns entry 255 and until 0.", and so do 30 and 43.
+// "Each of 1 to 15 returns entry 255 and until 0.", and so do 30, 43 and 44.
 // Rules out: entry 0, the code in another place.
 pub fn refusal(code: u8) -> Answer
     ensures { λ r. ⌜ r ≡ record { code = code; entry = 255; until = 0 } ⌝ }

@@ -288,7 +288,7 @@ pub extern "C" fn rights_record(
     fill::fill8(out, &bytes)
 }
 
-// How many assets and entries the book in the image has, its time, and its switch.
+// How many assets and entries the book in the image has, its time, its switch, and the event taken last.
 // Rules out: numbers from an image that is refused.
 #[no_mangle]
 pub extern "C" fn rights_book(image: &[u8], out: &mut [u32]) -> u8

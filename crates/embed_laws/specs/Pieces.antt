@@ -86,8 +86,8 @@ pub above-room : (buffer : List ℕ) (size : ℕ) (ls : List Line) (records : Li
 unfolding answerCode callCode imageIn readCode headerBroken
 above-room buffer size ls records room h = rw (lt-leb size (length buffer) h) refl
 
--- a buffer of 5,391 bytes has room for every next image
-pub room-enough : (b : Book) (buffer : List ℕ) → 5391 ≤ length buffer → roomCode b buffer ≡ 0
+-- a buffer of 5,399 bytes has room for every next image
+pub room-enough : (b : Book) (buffer : List ℕ) → 5399 ≤ length buffer → roomCode b buffer ≡ 0
 room-enough b buffer h = let most = demand2 .lengthBounds b .1 in room-there b buffer (omega arith)
 
 -- of an accepted image of the newest version the next one has the same length ("an accepted image writes the same bytes", and no

@@ -18,8 +18,8 @@ use Rattle.embed.specs.Calls.{imageIn, heldBook, roomCode}
 use Rattle.embed.specs.FromXml.{xmlCode, xmlImage, xmlSize}
 use Rattle.embed_laws.specs.Pieces.{image-back, room-enough}
 
--- a buffer of 5,391 bytes has room for every text's image: the code is the text's own
-pub text-code : (text buffer : List ℕ) → 5391 ≤ length buffer → xmlCode text buffer ≡ readingOf text .code
+-- a buffer of 5,399 bytes has room for every text's image: the code is the text's own
+pub text-code : (text buffer : List ℕ) → 5399 ≤ length buffer → xmlCode text buffer ≡ readingOf text .code
 unfolding xmlCode imported importedFrom importCode roomCode
 text-code text buffer h =
     on-test (eqb (readingOf text .code) 0)

@@ -10,10 +10,10 @@ use book::Meters;
 use book::Open;
 use book::Player;
 use book::at_most_64;
-use image_pieces::marks_of;
-use image_pieces::opens_entry;
 use numbers::ones;
 use rules::flags_of;
+use rules::marks_of;
+use rules::opens_entry;
 
 fn meter_legal(flag: bool, most: u32, used: u32) -> bool
     ensures { λ r. ⌜ r ≡ meterLegal flag most used ⌝ }

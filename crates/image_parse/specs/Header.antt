@@ -11,7 +11,7 @@ use Rattle.book.specs.declared.Player.{Player}
 use Rattle.model.specs.Image.{tailIn, newest, headerSize, assetSize, entrySize, playerSize, versionIn, timeIn, assetCountIn, entryCountIn}
 use Rattle.model.specs.Image.{imageLength, headerBroken, assetTable, entryTable, playerTable, entriesFrom, playersFrom, bookAs}
 use Rattle.model.proofs.Image.Header.{header-passed}
-use Rattle.image_parse.specs.Versions.{added, header-least, switch-read}
+use Rattle.image_parse.specs.Versions.{added, latestOf, header-least, switch-read, latest-read}
 
 -- the version that the bytes name
 abbrev pub version : List ℕ → ℕ
@@ -82,15 +82,26 @@ located s z v o₁ o₂ o₃ e h₁ h₂ h₃ =
     }
 
 -- what is read there is the book by that layout
-pub read-there : (s : List ℕ) (v o₁ o₂ o₃ switch time : ℕ) (ats : List Asset) (es : List Entry) (ps : List Player) → Located s v o₁ o₂ o₃
-    → switch ≡ added v 2 11 s → time ≡ numberAt bits32 7 s → ats ≡ assetTable v s o₁ (getD s 5 0) → es ≡ entryTable v s o₂ (getD s 6 0)
-    → ps ≡ playerTable v s o₃
-    → record { time = time; switch = switch; assetcount = getD s 5 0; entrycount = getD s 6 0; assets = ats; entries = es; players = ps }
-    ≡ bookAs (version s) s
+pub read-there : (s : List ℕ) (v o₁ o₂ o₃ switch player started time : ℕ) (ats : List Asset) (es : List Entry) (ps : List Player)
+    → Located s v o₁ o₂ o₃
+    → switch ≡ added v 2 11 s → player ≡ added v 5 15 s → started ≡ added v 5 19 s → time ≡ numberAt bits32 7 s
+    → ats ≡ assetTable v s o₁ (getD s 5 0) → es ≡ entryTable v s o₂ (getD s 6 0) → ps ≡ playerTable v s o₃
+    → record {
+      time = time;
+      switch = switch;
+      latest = record { player = player; started = started };
+      assetcount = getD s 5 0;
+      entrycount = getD s 6 0;
+      assets = ats;
+      entries = es;
+      players = ps;
+    } ≡ bookAs (version s) s
 unfolding bookAs timeIn versionIn assetCountIn entryCountIn entriesFrom playersFrom
-read-there s v o₁ o₂ o₃ switch time ats es ps l w t a e p = λ i. record {
+read-there s v o₁ o₂ o₃ switch player started time ats es ps l w x y t a e p = λ i. record {
   time = t i;
   switch = (w ∙ switch-read s v (l .oldest) (l .known) ∙ ap (λ (k : ℕ). getD (tailIn k s) 0 0) (l .same)) i;
+  latest = ((λ j. record { player = x j; started = y j }) ∙ latest-read s v (l .oldest) (l .known)
+      ∙ ap (λ (k : ℕ). latestOf (tailIn k s)) (l .same)) i;
   assetcount = getD s 5 0;
   entrycount = getD s 6 0;
   assets = (a ∙ ap₂ (λ (k o : ℕ). assetTable k s o (getD s 5 0)) (l .same) (l .assetsAt)) i;

@@ -13,6 +13,7 @@ use Rattle.book.specs.declared.Asset.{Asset}
 use Rattle.book.specs.declared.Limits.{Limits}
 use Rattle.book.specs.declared.Meters.{Meters}
 use Rattle.book.specs.declared.Last.{Last}
+use Rattle.book.specs.declared.Latest.{Latest}
 use Rattle.book.specs.declared.Open.{Open}
 use Rattle.model.specs.Image.{newest, numberWidth, headerSize, assetSize, entrySize, playerSize, assetIn, entryIn, playerIn}
 use Rattle.model.specs.Image.{tailIn}
@@ -73,6 +74,10 @@ lastRead v s = record {
   };
 }
 
+-- the event taken last, in the values behind the start of the header
+abbrev pub latestOf : List ℕ → Latest
+latestOf vs = record { player = getD vs 1 0; started = getD vs 2 0 }
+
 abbrev pub openRead : ℕ → List ℕ → Open
 openRead v s = record {
   on = numberAt bits8 (14 + wider v) s;
@@ -85,32 +90,40 @@ openRead v s = record {
 module _ (s : List ℕ) (v : ℕ) (h : 1 ≤ v) (k : v ≤ newest) where
   pub asset-read : assetRead v s ≡ assetIn v s
   unfolding assetIn
-  asset-read = by-version (λ v. assetRead v s ≡ assetIn v s) refl refl refl refl v h k
+  asset-read = by-version (λ v. assetRead v s ≡ assetIn v s) refl refl refl refl refl v h k
 
   pub limits-read : limitsRead v s ≡ entryIn v s .limits
   unfolding entryIn
-  limits-read = by-version (λ v. limitsRead v s ≡ entryIn v s .limits) refl refl refl refl v h k
+  limits-read = by-version (λ v. limitsRead v s ≡ entryIn v s .limits) refl refl refl refl refl v h k
 
   pub meters-read : metersRead v s ≡ entryIn v s .meters
   unfolding entryIn
-  meters-read = by-version (λ v. metersRead v s ≡ entryIn v s .meters) refl refl refl refl v h k
+  meters-read = by-version (λ v. metersRead v s ≡ entryIn v s .meters) refl refl refl refl refl v h k
 
   pub last-read : lastRead v s ≡ playerIn v s .last
   unfolding playerIn
-  last-read = by-version (λ v. lastRead v s ≡ playerIn v s .last) refl refl refl refl v h k
+  last-read = by-version (λ v. lastRead v s ≡ playerIn v s .last) refl refl refl refl refl v h k
 
   pub open-read : openRead v s ≡ playerIn v s .current
   unfolding playerIn
-  open-read = by-version (λ v. openRead v s ≡ playerIn v s .current) refl refl refl refl v h k
+  open-read = by-version (λ v. openRead v s ≡ playerIn v s .current) refl refl refl refl refl v h k
+
+  pub latest-read : record { player = added v 5 15 s; started = added v 5 19 s } ≡ latestOf (tailIn v s)
+  latest-read =
+      by-version (λ v. record { player = added v 5 15 s; started = added v 5 19 s } ≡ latestOf (tailIn v s)) refl refl refl refl refl v h k
 
   pub switch-read : added v 2 11 s ≡ getD (tailIn v s) 0 0
-  switch-read = by-version (λ v. added v 2 11 s ≡ getD (tailIn v s) 0 0) refl refl refl refl v h k
+  switch-read = by-version (λ v. added v 2 11 s ≡ getD (tailIn v s) 0 0) refl refl refl refl refl v h k
 
 -- ## What a version adds is there
 
-pub header-two : (v : ℕ) → 2 ≤ v → headerSize v ≡ 15
+pub header-two : (v : ℕ) → 2 ≤ v → 15 ≤ headerSize v
 unfolding headerSize
-header-two v h = rw (le-leb 2 v h)
+header-two v h = on-test (leb 5 v) (λ z. rw (z, le-leb 2 v h) (omega arith)) (λ z. rw (z, le-leb 2 v h) (omega arith))
+
+pub header-five : (v : ℕ) → 5 ≤ v → headerSize v ≡ 23
+unfolding headerSize
+header-five v h = let two : leb 2 v ≡ true = le-leb 2 v (omega arith) in rw (two, le-leb 5 v h)
 
 pub entry-two : (v : ℕ) → 2 ≤ v → 63 ≤ entrySize v
 unfolding entrySize
@@ -129,16 +142,16 @@ player-two v h = on-test (leb 3 v) (λ z. rw (z, le-leb 2 v h)) (λ z. rw (z, le
 module _ (v : ℕ) (h : 1 ≤ v) (k : v ≤ newest) where
   pub header-least : 11 ≤ headerSize v
   unfolding headerSize
-  header-least = by-version (λ v. 11 ≤ headerSize v) (omega arith) (omega arith) (omega arith) (omega arith) v h k
+  header-least = by-version (λ v. 11 ≤ headerSize v) (omega arith) (omega arith) (omega arith) (omega arith) (omega arith) v h k
 
   pub asset-least : 5 ≤ assetSize v
   unfolding assetSize
-  asset-least = by-version (λ v. 5 ≤ assetSize v) (omega arith) (omega arith) (omega arith) (omega arith) v h k
+  asset-least = by-version (λ v. 5 ≤ assetSize v) (omega arith) (omega arith) (omega arith) (omega arith) (omega arith) v h k
 
   pub entry-least : 51 ≤ entrySize v
   unfolding entrySize
-  entry-least = by-version (λ v. 51 ≤ entrySize v) (omega arith) (omega arith) (omega arith) (omega arith) v h k
+  entry-least = by-version (λ v. 51 ≤ entrySize v) (omega arith) (omega arith) (omega arith) (omega arith) (omega arith) v h k
 
   pub player-least : 24 + wider v ≤ playerSize v
   unfolding playerSize
-  player-least = by-version (λ v. 24 + wider v ≤ playerSize v) (omega arith) (omega arith) (omega arith) (omega arith) v h k
+  player-least = by-version (λ v. 24 + wider v ≤ playerSize v) (omega arith) (omega arith) (omega arith) (omega arith) (omega arith) v h k

@@ -17,6 +17,7 @@ use book::Book;
 use book::Entry;
 use book::LATEST_TIME;
 use book::Last;
+use book::Latest;
 use book::Limits;
 use book::Meters;
 use book::Open;
@@ -29,9 +30,9 @@ use image_pieces::entries_from;
 use image_pieces::entry_size;
 use image_pieces::header_size;
 use image_pieces::image_length;
-use image_pieces::marks_of;
 use image_pieces::player_size;
 use image_pieces::players_from;
+use rules::marks_of;
 
 // Code 0: the header is valid, and the book is what the bytes hold. Any other code: the book is blank.
 pub struct Parsed {
@@ -298,9 +299,15 @@ fn book_as(s: &[u8]) -> Book
     let entriesfrom = entries_from(v, assets);
     let playersfrom = players_from(v, assets, entries);
     let switch = added32(s, v, 2, HEADER_START);
+    let player = added32(s, v, 5, 15);
+    let started = added32(s, v, 5, 19);
     Book {
         time: read32(s, 7),
         switch: switch,
+        latest: Latest {
+            player: player,
+            started: started,
+        },
         assetcount: assets,
         entrycount: entries,
         assets: assets_in(s, v, assetsfrom, assets as usize),

@@ -3,12 +3,13 @@ use mathlib.Core.Path.{_≡_, refl}
 use Prim.Native.Nat.{ℕ}
 use mathlib.Core.List.{List, [], _∷_, _++_}
 use lib.ListN.{length}
-use Rattle.numbers.specs.Fields.{bits32, laidOut}
+use Rattle.numbers.specs.Fields.{Width, bits32, laidOut}
 use Rattle.book.specs.declared.Asset.{Asset}
 use Rattle.book.specs.declared.Limits.{Limits}
 use Rattle.book.specs.declared.Meters.{Meters}
 use Rattle.book.specs.declared.Entry.{Entry}
 use Rattle.book.specs.declared.Last.{Last}
+use Rattle.book.specs.declared.Latest.{Latest}
 use Rattle.book.specs.declared.Open.{Open}
 use Rattle.book.specs.declared.Player.{Player}
 use Rattle.book.specs.declared.Book.{Book}
@@ -42,10 +43,28 @@ pub number-length : (n : ℕ) → length (numberBytes n) ≡ 4
 unfolding numberBytes
 number-length n = refl
 
--- the start and the switch are the whole header
-pub header-pieces : (assets entries : ℕ) (b : Book) → startBytes assets entries (b .time) ++ numberBytes (b .switch)
-    ≡ headerBytes assets entries b
-unfolding startBytes numberBytes headerBytes
+-- the event taken last
+abbrev pub latestWidths : List Width
+latestWidths = bits32 ∷ bits32 ∷ []
+
+abbrev pub latestValues : Latest → List ℕ
+latestValues x = x .player ∷ x .started ∷ []
+
+unfoldable pub latestBytes : Latest → List ℕ
+latestBytes x = laidOut latestWidths (latestValues x)
+
+pub latest-shut : (x : Latest) → laidOut latestWidths (latestValues x) ≡ latestBytes x
+unfolding latestBytes
+latest-shut x = refl
+
+pub latest-length : (x : Latest) → length (latestBytes x) ≡ 8
+unfolding latestBytes
+latest-length x = refl
+
+-- the start, the switch and the event taken last are the whole header
+pub header-pieces : (assets entries : ℕ) (b : Book)
+    → startBytes assets entries (b .time) ++ numberBytes (b .switch) ++ latestBytes (b .latest) ≡ headerBytes assets entries b
+unfolding startBytes numberBytes latestBytes headerBytes
 header-pieces assets entries b = refl
 
 pub header-length : (assets entries : ℕ) (b : Book) → length (headerBytes assets entries b) ≡ headerSize newest

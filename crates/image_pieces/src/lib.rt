@@ -1,10 +1,9 @@
 // The layout of an image: the newest version, how many bytes each record has by version, and the pieces of a record as bytes: the
-// header, an asset, two pieces of an entry, two of a player, what version 2 adds to header, entry and player, and what version 4 adds
-// to an entry. Big-endian, each field in its place. Version 3 has 64 bits for a player's number, in its place.
+// header, an asset, two pieces of an entry, two of a player, what version 2 adds to header, entry and player, what version 4 adds to an
+// entry, and what version 5 adds to the header. Big-endian, each field in its place. Version 3 has 64 bits for a player's number, in its
+// place.
 // Each contract gives the whole array: the piece's values in its widths. A piece has few bytes, since the checker takes only some
 // fifty such casts in one literal; what a version adds to a record is a piece of its own.
-// Besides, the marks of an entry that follow from the open uses: the reader sets them for an older image, and rule 27 asks for them in
-// every image.
 ghost use mathlib.Core.Path.{_≡_};
 ghost use Prim.Native.Nat.{_*_, _≤_};
 ghost use mathlib.Core.List.{[], _∷_};
@@ -14,18 +13,17 @@ ghost use Rattle.image_pieces.specs.Sizes.{entriesAt, playersAt};
 ghost use Rattle.model.specs.Image.{newest, headerStart, startValues, assetWidths, assetValues, limitsWidths, limitsValues, metersWidths};
 ghost use Rattle.model.specs.Image.{metersValues, trackWidths, trackValues, groupWidths, groupValues, lastWidths, lastValues};
 ghost use Rattle.model.specs.Image.{openWidths, openValues};
-ghost use Rattle.model.specs.Book.{opens, marksOf};
+ghost use Rattle.image_pieces.specs.Pieces.{latestWidths, latestValues};
 use book::Asset;
 use book::Entry;
 use book::Last;
+use book::Latest;
 use book::Limits;
 use book::Meters;
 use book::Open;
-use book::Player;
-use numbers::pick32;
 
 // The version that is written. The reader knows it and all before it.
-pub const NEWEST: u16 = 4;
+pub const NEWEST: u16 = 5;
 
 // The bytes of each piece. The header begins in the same way in every version.
 pub const HEADER_START: usize = 11;
@@ -51,11 +49,17 @@ const TRACK: usize = 12;
 // What version 4 adds: threshold and marks of an entry.
 const GROUP: usize = 8;
 
+// What version 5 adds: the event taken last.
+const LATEST: usize = 8;
+
 // The bytes of a header, an asset, an entry and a player: the sum of the pieces that the version has.
 // Rules out: a piece left out, or one that the version lacks.
 pub fn header_size(v: u16) -> usize
     ensures { λ r. ⌜ (r ≡ headerSize v) × (r ≤ 200) ⌝ }
 {
+    if 5 <= v {
+        return HEADER_START + NUMBER + LATEST;
+    }
     if 2 <= v {
         return HEADER_START + NUMBER;
     }
@@ -282,6 +286,22 @@ pub fn number_bytes(n: u32) -> [u8; NUMBER]
     ]
 }
 
+// Rules out: the mark for the player.
+pub fn latest_bytes(x: Latest) -> [u8; LATEST]
+    ensures { λ r. ⌜ r ≡ laidOut latestWidths (latestValues x) ⌝ }
+{
+    [
+        (x.player / 16777216 % 256) as u8,
+        (x.player / 65536 % 256) as u8,
+        (x.player / 256 % 256) as u8,
+        (x.player % 256) as u8,
+        (x.started / 16777216 % 256) as u8,
+        (x.started / 65536 % 256) as u8,
+        (x.started / 256 % 256) as u8,
+        (x.started % 256) as u8,
+    ]
+}
+
 // Rules out: the timed value for the mark.
 pub fn track_bytes(l: Limits) -> [u8; TRACK]
     ensures { λ r. ⌜ r ≡ laidOut (trackWidths newest) (trackValues l) ⌝ }
@@ -318,32 +338,4 @@ pub fn group_bytes(e: Entry) -> [u8; GROUP]
         (m.marks / 256 % 256) as u8,
         (m.marks % 256) as u8,
     ]
-}
-
-// Whether a player's use is open and of entry i.
-// Rules out: true for a closed use, or for one of another entry.
-pub fn opens_entry(i: usize, o: Open) -> bool
-    ensures { λ r. ⌜ r ≡ opens i o ⌝ }
-{
-    let entry = o.entry as usize;
-    (o.on == 1) & (entry == i)
-}
-
-// The marks of entry i: bit p for a player p that has it open.
-// Rules out: the last player left out, the marks of another entry.
-pub fn marks_of(players: [Player; 16], i: usize) -> u32
-    ensures { λ r. ⌜ r ≡ marksOf players i ⌝ }
-{
-    let mut marks: u32 = 0;
-    let mut weight: u32 = 1;
-    let mut p: usize = 0;
-    while p < 16 {
-        let q = players[p];
-        let o = q.current;
-        let w = opens_entry(i, o);
-        marks = marks + pick32(w, weight, 0);
-        weight = weight * 2;
-        p = p + 1;
-    }
-    marks
 }

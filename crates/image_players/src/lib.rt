@@ -1,20 +1,24 @@
-// Reading an image, stage 26: the rules for players and the use that each may have open.
+// Reading an image, stage 26: the rules for players, the use that each may have open, and the event taken last.
 // Each function is defined for every value of its types, whether or not an image can hold it.
 ghost use mathlib.Core.Path.{_≡_};
 ghost use mathlib.Core.Bool.{cond};
 ghost use Rattle.model.specs.Book.{playerBlank, answerLegal, insideDates, insideInterval, contentLegal, useLegal, openLegal};
-ghost use Rattle.model.specs.Book.{playerLegal, playersLegal};
+ghost use Rattle.model.specs.Book.{playerLegal, playersLegal, startedLegal, latestLegal, latestPasses};
 use book::Answer;
 use book::Book;
 use book::Entry;
+use book::Latest;
 use book::Limits;
 use book::Meters;
 use book::Open;
 use book::Player;
 use book::at_most_64;
 use image_limits::asset_position;
+use numbers::ones;
+use numbers::saturating_sub;
 use rules::flags_of;
 use rules::grant_length;
+use rules::marks_of;
 
 fn pick(w: bool, a: bool, b: bool) -> bool
     ensures { λ r. ⌜ r ≡ cond w a b ⌝ }
@@ -46,7 +50,7 @@ fn answer_legal(n: usize, a: Answer) -> bool
     ensures { λ r. ⌜ r ≡ answerLegal n a ⌝ }
 {
     let entry = a.entry as usize;
-    ((a.code == 0) | ((10 <= a.code) & (a.code <= 15)) | (a.code == 43))
+    ((a.code == 0) | ((10 <= a.code) & (a.code <= 15)) | ((43 <= a.code) & (a.code <= 44)))
         & pick(a.code == 0, entry < n, (a.entry == 255) & (a.until == 0))
 }
 
@@ -144,4 +148,44 @@ pub fn players_legal(b: Book) -> bool
         i = i + 1;
     }
     legal
+}
+
+// Whether the use that the event taken last opened can have started its entry's interval. The entry has so many open uses.
+// Rules out: true for a closed use, for an entry without an interval, for a use begun after first, beside another open use.
+fn started_legal(uses: u32, e: Entry, o: Open) -> bool
+    ensures { λ r. ⌜ r ≡ startedLegal uses e o ⌝ }
+{
+    let l = e.limits;
+    let m = e.meters;
+    let f = flags_of(l);
+    (o.on == 1) & f.interval & (o.begin == m.first) & (uses == 1)
+}
+
+// The event taken last, of player p.
+// Rules out: true for a player above 16, for a player that has no event, for a mark above 1, for a mark without a player.
+fn latest_legal(x: Latest, uses: u32, e: Entry, p: Player) -> bool
+    ensures { λ r. ⌜ r ≡ latestLegal x uses e p ⌝ }
+{
+    let l = p.last;
+    let o = p.current;
+    (x.player <= 16)
+        & ((x.player == 0) | !(l.number == 0))
+        & (x.started <= 1)
+        & ((x.started == 0) | (!(x.player == 0) & started_legal(uses, e, o)))
+}
+
+// Rules out: the header's number taken as the player's, the open uses of another entry.
+pub fn latest_passes(b: Book) -> bool
+    ensures { λ r. ⌜ r ≡ latestPasses b ⌝ }
+{
+    let entries = b.entries;
+    let players = b.players;
+    let x = b.latest;
+    let i = saturating_sub(x.player, 1) as usize;
+    let p = book::player_at(players, i);
+    let o = p.current;
+    let k = o.entry as usize;
+    let e = book::entry_at(entries, k);
+    let uses = ones(marks_of(players, k));
+    latest_legal(x, uses, e, p)
 }

@@ -23,7 +23,7 @@ fn rule_broken(b: Book) -> u8
     if !image_limits::entries_legal(b) {
         return 25;
     }
-    if !((b.switch <= 1) & image_players::players_legal(b)) {
+    if !((b.switch <= 1) & image_players::players_legal(b) & image_players::latest_passes(b)) {
         return 26;
     }
     if !image_meters::meters_legal(b) {

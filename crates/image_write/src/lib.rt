@@ -7,13 +7,14 @@ ghost use Rattle.numbers.specs.Count.{joined};
 ghost use Rattle.numbers.specs.Buffer.{lay};
 ghost use Rattle.book.specs.Blank.{noEntry};
 ghost use mathlib.Core.List.{_++_};
-ghost use Rattle.image_pieces.specs.Pieces.{startBytes, numberBytes};
+ghost use Rattle.image_pieces.specs.Pieces.{startBytes, numberBytes, latestBytes};
 ghost use Rattle.model.specs.Book.{assetAt, playerAt};
 ghost use Rattle.model.specs.Image.{newest, headerSize, assetSize, entrySize, playerSize, assetBytes, entryBytes, playerBytes, imageLength};
 ghost use Rattle.model.specs.Image.{writeAnswer, writeBuffer};
 use book::Asset;
 use book::Book;
 use book::Entry;
+use book::Latest;
 use book::Player;
 use book::at_most_64;
 
@@ -31,15 +32,18 @@ fn put(buf: &mut [u8], at: usize, src: &[u8]) -> usize
 }
 
 // The header, and then one record of each sort: the bytes, and the end offset.
-fn put_header(buf: &mut [u8], assets: u8, entries: u8, time: u32, switch: u32) -> usize
+fn put_header(buf: &mut [u8], assets: u8, entries: u8, time: u32, switch: u32, x: Latest) -> usize
     requires { ⌜ headerSize newest ≤ length (now buf) ⌝ }
     ensures { λ r. ⌜ r ≡ headerSize newest ⌝ }
-    ensures { λ _. ⌜ now (buf .exit) ≡ lay (now (buf .entry)) 0 (startBytes assets entries time ++ numberBytes switch) ⌝ }
+    ensures { λ _. ⌜ now (buf .exit)
+        ≡ lay (now (buf .entry)) 0 (startBytes assets entries time ++ numberBytes switch ++ latestBytes x) ⌝ }
 {
     let start = image_pieces::header_bytes(assets, entries, time);
-    let tail = image_pieces::number_bytes(switch);
+    let metered = image_pieces::number_bytes(switch);
+    let latest = image_pieces::latest_bytes(x);
     let o = put(buf, 0, &start);
-    put(buf, o, &tail)
+    let o = put(buf, o, &metered);
+    put(buf, o, &latest)
 }
 
 fn put_asset(buf: &mut [u8], at: usize, a: Asset) -> usize
@@ -148,7 +152,8 @@ pub fn write(b: Book, buf: &mut [u8]) -> usize
     }
     let a = at_most_64(b.assetcount);
     let n = at_most_64(b.entrycount);
-    let o = put_header(buf, a as u8, n as u8, b.time, b.switch);
+    let x = b.latest;
+    let o = put_header(buf, a as u8, n as u8, b.time, b.switch, x);
     let ats = b.assets;
     let o = put_assets(buf, o, ats, a);
     let es = b.entries;

@@ -5,7 +5,7 @@ use xml_image::Imported;
 // One byte more than the longest text that the program takes: these bytes are enough to refuse a longer one.
 const TEXT: usize = 4194305;
 
-const IMAGE: usize = 5391;
+const IMAGE: usize = 5399;
 
 fn explain() {
     io::write_all(

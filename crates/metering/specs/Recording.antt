@@ -20,7 +20,7 @@ use Rattle.book.specs.declared.Book.{Book}
 use Rattle.book.specs.Blank.{noEntry, noPlayer}
 use Rattle.book.specs.declared.Answer.{Answer}
 use Rattle.book.specs.declared.Request.{Request}
-use Rattle.book.specs.declared.Request.the-variants.{Begin, Continue, Stop}
+use Rattle.book.specs.declared.Request.the-variants.{Begin, Continue, Stop, Cancel}
 use Rattle.model.specs.Book.{limitsAt, playerAt, assetsIn, assetPosition, inBook, momentary}
 use Rattle.model.specs.Record.{kindNumber}
 use Rattle.model.specs.Meters.{expired}
@@ -184,17 +184,20 @@ requestLine (Begin kind asset) a o switch l ats n =
     cond (eqb (a .code) 0 && momentary (kindNumber kind)) (lineFor switch l ats n asset) 64
 requestLine Continue a o switch l ats n = 64
 requestLine Stop a o switch l ats n = cond (eqb (a .code) 0) (lineFor switch l ats n (o .content)) 64
+requestLine Cancel a o switch l ats n = 64
 
 unfoldable pub requestSeconds : Request → ℕ → Open → ℕ
 requestSeconds (Begin kind asset) t o = 0
 requestSeconds Continue t o = 0
 requestSeconds Stop t o = t - o .begin
+requestSeconds Cancel t o = 0
 
 -- the entry of the use that it ends
 unfoldable pub requestEntry : Request → Open → Answer → ℕ
 requestEntry (Begin kind asset) o a = a .entry
 requestEntry Continue o a = o .entry
 requestEntry Stop o a = o .entry
+requestEntry Cancel o a = o .entry
 
 -- a line raised by the entry's limits
 module _ (b : Book) (ls : List Line) (x : Ended) where
@@ -225,6 +228,7 @@ module _ (b : Book) (ls : List Line) (t : ℕ) (o : Open) (a : Answer) where
       on-test (eqb (a .code) 0)
       (λ w. rw w (by-limits b ls (endedAt t o) k (e ∙ cond-on _ _ 64 w) h ∙ all-one b ls _))
       (λ w. absurd (omega (arith, h, e ∙ cond-off (eqb (a .code) 0) _ 64 w)))
+  request-raised Cancel k e h = absurd (omega (arith, h, e))
 
   pub request-kept : (q : Request) (k : ℕ) → k ≡ lineBy q → 64 ≤ k → ls ≡ recordedAll b ls (endedBy q t o a)
   unfolding requestLine requestEntry endedBy
@@ -239,6 +243,7 @@ module _ (b : Book) (ls : List Line) (t : ℕ) (o : Open) (a : Answer) where
       on-test (eqb (a .code) 0)
       (λ w. rw w (recorded-not b ls (endedAt t o) (omega (arith, h, e ∙ cond-on _ _ 64 w)) ∙ all-one b ls (endedAt t o)))
       (λ w. rw w (all-none b ls))
+  request-kept Cancel k e h = all-none b ls
 
   -- a refusal records nothing
   pub refused-kept : (q : Request) → eqb (a .code) 0 ≡ false → ls ≡ recordedAll b ls (endedBy q t o a)
@@ -246,12 +251,14 @@ module _ (b : Book) (ls : List Line) (t : ℕ) (o : Open) (a : Answer) where
   refused-kept (Begin kind asset) h = rw h (all-none b ls)
   refused-kept Continue h = all-none b ls
   refused-kept Stop h = rw h (all-none b ls)
+  refused-kept Cancel h = all-none b ls
 
   refused-line : (q : Request) (l : Limits) → eqb (a .code) 0 ≡ false → requestLine q a o (b .switch) l (b .assets) (b .assetcount) ≡ 64
   unfolding requestLine
   refused-line (Begin kind asset) l h = rw h refl
   refused-line Continue l h = refl
   refused-line Stop l h = rw h refl
+  refused-line Cancel l h = refl
 
   -- by what the code found: the limits l of the entry, if the request is granted, and the line k
   module _ (q : Request) (l : Limits) (k : ℕ) (hl : eqb (a .code) 0 ≡ true → l ≡ limitsAt (b .entries) (requestEntry q o a))

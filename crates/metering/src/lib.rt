@@ -124,7 +124,7 @@ pub fn record_due(b: Book, lines: [Line; 64], t: u32) -> [Line; 64]
 }
 
 // What the request itself records, answered with a: a granted stop ends the use, a granted momentary begin ends as it begins.
-// Rules out: a continue recorded, a refused stop recorded, a momentary use with seconds.
+// Rules out: a continue or a cancel recorded, a refused stop recorded, a momentary use with seconds.
 pub fn record_request(
     b: Book,
     lines: [Line; 64],
@@ -151,6 +151,7 @@ pub fn record_request(
                 lines
             }
         }
+        Request::Cancel => lines,
     }
 }
 
@@ -171,7 +172,7 @@ pub fn good_after(good: bool, y: Line) -> bool
 }
 
 // The line that a request raises, answered with a, if its entry has these limits; 64 if it raises none.
-// Rules out: a continue recorded, a refused stop recorded.
+// Rules out: a continue or a cancel recorded, a refused stop recorded.
 pub fn request_line(
     q: Request,
     a: Answer,
@@ -199,6 +200,7 @@ pub fn request_line(
                 64
             }
         }
+        Request::Cancel => 64,
     }
 }
 
@@ -211,5 +213,6 @@ pub fn request_seconds(q: Request, t: u32, o: Open) -> u32
         Request::Begin(_, _) => 0,
         Request::Continue => 0,
         Request::Stop => saturating_sub(t, o.begin),
+        Request::Cancel => 0,
     }
 }

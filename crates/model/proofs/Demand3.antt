@@ -8,8 +8,11 @@ pub mod History
 pub mod Gains
 pub mod Zeros
 pub mod Current
+pub mod Cancel
+pub mod Agrees
 pub mod Proof
 pub mod OneEntry
 pub mod Premises
 pub mod GroupPremises
+pub mod CancelPremises
 pub mod ReportPremises

@@ -9,6 +9,7 @@ pub mod LastMoments
 pub mod Thresholds
 pub mod Report
 pub mod AnswerCodes
+pub mod Cancels
 pub mod Printed
 pub mod Account
 pub mod Bounds

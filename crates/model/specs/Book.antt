@@ -15,8 +15,9 @@ use Rattle.book.specs.declared.Entry.{Entry}
 use Rattle.book.specs.declared.Answer.{Answer}
 use Rattle.book.specs.declared.Open.{Open}
 use Rattle.book.specs.declared.Player.{Player}
+use Rattle.book.specs.declared.Latest.{Latest}
 use Rattle.book.specs.declared.Book.{Book}
-use Rattle.book.specs.Blank.{noAsset, noMeters, noEntry, noPlayer}
+use Rattle.book.specs.Blank.{noAsset, noMeters, noEntry, noPlayer, noLatest}
 
 -- ## What is at a position
 
@@ -204,15 +205,16 @@ playerBlank p =
     && eqb (p .current .until) 0
     && eqb (p .current .content) 0
 
--- "request as for events": "operation (1 begin, 2 continue, 3 stop)"; "Kind is 1 to 5 for begin; asset and kind are 0 otherwise."
+-- "request as for events": "operation (1 begin, 2 continue, 3 stop)"; "Kind is 1 to 5 for begin; asset and kind are 0 otherwise.";
+-- order 8 of document 02: "Operation 4, with asset and kind 0", and "Number 1 no longer meets operation 4."
 unfoldable pub requestLegal : ℕ → ℕ → ℕ → Bool
 requestLegal operation asset kind =
     (eqb operation 1 && between 1 5 kind)
-    || (between 2 3 operation && eqb asset 0 && eqb kind 0)
+    || (between 2 4 operation && eqb asset 0 && eqb kind 0)
 
--- "code 0 or 10 to 15": the codes that a taken event leaves; "An added *taken* answer .. may be a stored code": 43
+-- "code 0 or 10 to 15": the codes that a taken event leaves; "An added *taken* answer .. may be a stored code": 43, 44
 unfoldable pub takenCode : ℕ → Bool
-takenCode c = eqb c 0 || between 10 15 c || eqb c 43
+takenCode c = eqb c 0 || between 10 15 c || between 43 44 c
 
 -- "entry a position if code 0, else entry 255 and until 0"; n entries
 unfoldable pub answerLegal : ℕ → Answer → Bool
@@ -279,6 +281,41 @@ playerPasses b p = playerLegal (b .time) (entriesIn b) (inBook b (p .current .co
 unfoldable pub playersLegal : Book → Bool
 playersLegal b = all (λ p. playerPasses b (playerAt (b .players) p)) 16
 
+-- whether the player has an open use of entry i
+unfoldable pub opens : ℕ → Open → Bool
+opens i o = eqb (o .on) 1 && eqb (o .entry) i
+
+-- how many players have an open use of entry i
+unfoldable pub openUses : List Player → ℕ → ℕ
+openUses ps i = sum (λ p. one (opens i (playerAt ps p .current))) 16
+
+-- the player of the event taken last
+abbrev pub latestPlayer : Book → Player
+latestPlayer b = playerAt (b .players) (b .latest .player - 1)
+
+-- Order 8 of document 02: "whether that event opened a use that started an interval; .. this needs its use to be an interval entry's only
+-- open one, begun at first". The use is o, of entry e, which has so many open uses.
+unfoldable pub startedLegal : ℕ → Entry → Open → Bool
+startedLegal uses e o =
+    eqb (o .on) 1
+    && flagged intervalFlag (e .limits)
+    && eqb (o .begin) (e .meters .first)
+    && eqb uses 1
+
+-- "The header keeps the player last taken, plus 1, 0 for none"; "on reading that player's number is not 0". That player is p.
+unfoldable pub latestLegal : Latest → ℕ → Entry → Player → Bool
+latestLegal x uses e p =
+    leb (x .player) 16
+    && (eqb (x .player) 0 || not (eqb (p .last .number) 0))
+    && leb (x .started) 1
+    && (eqb (x .started) 0 || (not (eqb (x .player) 0) && startedLegal uses e (p .current)))
+
+-- the event taken last of a book
+unfoldable pub latestPasses : Book → Bool
+latestPasses b =
+    latestLegal (b .latest) (openUses (b .players) (latestPlayer b .current .entry)) (openEntry (b .entries) (latestPlayer b))
+    (latestPlayer b)
+
 -- ## 27, meters
 
 -- "no meter above its limit, unflagged meters 0"
@@ -293,18 +330,11 @@ startLegal time l m =
     && (eqb (m .started) 1 || eqb (m .first) 0)
     && leb (m .first) time
 
--- whether the player has an open use of entry i
-unfoldable pub opens : ℕ → Open → Bool
-opens i o = eqb (o .on) 1 && eqb (o .entry) i
-
--- "the entry's open uses", and "their until − begin summed"
-unfoldable pub openUses : List Player → ℕ → ℕ
-openUses ps i = sum (λ p. one (opens i (playerAt ps p .current))) 16
-
 -- the seconds from a use's begin to its until
 abbrev pub lasts : Open → ℕ
 lasts o = o .until - o .begin
 
+-- of the entry's open uses "their until − begin summed"
 unfoldable pub openSeconds : List Player → ℕ → ℕ
 openSeconds ps i = sum (λ p. cond (opens i (playerAt ps p .current)) (lasts (playerAt ps p .current)) 0) 16
 
@@ -345,7 +375,7 @@ unfoldable pub ruleBroken : Book → ℕ
 ruleBroken b =
     cond (not (assetsLegal b)) 24
     (cond (not (entriesLegal b)) 25
-    (cond (not (switchLegal b && playersLegal b)) 26
+    (cond (not (switchLegal b && playersLegal b && latestPasses b)) 26
     (cond (not (metersLegal b)) 27
     0)))
 
@@ -361,8 +391,9 @@ pub record Legal (b : Book) : Type 0 where
   pub entriesBlank : (i : ℕ) → b .entrycount ≤ i → getD (b .entries) i noEntry ≡ noEntry
   pub rules : ruleBroken b ≡ 0
 
--- "In a fresh book the time, all meters, all player records ... are 0."
+-- "In a fresh book the time, all meters, all player records and every field that a request adds for players' events to write are 0."
 pub record Fresh (b : Book) : Type 0 where
   pub time : b .time ≡ 0
   pub meters : (i : ℕ) → metersAt (b .entries) i ≡ noMeters
   pub players : (p : ℕ) → playerAt (b .players) p ≡ noPlayer
+  pub latest : b .latest ≡ noLatest

@@ -4,11 +4,12 @@
 -- 02), and of every list of numbers as a record. It is proved in `proofs/Demand1`. This file imports no proofs. What a record says and the
 -- checks before an event is taken are stated here a second time, in terms of byte positions and numbers. Of the rules only the step itself
 -- and the settling of entries are used.
--- Which of 10 to 15 and 43 a taken event gets, which entry a begin gets, until when, and what that entry's meters become, is stated by
--- `Demand3`, in terms of the ledger.
+-- Which of 10 to 15, 43 and 44 a taken event gets, which entry a begin gets and until when is stated by `Demand3`, in terms of the ledger,
+-- and what the meters become by `Agrees`.
 use mathlib.Core.Path.{_≡_}
 use mathlib.Core.Logic.{_↔_, _⊎_}
 use Prim.Native.Nat.{ℕ, _+_, _*_, _≤_, _<_}
+use mathlib.Core.Bool.{true}
 use mathlib.Core.List.{List}
 use lib.ListN.{length, getD}
 use Rattle.book.specs.declared.Answer.{Answer}
@@ -19,7 +20,7 @@ use Rattle.book.specs.declared.Line.{Line}
 use Rattle.book.specs.declared.Book.{Book}
 use Rattle.book.specs.declared.Outcome.{Outcome}
 use Rattle.book.specs.Blank.{noEntry, closed}
-use Rattle.model.specs.Book.{assetAt, assetsIn, limitsAt, playerAt, Legal}
+use Rattle.model.specs.Book.{assetAt, assetsIn, limitsAt, metersAt, playerAt, flagged, intervalFlag, Legal}
 use Rattle.model.specs.Image.{newest, versionIn, imageAs, readCode, SaidBy, Bytes}
 use Rattle.model.specs.Meters.{settled}
 use Rattle.model.specs.Report.{lineAt, receive, linesLeft, lent}
@@ -64,6 +65,8 @@ pub data LegalRequest (operation asset kind : ℕ) : Type 0 where
   begin : operation ≡ 1 → 1 ≤ kind → kind ≤ 5 → LegalRequest operation asset kind
   continue : operation ≡ 2 → asset ≡ 0 → kind ≡ 0 → LegalRequest operation asset kind
   stop : operation ≡ 3 → asset ≡ 0 → kind ≡ 0 → LegalRequest operation asset kind
+  -- order 8: "Operation 4, with asset and kind 0"
+  cancel : operation ≡ 4 → asset ≡ 0 → kind ≡ 0 → LegalRequest operation asset kind
 
 -- the record is an event: it passes the checks 6, 2 and 1
 pub record IsEvent (s : List ℕ) : Type 0 where
@@ -165,13 +168,18 @@ pub data Verdict (b : Book) (ls : List Line) (s : List ℕ) : Type 0 where
 
 -- ## What a taken event leaves
 
--- "Each of 1 to 15 returns entry 255 and until 0."; order 3: "30 255 0"; 43 is "an added *taken* answer", which "returns 255 and 0"
+-- "Each of 1 to 15 returns entry 255 and until 0."; order 3: "30 255 0"; 43 and 44 are each "an added *taken* answer", which "returns 255
+-- and 0"
 abbrev pub refused : ℕ → Answer
 refused code = record { code = code; entry = 255; until = 0 }
 
--- 0, or a code that the table or order 3 calls taken
+-- what orders of document 02 add: 43 (order 3) and 44 (order 8)
+abbrev pub AddedCode : ℕ → Type 0
+AddedCode code = (43 ≤ code) × (code ≤ 44)
+
+-- 0, or a code that the table or an order calls taken
 abbrev pub TakenCode : ℕ → Type 0
-TakenCode code = (code ≡ 0) ⊎ ((10 ≤ code) × (code ≤ 15)) ⊎ (code ≡ 43)
+TakenCode code = (code ≡ 0) ⊎ ((10 ≤ code) × (code ≤ 15)) ⊎ AddedCode code
 
 -- "each open use of any player with until ≤ t ends": a player's open use before and after
 pub record Settles (t : ℕ) (old new : Open) : Type 0 where
@@ -209,6 +217,17 @@ pub record Opens (b : Book) (s : List ℕ) (o : Outcome) : Type 0 where
         content = asker b s .current .content;
       }
   pub stopped : askedOperation s ≡ 3 → asker (o .book) s .current ≡ closed
+  -- order 8: "the use closes"
+  pub cancelled : askedOperation s ≡ 4 → asker (o .book) s .current ≡ closed
+
+-- order 8: "that event opened a use that started an interval": a begin that was granted, of a kind that opens a use, on an entry with an
+-- interval that had not started before
+pub record StartedInterval (b : Book) (s : List ℕ) (a : Answer) : Type 0 where
+  pub begin : askedOperation s ≡ 1
+  pub granted : a .code ≡ 0
+  pub opening : askedKind s ≤ 3
+  pub interval : flagged intervalFlag (limitsAt (b .entries) (a .entry)) ≡ true
+  pub new : metersAt (settledEntries b s) (a .entry) .started ≡ 1 → ⊥
 
 -- What a taken event leaves. In the program a book has 16 players by its type; here a list may have any length.
 pub record Stored (b : Book) (s : List ℕ) (o : Outcome) : Type 0 where
@@ -217,6 +236,10 @@ pub record Stored (b : Book) (s : List ℕ) (o : Outcome) : Type 0 where
       record { number = askedNumber s; operation = askedOperation s; asset = askedAsset s; kind = askedKind s; answer = o .answer }
   -- "the book's time becomes t"
   pub time : o .book .time ≡ askedTime s
+  -- order 8: "The header keeps the player last taken, plus 1, .. and whether that event opened a use that started an interval" (1, else 0)
+  pub player : o .book .latest .player ≡ askedPlayer s + 1
+  pub started : o .book .latest .started ≡ 1 ↔ StartedInterval b s (o .answer)
+  pub mark : o .book .latest .started ≤ 1
   -- "One player's record is settled on its own, the others untouched."
   pub lasts : (p : ℕ) → (p ≡ askedPlayer s → ⊥) → playerAt (o .book .players) p .last ≡ playerAt (b .players) p .last
   pub currents : (p : ℕ) → (p ≡ askedPlayer s → ⊥)
@@ -229,7 +252,7 @@ pub record Stored (b : Book) (s : List ℕ) (o : Outcome) : Type 0 where
   pub limits : (i : ℕ) → limitsAt (o .book .entries) i ≡ limitsAt (b .entries) i
   pub entrySlots : length (o .book .entries) ≡ length (b .entries)
   pub playerSlots : length (o .book .players) ≡ length (b .players)
-  -- the answer: 0, which changes no entry but the one it names, or one of 10 to 15 or 43, which changes none
+  -- the answer: 0, which changes no entry but the one it names, or one of 10 to 15, 43 or 44, which changes none
   pub code : TakenCode (o .answer .code)
   pub grants : o .answer .code ≡ 0 → (i : ℕ) → (i ≡ o .answer .entry → ⊥)
       → getD (o .book .entries) i noEntry ≡ getD (settledEntries b s) i noEntry
@@ -238,9 +261,9 @@ pub record Stored (b : Book) (s : List ℕ) (o : Outcome) : Type 0 where
 
 -- ## The demand
 
--- 0 to 6, 10 to 15, 30 and 43
+-- 0 to 6, 10 to 15, 30, 43 and 44
 abbrev pub TableCode : ℕ → Type 0
-TableCode code = (code ≤ 6) ⊎ ((10 ≤ code) × (code ≤ 15)) ⊎ (code ≡ 30) ⊎ (code ≡ 43)
+TableCode code = (code ≤ 6) ⊎ ((10 ≤ code) × (code ≤ 15)) ⊎ (code ≡ 30) ⊎ AddedCode code
 
 -- a record on a book
 pub record Answered (b : Book) (ls : List Line) (s : List ℕ) : Type 0 where

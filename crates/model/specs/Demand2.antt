@@ -25,7 +25,8 @@ pub record Demand2 : Type 0 where
   pub readsAs : (held b : Book) (v : ℕ) → 1 ≤ v → v ≤ newest → Legal b → SaidBy v b
       → (readCode (imageAs v b) ≡ 0) × (readBook held (imageAs v b) ≡ b)
   -- "Older images have those fields 0": what is read from one is what its version can say. One of version 1 gives no switch, no entry a
-  -- track and no open use a content, one of version 1 or 2 no number above 4,294,967,295, and one of versions 1 to 3 no threshold.
+  -- track and no open use a content, one of version 1 or 2 no number above 4,294,967,295, one of versions 1 to 3 no threshold, and
+  -- one of versions 1 to 4 no event taken last.
   pub said : (held : Book) (s : List ℕ) → Bytes s → readCode s ≡ 0 → SaidBy (versionIn s) (readBook held s)
   -- "Older images .. are written back as the newest version, reading as the same book": true of every accepted image
   pub olderSame : (held next : Book) (s : List ℕ) → Bytes s → readCode s ≡ 0
@@ -38,8 +39,8 @@ pub record Demand2 : Type 0 where
   pub refusedKeeps : (held : Book) (s : List ℕ) → (readCode s ≡ 0 → ⊥) → readBook held s ≡ held
   -- "The writer fills that many bytes, no more, and returns the length."
   pub writtenLength : (b : Book) → length (image b) ≡ lengthOf b
-  -- "Length 11 + 5A + 51P + 384, at most 3,979", with 4, 20 and 8 bytes more in header, entry and player: never the 30 of a refusal
-  pub lengthBounds : (b : Book) → (527 ≤ lengthOf b) × (lengthOf b ≤ 5391)
+  -- "Length 11 + 5A + 51P + 384, at most 3,979", with 12, 20 and 8 bytes more in header, entry and player: never the 30 of a refusal
+  pub lengthBounds : (b : Book) → (535 ≤ lengthOf b) × (lengthOf b ≤ 5399)
   -- the bytes filled are the image, and those after them are unchanged
   pub written : (b : Book) (old : List ℕ) → lengthOf b ≤ length old → take (writeAnswer b (length old)) (writeBuffer b old) ≡ image b
   pub behindKept : (b : Book) (old : List ℕ) → lengthOf b ≤ length old

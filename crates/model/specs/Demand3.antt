@@ -2,7 +2,7 @@
 -- of document 02). It is proved in `proofs/Demand3`.
 -- This file imports no proofs. The rules are used here only where document 01 says so ("with the ledger's figures for the meters");
 -- the checks before an event is taken, which of 10 to 13 and 43 a begin is answered, suitable, the grounds against an entry, the order of
--- the choice, until, and what a continue and a stop are answered are stated a second time, worded separately.
+-- the choice, until, and what a continue, a stop and a cancel are answered are stated a second time, worded separately.
 use mathlib.Core.Path.{_≡_}
 use mathlib.Core.Logic.{_↔_, _⊎_}
 use Prim.Native.Nat.{ℕ, suc, _+_, _-_, _≤_, _<_}
@@ -23,7 +23,8 @@ use Rattle.book.specs.declared.Book.{Book}
 use Rattle.book.specs.declared.Event.{Event}
 use Rattle.book.specs.declared.Kind.{Kind}
 use Rattle.book.specs.declared.Kind.the-variants.{Play, Display, Execute, Print, Export}
-use Rattle.book.specs.declared.Request.the-variants.{Begin, Continue, Stop}
+use Rattle.book.specs.declared.Recent.{Recent}
+use Rattle.book.specs.declared.Request.the-variants.{Begin, Continue, Stop, Cancel}
 use Rattle.book.specs.declared.Decoded.{Decoded}
 use Rattle.book.specs.declared.Decoded.the-variants.{Invalid, Valid}
 use Rattle.book.specs.declared.Gate.{Gate}
@@ -31,7 +32,7 @@ use Rattle.book.specs.declared.Gate.the-variants.{Refuse, Resend, Take}
 use Rattle.book.specs.Blank.{noLast, closed}
 use Rattle.model.specs.Book.{assetAt, limitsAt, metersAt, assetsIn, entriesIn, flagged}
 use Rattle.model.specs.Book.{countFlag, timedFlag, startFlag, endFlag, intervalFlag, accumulatedFlag}
-use Rattle.model.specs.Record.{kindNumber, decoded}
+use Rattle.model.specs.Record.{kindNumber, operationNumber, decoded}
 use Rattle.model.specs.Meters.{where-flagged}
 use Rattle.model.specs.Choice.{catalogOf, Choice, nobody, chosen, asks, choose, noneGrantable, grantUntil}
 use Rattle.model.specs.Step.{done, refusal, noted, step, arrive}
@@ -386,6 +387,48 @@ pub record Stops (s : State) (e : Event) : Type 0 where
   pub nothing : RefusedWhen (NothingOpen (e .time) (e .player) (s .account .uses)) 14 (step (s .book) e .answer)
   pub halted : (NothingOpen (e .time) (e .player) (s .account .uses) → ⊥) → Halted s e (step (s .book) e .answer)
 
+-- ## e2. What a cancel is answered
+
+-- the last event taken from any player was a granted begin
+pub record LastBegin (s : State) : Type 0 where
+  pub last : Taken
+  pub earlier : List Taken
+  pub is-last : s .account .taken ≡ last ∷ earlier
+  pub kind : Kind
+  pub asset : ℕ
+  pub begin : last .event .request ≡ Begin kind asset
+  pub granted : last .answer .code ≡ 0
+
+-- Order 8 of document 02: "the last event taken from any player was this player's granted begin of a use still open"
+pub record JustBegun (s : State) (e : Event) : Type 0 where
+  pub begun : LastBegin s
+  pub player : begun .last .event .player ≡ e .player
+  pub current : Use
+  pub is-current : IsCurrent (e .time) (e .player) (s .account .uses) current
+
+-- the use u is the one that x, a granted begin for an asset, added, and is as it was then
+pub record AddedBy (x : Taken) (asset : ℕ) (u : Use) : Type 0 where
+  pub entry : u .entry ≡ x .answer .entry
+  pub player : u .player ≡ x .event .player
+  pub begin : u .begin ≡ x .event .time
+  pub until : u .until ≡ x .answer .until
+  pub stopped : u .stopped ≡ false
+  pub content : u .content ≡ asset
+
+-- "The answer is 0, the entry and the use's begin. The ledger drops the use.": it is the ledger's newest, which that begin had added, and
+-- the uses left are those before it
+pub record TakenBack (s : State) (e : Event) (j : JustBegun s e) (a : Answer) : Type 0 where
+  pub answer : a ≡ record { code = 0; entry = j .current .entry; until = j .current .begin }
+  pub added : AddedBy (j .begun .last) (j .begun .asset) (j .current)
+  pub dropped : s .account .uses ≡ j .current ∷ noteArrival (s .account) (Valid e) a .uses
+
+-- "14 if nothing is open, then 44, taken, if another event was taken since or it was no such begin", otherwise as above
+pub record Cancels (s : State) (e : Event) : Type 0 where
+  pub nothing : RefusedWhen (NothingOpen (e .time) (e .player) (s .account .uses)) 14 (step (s .book) e .answer)
+  pub since : RefusedWhen ((NothingOpen (e .time) (e .player) (s .account .uses) → ⊥) × (JustBegun s e → ⊥)) 44 (step (s .book) e .answer)
+  pub back : (j : JustBegun s e) → TakenBack s e j (step (s .book) e .answer)
+  pub granted : (step (s .book) e .answer .code ≡ 14 → ⊥) → (step (s .book) e .answer .code ≡ 44 → ⊥) → JustBegun s e
+
 -- ## f. Resends struck out
 
 abbrev pub readResend : Account → Decoded → Bool
@@ -422,12 +465,26 @@ lastBy (some x) = noted (x .event) (x .answer)
 abbrev pub lastOf : ℕ → List Taken → Last
 lastOf p taken = lastBy (latestTaken p taken)
 
+-- whether the event is a granted begin
+abbrev pub grantedBegin : Taken → Bool
+grantedBegin x = eqb (operationNumber (x .event .request)) 1 && eqb (x .answer .code) 0
+
+-- whether the last event taken from any player is the player's granted begin
+abbrev pub begunLast : ℕ → List Taken → Bool
+begunLast p [] = false
+begunLast p (x ∷ xs) = eqb (x .event .player) p && grantedBegin x
+
+-- what a cancel reads of it; no answer depends on whether it started an interval
+abbrev pub recentBy : ℕ → List Taken → Recent
+recentBy p taken = record { begun = begunLast p taken; started = false }
+
 -- the answer from the account, given the result of the checks
 unfoldable pub predictBy : Gate → Book → Account → Event → Answer
 predictBy (Refuse code) b a e = refusal code
 predictBy Resend b a e = lastOf (e .player) (a .taken) .answer
 predictBy Take b a e =
-    done (e .request) (catalogOf b) (filled (e .time) (a .uses) (b .entries)) (heldIn (e .time) (e .player) (a .uses)) (asks b e) .answer
+    done (e .request) (catalogOf b) (filled (e .time) (a .uses) (b .entries)) (heldIn (e .time) (e .player) (a .uses)) (asks b e)
+    (recentBy (e .player) (a .taken)) .answer
 
 -- the answer from the account; b is read only for what no event changes: switch, assets, limits, counts
 unfoldable pub predict : Book → Account → Decoded → Answer
@@ -551,6 +608,7 @@ pub record Demand3 (b : Book) : Type 0 where
   pub continues : (xs : List Arrival) (e : Event) → e .request ≡ Continue → Takes (after (starting b) xs) e → Continues
       (after (starting b) xs) e
   pub stops : (xs : List Arrival) (e : Event) → e .request ≡ Stop → Takes (after (starting b) xs) e → Stops (after (starting b) xs) e
+  pub cancels : (xs : List Arrival) (e : Event) → e .request ≡ Cancel → Takes (after (starting b) xs) e → Cancels (after (starting b) xs) e
   pub struckAnswers : (xs : List Arrival) → answers b (struck (starting b) xs) ≡ kept (starting b) xs
   pub struckBook : (xs : List Arrival) → final b (struck (starting b) xs) ≡ final b xs
   pub predictable : (xs : List Arrival) → answers b xs ≡ predicted b empty xs

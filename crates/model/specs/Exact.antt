@@ -10,8 +10,13 @@
 --   ended        used timed - 1               settling, a stop    ExactEnd.timed
 --   ended        u - e                        settling, a stop    ExactEnd.counted
 --   ended        used seconds - (u - e)       settling, a stop    ExactEnd.seconds
+--   cancelled    used count - 1               a cancel            ExactCancel.count
+--   cancelled    used timed - 1               a cancel            ExactCancel.timed
+--   cancelled    u - b                        a cancel            ExactCancel.begun
+--   cancelled    used seconds - (u - b)       a cancel            ExactCancel.seconds
+--   lasts        until - begin                the meter rules     Exact.lasts
+--   latestPlayer latest.player - 1            the header's rule   Exact.nobody
 --
--- `Book` has one, until - begin of an open use (`lasts`), which the meter rules sum: Exact.lasts.
 -- `Report` has one, the end - begin of a use that ends (ExactEnd.begun), and a sum that stops at 2 to the 64 less 1: Exact.sums.
 -- Statements only; proved in `proofs/Legal/Exact`.
 use Prim.Native.Nat.{ℕ, suc, _+_, _-_, _≤_, _<_}
@@ -21,19 +26,21 @@ use mathlib.Core.List.{List, _∷_, _++_, map}
 use lib.ListN.{take}
 use Rattle.book.specs.declared.Entry.{Entry}
 use Rattle.book.specs.declared.Open.{Open}
+use Rattle.book.specs.declared.Player.{Player}
+use Rattle.book.specs.declared.Latest.{Latest}
 use Rattle.book.specs.declared.Line.{Line}
 use Rattle.book.specs.declared.Book.{Book}
 use Rattle.book.specs.declared.Event.{Event}
 use Rattle.book.specs.declared.Gate.the-variants.{Take}
-use Rattle.model.specs.Book.{limitsAt, metersAt, flagged, playersLegal, Legal}
-use Rattle.model.specs.Book.{timedFlag, accumulatedFlag}
+use Rattle.model.specs.Book.{limitsAt, metersAt, flagged, playersLegal, latestLegal, Legal}
+use Rattle.model.specs.Book.{countFlag, timedFlag, accumulatedFlag}
 use Rattle.model.specs.Meters.{isOn, expired, shut, released, settled}
 use Rattle.model.specs.Gate.{gate}
 use Rattle.model.specs.Choice.{asks, catalogOf, chosen, choose, grantUntil}
 use Rattle.model.specs.Step.{more, lastAt, openAt}
 use Rattle.model.specs.Report.{lineAt, good, Ended, recordedAll, endings}
 
--- ## What is claimed of a use's end, of a begin, of a continue
+-- ## What is claimed of a use's end, of a begin, of a continue, of a cancel
 
 -- the use o ends at e, with entries es: whatever goes back has been counted before
 pub record ExactEnd (e : ℕ) (es : List Entry) (o : Open) : Type 0 where
@@ -52,6 +59,13 @@ pub record ExactContinue (t : ℕ) (es : List Entry) (o : Open) : Type 0 where
   pub unused : flagged accumulatedFlag (limitsAt es (o .entry)) ≡ true
       → metersAt es (o .entry) .seconds ≤ limitsAt es (o .entry) .accumulated
   pub notBelow : o .until ≤ more es o t
+
+-- the open use o is taken back: whatever is taken off has been counted before
+pub record ExactCancel (es : List Entry) (o : Open) : Type 0 where
+  pub begun : o .begin ≤ o .until
+  pub count : flagged countFlag (limitsAt es (o .entry)) ≡ true → 1 ≤ metersAt es (o .entry) .count
+  pub timed : flagged timedFlag (limitsAt es (o .entry)) ≡ true → 1 ≤ metersAt es (o .entry) .timed
+  pub seconds : flagged accumulatedFlag (limitsAt es (o .entry)) ≡ true → o .until - o .begin ≤ metersAt es (o .entry) .seconds
 
 -- the line has room for the use that ended
 pub record ExactLine (l : Line) (x : Ended) : Type 0 where
@@ -92,9 +106,13 @@ pub record Exact : Type 0 where
       → ExactContinue (e .time) (atRequest b e) (asking b e)
   pub stop : (b : Book) (e : Event) → Legal b → Taken b e → isOn (asking b e) ≡ true
       → ExactEnd (e .time) (atRequest b e) (asking b e)
+  pub cancel : (b : Book) (e : Event) → Legal b → Taken b e → isOn (asking b e) ≡ true → ExactCancel (atRequest b e) (asking b e)
   -- in a book that meets the player rules, no open use ends before it begins
   pub lasts : (b : Book) (p : ℕ) → playersLegal b ≡ true → p < 16 → isOn (openAt (b .players) p) ≡ true
       → openAt (b .players) p .begin ≤ openAt (b .players) p .until
+  -- where no event was taken, the header's rule reads no player, nor an entry or its open uses
+  pub nobody : (x : Latest) (uses uses′ : ℕ) (e e′ : Entry) (p p′ : Player) → x .player ≡ 0
+      → latestLegal x uses e p ≡ latestLegal x uses′ e′ p′
   -- with a good list, no line comes near 2 to the 64: what an event records is added in full, whatever was recorded before
   pub sums : (b : Book) (e : Event) (ls : List Line) (done left : List Ended) (x : Ended) (k : ℕ) → Legal b → Taken b e → good b ls ≡ true
       → endings b e ≡ done ++ x ∷ left → ExactLine (lineAt (recordedAll b ls done) k) x

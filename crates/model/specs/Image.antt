@@ -24,7 +24,7 @@ use Rattle.model.specs.Book.{assetAt, playerAt, assetsIn, entriesIn, lat
 
 -- the version that is written
 abbrev pub newest : ℕ
-newest = 4
+newest = 5
 
 -- "Mark `RBK`, version 16 bits (1), asset and entry numbers (8 each), book time 32.": the same in every version
 abbrev pub headerStart : List Width
@@ -35,15 +35,15 @@ headerStart = bits8 ∷ bits8 ∷ bits8 ∷ bits16 ∷ bits8 ∷ bits8 ∷ bits3
 abbrev pub since : ℕ → List Width → ℕ → List Width
 since first ws v = cond (leb first v) ws []
 
--- order 3: the switch
+-- order 3: the switch; order 8: the player last taken, plus 1, and whether that event opened a use that started an interval
 abbrev pub headerTail : ℕ → List Width
-headerTail v = since 2 (bits32 ∷ []) v
+headerTail v = since 2 (bits32 ∷ []) v ++ since 5 (bits32 ∷ bits32 ∷ []) v
 
 abbrev pub headerWidths : ℕ → List Width
 headerWidths v = headerStart ++ headerTail v
 
 abbrev pub tailValues : Book → List ℕ
-tailValues b = b .switch ∷ []
+tailValues b = b .switch ∷ b .latest .player ∷ b .latest .started ∷ []
 
 abbrev pub startValues : ℕ → ℕ → ℕ → ℕ → List ℕ
 startValues v assets entries time = 82 ∷ 66 ∷ 75 ∷ v ∷ assets ∷ entries ∷ time ∷ []
@@ -186,7 +186,8 @@ unfoldable pub playerSize : ℕ → ℕ
 playerSize v = size (playerWidths v)
 
 -- "Length 11 + 5A + 51P + 384, at most 3,979." in version 1; in version 2 it is 15 + 5A + 63P + 448, at most
--- 4,815, in version 3 15 + 5A + 63P + 512, at most 4,879, in version 4 15 + 5A + 71P + 512, at most 5,391
+-- 4,815, in version 3 15 + 5A + 63P + 512, at most 4,879, in version 4 15 + 5A + 71P + 512, at most 5,391, in version 5
+-- 23 + 5A + 71P + 512, at most 5,399
 unfoldable pub imageLength : ℕ → ℕ → ℕ → ℕ
 imageLength v assets entries =
     headerSize v + assetSize v * assets + entrySize v * entries + playerSize v * 16
@@ -289,6 +290,7 @@ unfoldable pub bookAs : ℕ → List ℕ → Book
 bookAs v s = record {
   time = timeIn s;
   switch = getD (tailIn v s) 0 0;
+  latest = record { player = getD (tailIn v s) 1 0; started = getD (tailIn v s) 2 0 };
   assetcount = assetCountIn s;
   entrycount = entryCountIn s;
   assets = assetTable v s (headerSize v) (assetCountIn s);
@@ -316,7 +318,7 @@ markedEntries ps es n = listed (λ i. withMarks (marksOf ps i) (getD es i noEntr
 
 -- order 7: "Older images get marks set from their open uses." They are set before the rules are judged; 24 to 26 do not look at them.
 unfoldable pub marked : ℕ → Book → Book
-marked v b = cond (leb 4 v) b (changed b (b .time) (markedEntries (b .players) (b .entries) (entriesIn b)) (b .players))
+marked v b = cond (leb 4 v) b (changed b (b .time) (b .latest) (markedEntries (b .players) (b .entries) (entriesIn b)) (b .players))
 
 -- "Older images have those fields 0", but for the marks: the book by the layout of the image's own version
 unfoldable pub bookIn : List ℕ → Book

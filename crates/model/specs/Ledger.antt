@@ -12,7 +12,7 @@ use Rattle.book.specs.declared.Limits.{Limits}
 use Rattle.book.specs.declared.Answer.{Answer}
 use Rattle.book.specs.declared.Event.{Event}
 use Rattle.book.specs.declared.Request.{Request}
-use Rattle.book.specs.declared.Request.the-variants.{Begin, Continue, Stop}
+use Rattle.book.specs.declared.Request.the-variants.{Begin, Continue, Stop, Cancel}
 use Rattle.book.specs.declared.Decoded.{Decoded}
 use Rattle.book.specs.declared.Decoded.the-variants.{Invalid, Valid}
 use Rattle.model.specs.Book.{flagged}
@@ -62,10 +62,11 @@ repeats e (some x) =
 unfoldable pub resent : Account → Event → Bool
 resent a e = repeats e (latestTaken (e .player) (a .taken))
 
--- "its answer is 0 or one that the table or a request calls taken"; order 3: "43, taken"
+-- "its answer is 0 or one that the table or a request calls taken"; order 3: "43, taken"; order 8: "44, taken"
 unfoldable pub calledTaken : ℕ → Bool
 calledTaken code =
     eqb code 0 || eqb code 10 || eqb code 11 || eqb code 12 || eqb code 13 || eqb code 14 || eqb code 15 || eqb code 43
+    || eqb code 44
 
 -- "T = the t of the latest taken one (0 if none)"
 unfoldable pub timeOf : List Taken → ℕ
@@ -92,13 +93,29 @@ goOn v u = record { entry = u .entry; player = u .player; begin = u .begin; unti
 abbrev pub stopAt : ℕ → Use → Use
 stopAt t u = record { entry = u .entry; player = u .player; begin = u .begin; until = t; stopped = true; content = u .content }
 
+-- the uses without the player's latest
+unfoldable pub without : ℕ → List Use → List Use
+without p [] = []
+without p (u ∷ us) = cond (eqb (u .player) p) us (u ∷ without p us)
+
+-- the use that a begin for an asset adds; the content is "the asset its begin asked for"
+abbrev pub begunUse : Event → ℕ → Answer → Use
+begunUse e asset r = record {
+  entry = r .entry;
+  player = e .player;
+  begin = e .time;
+  until = r .until;
+  stopped = false;
+  content = asset;
+}
+
 -- "A granted begin adds a use; a granted continue replaces until on that player's latest use; a granted stop makes until its time and
--- marks it stopped."; the content is "the asset its begin asked for"
+-- marks it stopped."; order 8, of a granted cancel: "The ledger drops the use."
 unfoldable pub posted : Request → Event → Answer → List Use → List Use
-posted (Begin kind asset) e r us =
-    record { entry = r .entry; player = e .player; begin = e .time; until = r .until; stopped = false; content = asset } ∷ us
+posted (Begin kind asset) e r us = begunUse e asset r ∷ us
 posted Continue e r us = revise (e .player) (goOn (r .until)) us
 posted Stop e r us = revise (e .player) (stopAt (e .time)) us
+posted Cancel e r us = without (e .player) us
 
 -- "a player's event is taken if it is no resend and its answer is ..."; "Resends and answers 1 to 6 add nothing."; order 3: 30 comes "with
 -- nothing changed, the ledger too"

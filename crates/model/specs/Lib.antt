@@ -17,3 +17,4 @@ pub mod Saved
 pub mod Exact
 pub mod Renewed
 pub mod Marked
+pub mod Agrees

@@ -11,6 +11,7 @@ use Rattle.book.specs.declared.Limits.{Limits}
 use Rattle.book.specs.declared.Meters.{Meters}
 use Rattle.book.specs.declared.Entry.{Entry}
 use Rattle.book.specs.declared.Open.{Open}
+use Rattle.book.specs.declared.Recent.{Recent}
 use Rattle.book.specs.declared.Player.{Player}
 use Rattle.book.specs.Blank.{closed}
 use Rattle.model.specs.Book.{limitsAt, metersAt, flagged, momentary}
@@ -58,8 +59,12 @@ continued u v l m = record {
   marks = m .marks;
 }
 
+-- order 7 of document 02: the mark goes with the use
+abbrev pub unmarked : ℕ → Meters → ℕ
+unmarked p m = putBit p false (m .marks)
+
 -- a use of player p that began at b, with its seconds counted until u, ends at e: "until − t seconds go back";
--- "When a use ends, however it ends, with end − begin < timer, its timed count goes back. A count never does."; order 7: the mark goes too
+-- "When a use ends, however it ends, with end − begin < timer, its timed count goes back. A count never does."
 unfoldable pub ended : ℕ → ℕ → ℕ → ℕ → Limits → Meters → Meters
 ended p b u e l m = record {
   count = m .count;
@@ -67,7 +72,19 @@ ended p b u e l m = record {
   first = m .first;
   seconds = m .seconds - where-flagged (flagged accumulatedFlag l) (u - e);
   started = m .started;
-  marks = putBit p false (m .marks);
+  marks = unmarked p m;
+}
+
+-- Player p's begin at b until u is taken back; r is what is known of it. Order 8 of document 02: "that begin's rises in count, timed count
+-- and seconds are taken off, and the interval is unstarted if that begin started it"
+unfoldable pub cancelled : ℕ → Recent → ℕ → ℕ → Limits → Meters → Meters
+cancelled p r b u l m = record {
+  count = m .count - where-flagged (flagged countFlag l) 1;
+  timed = m .timed - where-flagged (flagged timedFlag l) 1;
+  first = cond (r .started) 0 (m .first);
+  seconds = m .seconds - where-flagged (flagged accumulatedFlag l) (u - b);
+  started = cond (r .started) 0 (m .started);
+  marks = unmarked p m;
 }
 
 -- ## Settling

@@ -10,7 +10,7 @@ use Rattle.book.specs.declared.Event.{Event}
 use Rattle.book.specs.declared.Kind.{Kind}
 use Rattle.book.specs.declared.Kind.the-variants.{Play, Display, Execute, Print, Export}
 use Rattle.book.specs.declared.Request.{Request}
-use Rattle.book.specs.declared.Request.the-variants.{Begin, Continue, Stop}
+use Rattle.book.specs.declared.Request.the-variants.{Begin, Continue, Stop, Cancel}
 use Rattle.book.specs.declared.Decoded.{Decoded}
 use Rattle.book.specs.declared.Decoded.the-variants.{Invalid, Valid}
 use Rattle.model.specs.Book.{requestLegal}
@@ -23,21 +23,24 @@ kindNumber Execute = 3
 kindNumber Print = 4
 kindNumber Export = 5
 
--- "operation (1 begin, 2 continue, 3 stop)"; "asset and kind are 0 otherwise"
+-- "operation (1 begin, 2 continue, 3 stop)"; "asset and kind are 0 otherwise"; order 8 of document 02: "Operation 4, with asset and kind 0"
 abbrev pub operationNumber : Request → ℕ
 operationNumber (Begin kind asset) = 1
 operationNumber Continue = 2
 operationNumber Stop = 3
+operationNumber Cancel = 4
 
 abbrev pub requestAsset : Request → ℕ
 requestAsset (Begin kind asset) = asset
 requestAsset Continue = 0
 requestAsset Stop = 0
+requestAsset Cancel = 0
 
 abbrev pub requestKind : Request → ℕ
 requestKind (Begin kind asset) = kindNumber kind
 requestKind Continue = 0
 requestKind Stop = 0
+requestKind Cancel = 0
 
 -- "13-byte events (player 8, number 32, operation 8, asset 16, kind 8, time 32)"; order 4 of document 02: the number has 64 bits, and
 -- "Event records grow to 17 bytes"
@@ -58,7 +61,10 @@ kindOf k = cond (eqb k 1) Play (cond (eqb k 2) Display (cond (eqb k 3) Execute (
 
 -- three numbers as a request, likewise
 unfoldable pub requestOf : ℕ → ℕ → ℕ → Request
-requestOf operation asset kind = cond (eqb operation 1) (Begin (kindOf kind) asset) (cond (eqb operation 2) Continue Stop)
+requestOf operation asset kind =
+    cond (eqb operation 1) (Begin (kindOf kind) asset)
+    (cond (eqb operation 2) Continue
+    (cond (eqb operation 3) Stop Cancel))
 
 -- the event in 17 bytes
 unfoldable pub eventIn : List ℕ → Event

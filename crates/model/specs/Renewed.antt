@@ -1,5 +1,6 @@
 -- Demand 3 requires the first book to be `Fresh`. If few books were, that theorem would be nearly empty, so:
--- every legal book with its time, meters and players blanked is fresh and legal, and every fresh and legal book arises this way.
+-- every legal book with its time, meters, players and event taken last blanked is fresh and legal, and every fresh and legal book arises
+-- this way.
 -- Statements only; proved in `proofs/Legal/Renewed`.
 use Prim.Native.Nat.{ℕ}
 use mathlib.Core.Path.{_≡_}
@@ -7,7 +8,7 @@ use mathlib.Core.List.{map}
 use lib.ListN.{replicate}
 use Rattle.book.specs.declared.Entry.{Entry}
 use Rattle.book.specs.declared.Book.{Book}
-use Rattle.book.specs.Blank.{noMeters, noPlayer}
+use Rattle.book.specs.Blank.{noMeters, noPlayer, noLatest}
 use Rattle.book.specs.Changed.{changed}
 use Rattle.model.specs.Book.{Legal, Fresh}
 use Rattle.model.specs.Image.{Typed}
@@ -17,9 +18,10 @@ use Rattle.model.specs.Demand3.{Demand3}
 abbrev pub unused : Entry → Entry
 unused e = record { limits = e .limits; meters = noMeters }
 
--- the book as it was before its first event: "the time, all meters, all player records ... are 0", everything else is kept
+-- the book as it was before its first event: "the time, all meters, all player records and every field that a request adds for players'
+-- events to write are 0", everything else is kept
 unfoldable pub renewed : Book → Book
-renewed b = changed b 0 (map unused (b .entries)) (replicate 16 noPlayer)
+renewed b = changed b 0 noLatest (map unused (b .entries)) (replicate 16 noPlayer)
 
 pub record Renewed : Type 0 where
   pub fresh : (b : Book) → Legal b → Fresh (renewed b)

@@ -14,7 +14,7 @@ use Rattle.book.specs.declared.Line.{Line}
 use Rattle.book.specs.declared.Book.{Book}
 use Rattle.book.specs.declared.Event.{Event}
 use Rattle.book.specs.declared.Request.{Request}
-use Rattle.book.specs.declared.Request.the-variants.{Begin, Continue, Stop}
+use Rattle.book.specs.declared.Request.the-variants.{Begin, Continue, Stop, Cancel}
 use Rattle.book.specs.declared.Decoded.{Decoded}
 use Rattle.book.specs.declared.Decoded.the-variants.{Invalid, Valid}
 use Rattle.book.specs.declared.Gate.{Gate}
@@ -100,12 +100,14 @@ unfoldable pub overdue : ℕ → List Player → List Ended
 overdue t [] = []
 overdue t (p ∷ ps) = cond (expired t (p .current)) (endedAt (p .current .until) (p .current) ∷ overdue t ps) (overdue t ps)
 
--- then by the request, if it is granted: a stop ends the use at t; "A momentary use ends as it begins."
+-- then by the request, if it is granted: a stop ends the use at t; "A momentary use ends as it begins."; order 8: by a cancel "the use
+-- closes unrecorded"
 unfoldable pub endedBy : Request → ℕ → Open → Answer → List Ended
 endedBy (Begin kind asset) t o a =
     cond (eqb (a .code) 0 && momentary (kindNumber kind)) (record { entry = a .entry; content = asset; seconds = 0 } ∷ []) []
 endedBy Continue t o a = []
 endedBy Stop t o a = cond (eqb (a .code) 0) (endedAt t o ∷ []) []
+endedBy Cancel t o a = []
 
 -- all uses that a taken event ends, in turn
 unfoldable pub endings : Book → Event → List Ended

@@ -1,6 +1,6 @@
 -- Laws of `Bits`. Those of one bit go by the lowest: m is m % 2 and twice m / 2.
 use Prim.Native.Nat.{ℕ, zero, suc, _+_, _*_, _-_, _/_, _%_, _^_, _<_, _≤_}
-use mathlib.Core.Path.{_≡_, refl, sym, ap, ap₂, _∙_}
+use mathlib.Core.Path.{_≡_, refl, sym, ap, ap₂, subst, _∙_}
 use mathlib.Core.Bool.{Bool, true, false, cond}
 use native.Mathlib.Omega.{arith}
 use native.Mathlib.Numerals.{add-one}
@@ -12,7 +12,7 @@ use Rattle.numbers.specs.Count.{sum, one}
 use Rattle.numbers.specs.Bits.{bit, ones, maskOf, putBit}
 use Rattle.numbers.proofs.Loops.{sum-same, sum-most, sum-change}
 use Rattle.numbers.proofs.TableLaws.{below-or-not}
-use Rattle.numbers.proofs.Tests.{on-test, on-same, clash}
+use Rattle.numbers.proofs.Tests.{on-test, on-same, clash, cond-off}
 
 -- ## One bit
 
@@ -52,7 +52,7 @@ low-bit r v = bit-zero (one v + 2 * r) ∙ even-bit r v
 high-bit : (p r : ℕ) (v : Bool) → bit (suc p) (one v + 2 * r) ≡ bit p r
 high-bit p r v = bit-suc p (one v + 2 * r) ∙ ap (bit p) (half r v)
 
-one-le : (v : Bool) → one v ≤ 1
+pub one-le : (v : Bool) → one v ≤ 1
 one-le true = omega arith
 one-le false = omega arith
 
@@ -235,6 +235,14 @@ mask-back (suc n) m h =
     let s = mask-same (λ p. bit (suc p) m) (λ p. bit p (m / 2)) n (λ p l. bit-suc p m) ∙ mask-back n (m / 2) k in
     let l = low m in
     e ∙ ap (λ (r : ℕ). one (bit 0 m) + 2 * r) s ∙ sym l
+
+-- a bit that was clear, set and cleared again
+pub put-back : (p m : ℕ) → m < 65536 → bit p m ≡ false → putBit p false (putBit p true m) ≡ m
+unfolding putBit
+put-back p m h e =
+    subst (λ (v : Bool). putBit p v (putBit p true m) ≡ m) e
+    (mask-put (λ q. cond (eqb q p) true (bit q m)) (λ q. bit q m) p (λ q n. sym (cond-off (eqb q p) true (bit q m) (ne-eqb q p n)))
+    ∙ mask-back 16 m h)
 
 -- a multiple of 2 ^ n more leaves the lower bits
 low-bits : (n p m a r : ℕ) → p < n → m ≡ r + 2 ^ n * a → bit p m ≡ bit p r

@@ -30,6 +30,13 @@ pub fn join64(upper: u32, lower: u32) -> u64
 }
 
 // Rules out: the two swapped, the first whatever the test.
+pub fn pick8(w: bool, a: u8, b: u8) -> u8
+    ensures { λ r. ⌜ r ≡ cond w a b ⌝ }
+{
+    if w { a } else { b }
+}
+
+// Rules out: the two swapped, the first whatever the test.
 pub fn pick16(w: bool, a: u16, b: u16) -> u16
     ensures { λ r. ⌜ r ≡ cond w a b ⌝ }
 {

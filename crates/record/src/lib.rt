@@ -26,19 +26,20 @@ fn request_of(operation: u8, asset: u16, kind: u8) -> Request
     match operation {
         1 => Request::Begin(kind_of(kind), asset),
         2 => Request::Continue,
-        _ => Request::Stop,
+        3 => Request::Stop,
+        _ => Request::Cancel,
     }
 }
 
 // A player's stored request is judged by this too.
-// Rules out: kind 0 or 6 for a begin, a stop that names an asset or a kind.
+// Rules out: kind 0 or 6 for a begin, a stop or a cancel that names an asset or a kind.
 pub fn request_legal(operation: u8, asset: u16, kind: u8) -> bool
     ensures { λ r. ⌜ r ≡ requestLegal operation asset kind ⌝ }
 {
     if operation == 1 {
         return (1 <= kind) & (kind <= 5);
     }
-    (2 <= operation) & (operation <= 3) & (asset == 0) & (kind == 0)
+    (2 <= operation) & (operation <= 4) & (asset == 0) & (kind == 0)
 }
 
 // Rules out: 1 before 2 (player 16, operation 9), a continue that names an asset.

@@ -1,16 +1,19 @@
 // The rules of document 01 for one entry and one player: the checks on an event's number and time, which entry is suitable and grantable,
 // which of two comes first, and the least until. Everything is read from the limits and meters of one entry, so no function here takes
 // a book.
+// Besides, the marks of an entry that follow from the players' open uses: the reader sets them for an older image, and rule 27 asks for
+// them in every image.
 // Every function is total, and its contract gives its whole result.
 ghost use mathlib.Core.Path.{_≡_};
-ghost use Prim.Native.Nat.{_-_};
+ghost use Prim.Native.Nat.{_+_, _-_};
 ghost use lib.Dec.{ltb};
-ghost use Rattle.model.specs.Book.{grantLength, isGroup, momentary};
+ghost use Rattle.model.specs.Book.{grantLength, isGroup, momentary, opens, marksOf};
 ghost use Rattle.model.specs.Record.{kindNumber};
 ghost use Rattle.model.specs.Gate.{sameRequest, inLine, gate};
-ghost use Rattle.model.specs.Step.{noted};
+ghost use Rattle.model.specs.Step.{noted, justBegun, recentOf};
 ghost use Rattle.model.specs.Choice.{fails, groundsOf, grantable, lastMoment, ranksBefore, cap, leastUntil};
 ghost use Rattle.numbers.specs.Bits.{ones};
+ghost use Rattle.numbers.specs.Count.{one};
 ghost use Rattle.model.specs.Meters.{where-flagged};
 ghost use Rattle.rules.specs.Codes.{beginCode};
 ghost use Rattle.rules.specs.Line.{outOfLine};
@@ -23,12 +26,17 @@ use book::Grounds;
 use book::Kind;
 use book::LATEST_TIME;
 use book::Last;
+use book::Latest;
 use book::Limits;
 use book::Meters;
 use book::NO_END;
+use book::Open;
+use book::Player;
 use book::Rank;
+use book::Recent;
 use book::Request;
 use numbers::min_wide;
+use numbers::one;
 use numbers::ones;
 use numbers::pick32;
 use numbers::pick64;
@@ -72,7 +80,7 @@ pub fn kind_number(k: Kind) -> u8
     }
 }
 
-// Rules out: a kind or an asset for a continue or a stop, two operations with the same number.
+// Rules out: a kind or an asset for any request but a begin, two operations with the same number.
 fn wire_of(q: Request) -> Wire
     ensures { λ r. ⌜ r ≡ wireOf q ⌝ }
 {
@@ -89,6 +97,11 @@ fn wire_of(q: Request) -> Wire
         },
         Request::Stop => Wire {
             operation: 3,
+            asset: 0,
+            kind: 0,
+        },
+        Request::Cancel => Wire {
+            operation: 4,
             asset: 0,
             kind: 0,
         },
@@ -173,6 +186,42 @@ pub fn noted_last(e: Event, a: Answer) -> Last
     }
 }
 
+// What the header keeps of an event taken from a player.
+// Rules out: the player itself for the player plus 1, the mark of an event that started no interval.
+pub fn latest_by(player: u8, started: bool) -> Latest
+    ensures { λ r. ⌜ r ≡ record { player = player + 1; started = one started } ⌝ }
+{
+    Latest {
+        player: player as u32 + 1,
+        started: one(started) as u32,
+    }
+}
+
+// Whether the event taken last was this player's begin of the use that it has open.
+// Rules out: another player's event passed over, a begin that was refused, a begin of another use, a continue since.
+fn just_begun(latest: Latest, player: u8, last: Last, o: Open) -> bool
+    ensures { λ r. ⌜ r ≡ justBegun latest player last o ⌝ }
+{
+    let a = last.answer;
+    let own = player as u32 + 1;
+    (latest.player == own)
+        & (last.operation == 1)
+        & (a.code == 0)
+        & (a.entry == o.entry)
+        & (a.until == o.until)
+}
+
+// What a cancel by this player reads of the event taken last.
+// Rules out: the two swapped, an interval started by an event that did not start it.
+pub fn recent_of(latest: Latest, player: u8, last: Last, o: Open) -> Recent
+    ensures { λ r. ⌜ r ≡ recentOf latest player last o ⌝ }
+{
+    Recent {
+        begun: just_begun(latest, player, last, o),
+        started: latest.started == 1,
+    }
+}
+
 // Rules out: two flags swapped, a flag above 32 read.
 pub fn flags_of(l: Limits) -> Flags
     ensures { λ r. ⌜ r ≡ flagsOf l ⌝ }
@@ -211,6 +260,34 @@ pub fn threshold_full(l: Limits, m: Meters) -> bool
         return false;
     }
     !(ones(m.marks) < l.threshold)
+}
+
+// Whether a player's use is open and of entry i.
+// Rules out: true for a closed use, or for one of another entry.
+pub fn opens_entry(i: usize, o: Open) -> bool
+    ensures { λ r. ⌜ r ≡ opens i o ⌝ }
+{
+    let entry = o.entry as usize;
+    (o.on == 1) & (entry == i)
+}
+
+// The marks of entry i: bit p for a player p that has it open.
+// Rules out: the last player left out, the marks of another entry.
+pub fn marks_of(players: [Player; 16], i: usize) -> u32
+    ensures { λ r. ⌜ r ≡ marksOf players i ⌝ }
+{
+    let mut marks: u32 = 0;
+    let mut weight: u32 = 1;
+    let mut p: usize = 0;
+    while p < 16 {
+        let q = players[p];
+        let o = q.current;
+        let w = opens_entry(i, o);
+        marks = marks + pick32(w, weight, 0);
+        weight = weight * 2;
+        p = p + 1;
+    }
+    marks
 }
 
 // What stands against granting an entry to who asks.

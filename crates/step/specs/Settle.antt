@@ -20,7 +20,7 @@ use Rattle.model.proofs.Ledger.Concrete.{settled-both}
 
 -- a book with other entries and players
 abbrev pub with : Book → List Entry → List Player → Book
-with b es ps = changed b (b .time) es ps
+with b es ps = changed b (b .time) (b .latest) es ps
 
 -- all players settled at t
 unfoldable pub settledBook : ℕ → Book → Book

@@ -3,7 +3,7 @@ use Prim.Native.Nat.{ℕ, suc, _%_, _≤_, _<_}
 use native.Mathlib.Omega.{arith}
 use mathlib.Core.Path.{_≡_, refl, sym, ap, _∙_}
 use mathlib.Core.Bool.{Bool, true, false, cond}
-use mathlib.Core.List.{List}
+use mathlib.Core.List.{List, map}
 use lib.ListN.{length, set}
 use lib.Seq.{set-out}
 use lib.Dec.{ltb}
@@ -16,14 +16,17 @@ use Rattle.book.specs.declared.Ask.{Ask}
 use Rattle.book.specs.declared.Event.{Event}
 use Rattle.book.specs.declared.Player.{Player}
 use Rattle.book.specs.declared.Last.{Last}
+use Rattle.book.specs.declared.Latest.{Latest}
+use Rattle.book.specs.declared.Recent.{Recent}
 use Rattle.book.specs.declared.Outcome.{Outcome}
 use Rattle.book.specs.Blank.{noMeters}
 use Rattle.book.specs.Changed.{changed}
 use Rattle.model.specs.Book.{limitsAt, metersAt, latestTime, assetsIn, entriesIn}
 use Rattle.model.specs.Choice.{asks, Catalog, usable, parentOf, suits, anyOf, grantable, chosen, choose, catalogOf, failsForSwitch}
 use Rattle.model.specs.Choice.{noneGrantable}
-use Rattle.model.specs.Step.{Done, unchanged, noted, granted, doBegin, done, openAt, takenStep}
-use Rattle.model.specs.Meters.{settled, isOn}
+use Rattle.model.specs.Step.{Done, unchanged, noted, latestBy, recentOf, granted, doBegin, done, lastAt, openAt, takenStep}
+use Rattle.model.specs.Meters.{shut, settled, isOn}
+use Rattle.model.proofs.Ledger.Concrete.{shut-last}
 use Rattle.choice.specs.declared.Best.{Best}
 use Rattle.choice.specs.Best.{bestAfter}
 use Rattle.rules.specs.Codes.{beginCode}
@@ -44,7 +47,7 @@ refused-placed code o es h = ap (λ (x : List Entry). unchanged code x o) (set-o
 
 -- the book after the event is stored
 unfoldable pub storedBook : Book → Event → Done → Book
-storedBook b e d = changed b (e .time) (d .entries)
+storedBook b e d = changed b (e .time) (latestBy e (d .started)) (d .entries)
     (set (b .players) (e .player) (record { last = noted e (d .answer); current = d .current }))
 
 -- settling when nothing is due
@@ -147,18 +150,31 @@ module _ (c : Catalog) (es : List Entry) (o : Open) (ask : Ask) (asset kind : �
 
 -- ## The step
 
--- the book after the player's record and the time are stored
-abbrev pub finished : Event → Last → Open → Book → Book
-finished e last current n = changed n (e .time) (n .entries) (set (n .players) (e .player) (record { last = last; current = current }))
+-- the book after the player's record, the time and the event taken last are stored
+abbrev pub finished : Event → Last → Open → Latest → Book → Book
+finished e last current latest n =
+    changed n (e .time) latest (n .entries) (set (n .players) (e .player) (record { last = last; current = current }))
 
 -- what a taken event gives on a settled book
 abbrev pub takenFrom : Book → Event → Done → Outcome
 takenFrom n e d = record { answer = d .answer; book = storedBook n e d }
 
+-- what a cancel reads of the event taken last, on a settled book
+abbrev pub recentOn : Book → Event → Recent
+recentOn n e = recentOf (n .latest) (e .player) (lastAt (n .players) (e .player)) (openAt (n .players) (e .player))
+
+-- settling leaves each player's last event as it is
 pub taken-is : (b : Book) (e : Event)
     → takenFrom (settledBook (e .time) b) e
     (done (e .request) (catalogOf (settledBook (e .time) b)) (settledBook (e .time) b .entries)
-    (openAt (settledBook (e .time) b .players) (e .player)) (asks (settledBook (e .time) b) e))
+    (openAt (settledBook (e .time) b .players) (e .player)) (asks (settledBook (e .time) b) e) (recentOn (settledBook (e .time) b) e))
     ≡ takenStep b e
 unfolding settledBook storedBook takenStep catalogOf assetsIn entriesIn
-taken-is b e = refl
+taken-is b e =
+    let t = e .time in
+    let ps = map (shut t) (b .players) in
+    let es = settled t (b .players) (b .entries) in
+    let o = openAt ps (e .player) in
+    ap
+    (λ (l : Last). takenFrom (with b es ps) e (done (e .request) (catalogOf b) es o (asks b e) (recentOf (b .latest) (e .player) l o)))
+    (shut-last t (b .players) (e .player))

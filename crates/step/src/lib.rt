@@ -1,9 +1,10 @@
-// One event on a book passed by value: the checks, settling, what begin, continue and stop do, and the resulting book.
+// One event on a book passed by value: the checks, settling, what begin, continue, stop and cancel do, and the resulting
+// book.
 // The rules are in the crates below and work on one entry and one player; this crate reads both from the book and stores the results.
 ghost use mathlib.Core.Path.{_≡_};
 ghost use Prim.Native.Nat.{_≤_};
 ghost use Rattle.model.specs.Book.{latestTime};
-ghost use Rattle.model.specs.Step.{refusal, doBegin, doContinue, doStop, done, takenStep, step, lastAt};
+ghost use Rattle.model.specs.Step.{refusal, doBegin, doContinue, doStop, doCancel, done, takenStep, step, lastAt};
 ghost use Rattle.model.specs.Record.{decoded};
 ghost use Rattle.model.specs.Choice.{catalogOf};
 ghost use Rattle.uses.specs.Uses.{placed};
@@ -24,6 +25,7 @@ use book::Meters;
 use book::Open;
 use book::Outcome;
 use book::Player;
+use book::Recent;
 use book::Reported;
 use book::Request;
 use book::refusal;
@@ -144,18 +146,34 @@ fn stop(b: Book, o: Open, ask: Ask) -> Act
     }
 }
 
-fn operate(b: Book, o: Open, q: Request, ask: Ask) -> Act
+fn cancel(b: Book, o: Open, player: u8, recent: Recent) -> Act
+    ensures { λ r. ⌜ placed (r .at) (r .part) (b .entries) ≡ doCancel (b .entries) o player recent ⌝ }
+{
+    let k = o.entry as usize;
+    let entries = b.entries;
+    let x = book::entry_at(entries, k);
+    let l = x.limits;
+    let m = x.meters;
+    Act {
+        at: k,
+        part: uses::cancel_on(l, m, o, player, recent),
+    }
+}
+
+fn operate(b: Book, o: Open, q: Request, ask: Ask, recent: Recent) -> Act
     requires { ⌜ ask .time ≤ latestTime ⌝ }
-    ensures { λ r. ⌜ placed (r .at) (r .part) (b .entries) ≡ done q (catalogOf b) (b .entries) o ask ⌝ }
+    ensures { λ r. ⌜ placed (r .at) (r .part) (b .entries) ≡ done q (catalogOf b) (b .entries) o ask recent ⌝ }
 {
     match q {
         Request::Begin(kind, asset) => begin(b, o, asset, rules::kind_number(kind), ask),
         Request::Continue => go_on(b, o, ask.time),
         Request::Stop => stop(b, o, ask),
+        Request::Cancel => cancel(b, o, ask.player, recent),
     }
 }
 
 // The book with what an operation left, and with the event and its answer stored.
+// Rules out: a taken event that the header does not tell of.
 fn stored_book(b: Book, e: Event, a: Act) -> Book
     requires { ⌜ e .player ≤ 15 ⌝ }
     ensures { λ r. ⌜ r ≡ storedBook b e (placed (a .at) (a .part) (b .entries)) ⌝ }
@@ -182,6 +200,8 @@ fn stored_book(b: Book, e: Event, a: Act) -> Book
     };
     n.players[j] = p;
     n.time = e.time;
+    let latest = rules::latest_by(e.player, part.started);
+    n.latest = latest;
     n
 }
 
@@ -193,13 +213,16 @@ fn taken(b: Book, e: Event) -> Outcome
     let j = e.player as usize;
     let p = n.players[j];
     let o = p.current;
+    let last = p.last;
     let q = e.request;
     let ask = Ask {
         player: e.player,
         time: e.time,
         switch: n.switch,
     };
-    let a = operate(n, o, q, ask);
+    let latest = n.latest;
+    let recent = rules::recent_of(latest, e.player, last, o);
+    let a = operate(n, o, q, ask, recent);
     let part = a.part;
     let answer = part.answer;
     Outcome {

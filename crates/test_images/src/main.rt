@@ -3,7 +3,7 @@
 // Each image is read with the last accepted book held; a refusal that does not return that book is marked.
 use book::Book;
 
-const IMAGE: usize = 5391;
+const IMAGE: usize = 5399;
 
 struct Turn {
     more: bool,

@@ -2,7 +2,7 @@
 // the bytes, in hexadecimal, of the image of the text's book.
 use xml_image::Imported;
 
-const IMAGE: usize = 5391;
+const IMAGE: usize = 5399;
 
 struct Head {
     more: bool,

@@ -1,4 +1,4 @@
--- A file longer than the longest image is refused with the same number from its first 5,392 bytes as from all of them, so no more need
+-- A file longer than the longest image is refused with the same number from its first 5,400 bytes as from all of them, so no more need
 -- be read.
 use Prim.Native.Nat.{ℕ, _+_, _*_, _≤_}
 use mathlib.Core.Path.{_≡_, refl, sym, ap, ap₂, _∙_}
@@ -62,8 +62,8 @@ unless : (t : Bool) (c x y : ℕ) → (t ≡ false → x ≡ y) → cond t c x �
 unless true c x y f = refl
 unless false c x y f = f refl
 
--- at most 3,979 bytes in version 1, 4,815 in version 2, 4,879 in version 3 and 5,391 in version 4
-wrong-length : (n v a p : ℕ) (late : Bool) → 1 ≤ v → v ≤ newest → 5392 ≤ n
+-- at most 3,979 bytes in version 1, 4,815 in version 2, 4,879 in version 3, 5,391 in version 4 and 5,399 in version 5
+wrong-length : (n v a p : ℕ) (late : Bool) → 1 ≤ v → v ≤ newest → 5400 ≤ n
     → cond {A = ℕ} (ltb 64 a || ltb 64 p || late) 23 (cond (not (eqb n (imageLength v a p))) 20 0) ≡ cond (ltb 64 a || ltb 64 p || late)
     23 20
 wrong-length n v a p late oldest known h =
@@ -74,7 +74,7 @@ wrong-length n v a p late oldest known h =
     ap (λ (t : Bool). cond {A = ℕ} (not t) 20 0) (ne-eqb n (imageLength v a p)
     (λ e. let m = longest v a p oldest known la lp in omega (arith, e, m))))
 
-module _ (s : List ℕ) (long : 5392 ≤ length s) where
+module _ (s : List ℕ) (long : 5400 ≤ length s) where
   long-header : headerBroken s ≡ longStages (valuesAt headerStart 0 s)
   unfolding headerBroken markIn versionIn assetCountIn entryCountIn timeIn longStages
   long-header =
@@ -96,12 +96,12 @@ module _ (s : List ℕ) (long : 5392 ≤ length s) where
 
 -- ## The answer to a file is the answer to its first bytes, one more than the longest image has
 
-module _ (m : ℕ) (enough : 5392 ≤ m) (s : List ℕ) where
+module _ (m : ℕ) (enough : 5400 ≤ m) (s : List ℕ) where
   pub cut-code : readCode (take m s) ≡ readCode s
   cut-code =
       below-or-not m (length s)
       (λ h.
-      let l : 5392 ≤ length (take m s) = rw (length-take-le m s (omega arith)) enough in
+      let l : 5400 ≤ length (take m s) = rw (length-take-le m s (omega arith)) enough in
       long-code (take m s) l ∙ ap longStages (values-cut m s headerStart 0 (omega arith)) ∙ sym (long-code s (omega arith)))
       (λ h. ap readCode (take-all m s h))
 
@@ -109,6 +109,6 @@ module _ (m : ℕ) (enough : 5392 ≤ m) (s : List ℕ) where
   cut-book held =
       below-or-not m (length s)
       (λ h.
-      let l : 5392 ≤ length (take m s) = rw (length-take-le m s (omega arith)) enough in
+      let l : 5400 ≤ length (take m s) = rw (length-take-le m s (omega arith)) enough in
       long-book (take m s) l held ∙ sym (long-book s (omega arith) held))
       (λ h. ap (readBook held) (take-all m s h))

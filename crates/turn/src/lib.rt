@@ -27,7 +27,7 @@ pub const INPUT: usize = 65551;
 pub const OUT: usize = 73264;
 
 // One byte more than the longest image: these bytes are enough to refuse a longer file.
-pub const IMAGE: usize = 5392;
+pub const IMAGE: usize = 5400;
 
 // The next book and lines, how many bytes of text are at the start of the output buffer, and how many of the next record are at the
 // start of the input buffer. Done is false if n was more than the input buffer holds.

@@ -1,13 +1,14 @@
-// A use of one entry: begin, continue and stop on the entry's limits and meters and the asking player's open use, and the settling
-// of a use.
+// A use of one entry: begin, continue, stop and cancel on the entry's limits and meters and the asking player's open use, and the
+// settling of a use.
 // Every function is total. A time that no event has (above 4000000000) grants nothing, so no sum passes 32 bits.
 ghost use mathlib.Core.Path.{_≡_};
 ghost use mathlib.Core.Bool.{cond};
 ghost use Prim.Native.Nat.{_≤_};
 ghost use Rattle.model.specs.Book.{latestTime};
-ghost use Rattle.model.specs.Meters.{expired, shut, begun, continued, ended};
+ghost use Rattle.model.specs.Meters.{expired, shut, begun, continued, ended, cancelled};
+ghost use Rattle.model.specs.Step.{startsInterval};
 ghost use Rattle.model.specs.Choice.{grantUntil, moreUntil};
-ghost use Rattle.uses.specs.Uses.{kept, beginOn, continueOn, stopOn, releasedOn};
+ghost use Rattle.uses.specs.Uses.{kept, beginOn, continueOn, stopOn, cancelOn, releasedOn};
 ghost use Rattle.uses.specs.Room.{Room, MoreRoom};
 ghost use Rattle.uses.specs.Due.{anyDue};
 use book::Answer;
@@ -17,9 +18,11 @@ use book::Limits;
 use book::Meters;
 use book::Open;
 use book::Player;
+use book::Recent;
 use book::closed_use;
 use book::refusal;
 use numbers::one;
+use numbers::pick8;
 use numbers::pick32;
 use numbers::saturating_sub;
 use numbers::with_bit;
@@ -30,11 +33,13 @@ use rules::least_until;
 use rules::momentary;
 use rules::when;
 
-// What an operation leaves: the answer, the entry's meters, and the asking player's use.
+// What an operation leaves: the answer, the entry's meters, the asking player's use, and whether it opened a use that started the
+// interval.
 pub struct Effect {
     pub answer: Answer,
     pub meters: Meters,
     pub current: Open,
+    pub started: bool,
 }
 
 // Rules out: the two swapped, the first whatever the test.
@@ -60,6 +65,7 @@ pub fn kept(code: u8, m: Meters, o: Open) -> Effect
         answer: refusal(code),
         meters: m,
         current: o,
+        started: false,
     }
 }
 
@@ -76,6 +82,15 @@ fn more_until(l: Limits, m: Meters, old: u32, t: u32) -> u32
     ensures { λ r. ⌜ r ≡ moreUntil t old l m ⌝ }
 {
     least_until(t, old, l, m) as u32
+}
+
+// Whether a begin on the entry opens a use that starts its interval.
+// Rules out: a momentary use, an entry without an interval, an interval that has started.
+fn starts_interval(l: Limits, m: Meters) -> bool
+    ensures { λ r. ⌜ r ≡ startsInterval l m ⌝ }
+{
+    let f = flags_of(l);
+    !momentary(l.kind) & f.interval & !(m.started == 1)
 }
 
 // Rules out: a first that a later begin overwrites, a meter that rises without its flag, a mark for a momentary use.
@@ -121,6 +136,30 @@ pub fn ended_meters(l: Limits, m: Meters, player: u8, begin: u32, until: u32, en
     }
 }
 
+// Rules out: a count that stays, a timed count that a long timer keeps, an interval that stays started by the begin taken back, one
+// unstarted that another use started, a mark that stays.
+fn cancelled_meters(
+    l: Limits,
+    m: Meters,
+    player: u8,
+    recent: Recent,
+    begin: u32,
+    until: u32,
+) -> Meters
+    ensures { λ r. ⌜ r ≡ cancelled player recent begin until l m ⌝ }
+{
+    let f = flags_of(l);
+    let marks = with_bit(m.marks, player, false);
+    Meters {
+        count: saturating_sub(m.count, when(f.count, 1)),
+        timed: saturating_sub(m.timed, when(f.timed, 1)),
+        first: pick32(recent.started, 0, m.first),
+        seconds: saturating_sub(m.seconds, when(f.accumulated, saturating_sub(until, begin))),
+        started: pick8(recent.started, 0, m.started),
+        marks: marks,
+    }
+}
+
 // Neither owner calls it on an entry that is not grantable; it then answers as for a begin that finds none grantable.
 // Rules out: an until past end + 1, a momentary use that opens, a grant that is not metered, a use without the content asked for.
 pub fn begin_on(l: Limits, m: Meters, o: Open, i: u8, asset: u16, ask: Ask) -> Effect
@@ -151,6 +190,7 @@ pub fn begin_on(l: Limits, m: Meters, o: Open, i: u8, asset: u16, ask: Ask) -> E
         },
         meters: begun,
         current: pick_open(momentary(l.kind), o, use_begun),
+        started: starts_interval(l, m),
     }
 }
 
@@ -183,6 +223,7 @@ pub fn continue_on(l: Limits, m: Meters, o: Open, t: u32) -> Effect
             until: until,
             content: o.content,
         },
+        started: false,
     }
 }
 
@@ -202,6 +243,30 @@ pub fn stop_on(l: Limits, m: Meters, o: Open, player: u8, t: u32) -> Effect
         },
         meters: meters,
         current: closed_use(),
+        started: false,
+    }
+}
+
+// Rules out: a use taken back after another event, one that stays open, the until or the time of the cancel in the answer.
+pub fn cancel_on(l: Limits, m: Meters, o: Open, player: u8, recent: Recent) -> Effect
+    ensures { λ r. ⌜ r ≡ cancelOn player recent l m o ⌝ }
+{
+    if !(o.on == 1) {
+        return kept(14, m, o);
+    }
+    if !recent.begun {
+        return kept(44, m, o);
+    }
+    let meters = cancelled_meters(l, m, player, recent, o.begin, o.until);
+    Effect {
+        answer: Answer {
+            code: 0,
+            entry: o.entry,
+            until: o.begin,
+        },
+        meters: meters,
+        current: closed_use(),
+        started: false,
     }
 }
 

@@ -12,13 +12,13 @@ use Rattle.book.specs.declared.Entry.{Entry}
 use Rattle.book.specs.declared.Player.{Player}
 use Rattle.book.specs.declared.Book.{Book}
 use Rattle.model.specs.Book.{assetsIn, entriesIn, flagged}
-use Rattle.model.specs.Image.{playerValues}
+use Rattle.model.specs.Image.{tailValues, playerValues}
 use Rattle.model.specs.Gate.{bootOf, counterOf}
 use Rattle.model.specs.Choice.{groundsOf, groundList, grantable}
 
--- how many assets and entries there are, the book's time, and its switch
+-- how many assets and entries there are, the book's time, and what its header holds besides
 unfoldable pub bookValues : Book → List ℕ
-bookValues b = assetsIn b ∷ entriesIn b ∷ b .time ∷ b .switch ∷ []
+bookValues b = assetsIn b ∷ entriesIn b ∷ b .time ∷ tailValues b
 
 -- a player in image order, with the counter for its number, and the boot number last
 abbrev pub playerView : Player → List ℕ

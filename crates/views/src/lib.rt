@@ -20,14 +20,22 @@ use rules::grounds_of;
 // What is left where there is no limit.
 const UNLIMITED: u32 = u32::MAX;
 
-// How many assets and entries, the time, and the switch.
-// Rules out: the two counts swapped.
-pub fn book_values(b: Book) -> [u32; 4]
+// How many assets and entries, the time, the switch, and the event taken last: its player plus 1, and its mark.
+// Rules out: the two counts swapped, the mark for the player.
+pub fn book_values(b: Book) -> [u32; 6]
     ensures { λ r. ⌜ r ≡ bookValues b ⌝ }
 {
     let assets = at_most_64(b.assetcount);
     let entries = at_most_64(b.entrycount);
-    [assets as u32, entries as u32, b.time, b.switch]
+    let x = b.latest;
+    [
+        assets as u32,
+        entries as u32,
+        b.time,
+        b.switch,
+        x.player,
+        x.started,
+    ]
 }
 
 // Rules out: number and inherit swapped.

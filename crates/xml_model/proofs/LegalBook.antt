@@ -18,12 +18,13 @@ use Rattle.numbers.proofs.Tests.{on-same, eqb-self, and-right, and-both, Pass, 
 use Rattle.book.specs.declared.Asset.{Asset}
 use Rattle.book.specs.declared.Limits.{Limits}
 use Rattle.book.specs.declared.Entry.{Entry}
+use Rattle.book.specs.declared.Latest.{Latest}
 use Rattle.book.specs.declared.Player.{Player}
 use Rattle.book.specs.declared.Book.{Book}
-use Rattle.book.specs.Blank.{noAsset, noMeters, noEntry, noPlayer}
+use Rattle.book.specs.Blank.{noAsset, noMeters, noEntry, noPlayer, noLatest}
 use Rattle.model.specs.Book.{assetAt, limitsAt, metersAt, playerAt, assetsIn, entriesIn, assetPosition, inBook, between}
 use Rattle.model.specs.Book.{assetLegal, assetsLegal, limitsLegal, entriesLegal, playerBlank, playerLegal}
-use Rattle.model.specs.Book.{switchLegal, opens, lasts, openUses, openSeconds, marksOf, ruleBroken, Legal, Fresh}
+use Rattle.model.specs.Book.{latestLegal, latestPasses, switchLegal, opens, lasts, openUses, openSeconds, marksOf, ruleBroken, Legal, Fresh}
 use Rattle.model.specs.Image.{newest, assetWidths, assetValues, entryWidths, entryValues, playerWidths, Typed}
 use Rattle.model.proofs.Ledger.WellFormed.{limit-most, ranges-tests, limits-tests}
 use Rattle.model.proofs.Demand3.Suitable.{first-found as first-holds}
@@ -79,12 +80,18 @@ blank-passes : (b : Book) → playerPasses b noPlayer ≡ true
 unfolding playerLegal playerBlank
 blank-passes b = refl
 
+-- no event was taken yet
+none-passes : (b : Book) → b .latest ≡ noLatest → latestPasses b ≡ true
+unfolding latestPasses latestLegal
+none-passes b e = rw e
+
 fresh-rules : (b : Book) → Fresh b → switchLegal b ≡ true → assetsLegal b ≡ true → entriesLegal b ≡ true → ruleBroken b ≡ 0
 fresh-rules b h w a e =
     stages-to b (record {
       assets = a;
       entries = e;
       switch = w;
+      latest = none-passes b (h .latest);
       players = λ p k. subst (λ (x : Player). playerPasses b x ≡ true) (sym (h .players p)) (blank-passes b);
       meters = λ i k. meter-to b i
           (rw (h .meters i, no-uses b h i, no-seconds b h i, no-marks b h i) (unused-meters (b .time) (limitsAt (b .entries) i)));
@@ -179,7 +186,7 @@ module _ (b : Book) (a : Asset) (h : Legal b) (room : assetsIn b < 64)
 
   pub asset-fresh : Fresh b → Fresh new
   unfolding withOneAsset
-  asset-fresh f = record { time = f .time; meters = f .meters; players = f .players }
+  asset-fresh f = record { time = f .time; meters = f .meters; players = f .players; latest = f .latest }
 
   pub asset-plain : Plain b → Plain new
   unfolding withOneAsset
@@ -281,7 +288,7 @@ module _ (kind : ℕ) (st : State) (h : Legal (st .book)) (f : Fresh (st .book))
 
   pub entries-fresh : Fresh more
   unfolding withEntries
-  entries-fresh = record { time = f .time; meters = all-unused; players = f .players }
+  entries-fresh = record { time = f .time; meters = all-unused; players = f .players; latest = f .latest }
 
   new-untold : Untold (st .limits) → (i : ℕ) → Untold (limitsFor kind st i)
   unfolding limitsFor forAsset
@@ -392,7 +399,12 @@ module _ (b : Book) (h : Legal b) where
 
   pub fresh-typed : Fresh b → Plain b → ((i : ℕ) → Small (assetAt (b .assets) i .inherit)) → Typed b
   fresh-typed f u inherits = record {
-    header = omega (arith, u .switch);
+    header = omega (
+      arith,
+      u .switch,
+      ap (λ (x : Latest). x .player) (f .latest),
+      ap (λ (x : Latest). x .started) (f .latest),
+    );
     assets = λ i. asset-fits i (inherits i);
     entries = entry-fits f u;
     players = λ p. rw (f .players p) (zeros-fit (playerWidths newest));

@@ -337,6 +337,7 @@ unfoldable pub withOneAsset : Asset → Book → Book
 withOneAsset a b = record {
   time = b .time;
   switch = b .switch;
+  latest = b .latest;
   assetcount = assetsIn b + 1;
   entrycount = b .entrycount;
   assets = set (b .assets) (assetsIn b) a;
@@ -380,6 +381,7 @@ unfoldable pub withEntries : ℕ → State → Book → Book
 withEntries kind st b = record {
   time = b .time;
   switch = b .switch;
+  latest = b .latest;
   assetcount = b .assetcount;
   entrycount = entriesIn b + howMany st;
   assets = b .assets;

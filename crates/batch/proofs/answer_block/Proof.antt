@@ -2,7 +2,7 @@
 -- and ends are those of the entries and players.
 use Prim.Native.Nat.{ℕ, _+_, _*_, _-_, _/_, _%_, _<_, _≤_, min}
 use mathlib.Core.Path.{_≡_, refl, sym, ap, ap₂, subst, _∙_}
-use mathlib.Core.Logic.{⊎-elim}
+use mathlib.Core.Logic.{_⊎_, ⊎-elim}
 use mathlib.Core.Bool.{Bool, true, false}
 use mathlib.Core.List.{List, [], map}
 use native.Mathlib.Omega.{arith}
@@ -16,11 +16,13 @@ use Rattle.numbers.proofs.Loops.{length-mapped}
 use Rattle.book.specs.declared.Answer.{Answer}
 use Rattle.book.specs.declared.Asset.{Asset}
 use Rattle.book.specs.declared.Last.{Last}
+use Rattle.book.specs.declared.Latest.{Latest}
 use Rattle.book.specs.declared.Line.{Line}
 use Rattle.book.specs.declared.Book.{Book}
 use Rattle.book.specs.declared.Entry.{Entry}
 use Rattle.book.specs.declared.Event.{Event}
 use Rattle.book.specs.declared.Kind.{Kind}
+use Rattle.book.specs.declared.Recent.{Recent}
 use Rattle.book.specs.declared.Request.{Request}
 use Rattle.book.specs.declared.Request.the-variants.{Begin}
 use Rattle.book.specs.declared.Decoded.{Decoded}
@@ -34,7 +36,7 @@ use Rattle.book.specs.Changed.{changed}
 use Rattle.model.specs.Book.{limitsAt, metersAt, playerAt, latestTime}
 use Rattle.model.specs.Choice.{asks, noEnd, chooseOf, anyOf}
 use Rattle.model.specs.Record.{recordSize, decoded}
-use Rattle.model.specs.Step.{arrive, openAt}
+use Rattle.model.specs.Step.{arrive, lastAt, openAt, recentOf, latestBy}
 use Rattle.model.specs.Report.{lineAt, raised, overdue, recordedAll, endedBy, linesRead}
 use Rattle.model.specs.Meters.{isOn, released, shut, expired}
 use Rattle.model.specs.Run.{recordCount, recordAt}
@@ -49,22 +51,23 @@ use Rattle.index.specs.Rows.{rowOfEntry, noRow, row-at}
 use Rattle.index.specs.Places.{reachAt}
 use Rattle.text.specs.Lines.{lineEnd, lineBuffer}
 use Rattle.uses.specs.declared.Effect.{Effect}
-use Rattle.uses.specs.Uses.{placed, stored}
+use Rattle.uses.specs.Uses.{placed, stored, cancelOn}
 use Rattle.step.specs.Settle.{settledBook, settledTo, settle-none, settle-turn, settleOne, with}
 use Rattle.model.proofs.Ledger.Concrete.{settled-size}
 use Rattle.metering.specs.Good.{goodLines, goodAfter, good-raised}
 use Rattle.metering.specs.Recording.{due-none, requestLine, requestSeconds, refused-kept}
 use Rattle.step.specs.Lines.{linesTaken}
+use Rattle.step.specs.Step.{recentOn}
 use Rattle.batch.specs.Block.{stepOn, fits, blockBook, blockLines, blockWritten, blockBuffer}
 use Rattle.batch.specs.Progress.{Progress, progress-none, progress-length, progress-next, progress-all, record-part}
 use Rattle.batch.specs.NextExpiry.{NextExpiry, leastEnd, expiry-start, Settled, settled-by, settled-still, expiry-store, expiry-keep}
 use Rattle.batch.specs.NextExpiry.{end-due, end-on, reached, kept-end, ends-next, ends-same, shut-end, recorded-still}
 use Rattle.batch.specs.NextExpiry.{recorded-by}
 use Rattle.batch.specs.StepCases.{looked, looked-most, actOn, closing, doneOn, Admitted, admitted, Planned, planned-continue}
-use Rattle.batch.specs.StepCases.{planned-stop, planned-begin, usable-is, parent-is, case-invalid, case-refused, case-resent}
+use Rattle.batch.specs.StepCases.{planned-stop, planned-cancel, planned-begin, usable-is, parent-is, case-invalid}
 use Rattle.batch.specs.StepCases.{answeredBy, noted-answer, case-taken, released-due, released-far, released-still, shut-not}
 use Rattle.batch.specs.StepCases.{rows-next, admit, admitted-few, reported-as, case-lines, lines-still, lines-out, lines-raised}
-use Rattle.batch.specs.StepCases.{lines-kept, acted-raised, acted-kept}
+use Rattle.batch.specs.StepCases.{lines-kept, acted-raised, acted-kept, case-refused, case-resent}
 use Rattle.batch.proofs.answer_block.Statement.{statement}
 use Rattle.batch.proofs.answer_block.Tie as tie
 
@@ -251,7 +254,8 @@ assets-kept c =
 -- the match leaves the request
 request-kept : (c : Chosen) → c .match3 .request ≡ event-at (judged (taken (all-settled c))) .request
 request-kept c =
-    ⊎-elim (λ w. w .14 ∙ sym (w .1 .given .1)) (λ v. ⊎-elim (λ w. w .2) (λ w. w .2) v) (c .match3 .came)
+    ⊎-elim (λ w. w .14 ∙ sym (w .1 .given .1)) (λ v. ⊎-elim (λ w. w .2) (λ u. ⊎-elim (λ w. w .2) (λ w. w .2) u) v)
+    (c .match3 .came)
 
 -- the use that the asking player has open
 abbrev open-at : Chosen → Open
@@ -291,9 +295,22 @@ planned c =
     let code = c .before .further-code .ensures in
     ⊎-elim
     (λ w. planned-continue n e o ho (c .match3 .k) (c .match3 .code) (w .3) (w .4 ∙ code) ht (w .1 .given .1))
+    (λ u. ⊎-elim
     (λ w. planned-stop n e o ho (c .match3 .k) (c .match3 .code) (w .3) (w .4 ∙ code) (w .1 .given .1))
+    (λ w. planned-cancel n e o ho (c .match3 .k) (c .match3 .code) (w .3) (w .4 ∙ code) (w .1 .given .1))
+    u)
     v)
     (c .match3 .came)
+
+-- what a cancel reads of the event taken last, at the remainder, which is the player
+recent-is : (c : Chosen) → recentOf (all-settled c .if2 .book .latest) (event-at (judged (taken (all-settled c))) .player)
+    (lastAt (all-settled c .if2 .book .players) (event-at (judged (taken (all-settled c))) .player % 16)) (open-at c)
+    ≡ recentOn (all-settled c .if2 .book) (event-at (judged (taken (all-settled c))))
+recent-is c =
+    let s = all-settled c in
+    let n = s .if2 .book in
+    let e = event-at (judged (taken s)) in
+    ap (λ (p : ℕ). recentOf (n .latest) (e .player) (lastAt (n .players) p) (openAt (n .players) p)) (is-player (taken s))
 
 -- the operation is done, or refused
 abbrev Acted : Type 0
@@ -302,40 +319,86 @@ Acted = tie.Joined6 Inv-loop2 μ-loop2 Inv-loop3 μ-loop3 Inv-loop μ-loop
 abbrev chosen : Acted → Chosen
 chosen c = c .before .before
 
--- the settled book at the event's time, with those entries
-abbrev timed : Acted → List Entry → Book
-timed c es =
-    let n = all-settled (chosen c) .if2 .book in
-    changed n (event-at (judged (taken (all-settled (chosen c)))) .time) es (n .players)
+-- the way on which the operation is done, and not refused
+abbrev First : {A B : Type 0} → A ⊎ B → Type 0
+First {A = A} s = A
 
--- what the operation leaves: the entries with their rows, and with the answer and the use what the step does
-abbrev Left : Acted → Book → List Row → Answer → Open → Type 0
-Left c book rows answer current =
-    (book ≡ timed c (book .entries)) × (rows ≡ rowsFor book)
-    × (record { answer = answer; entries = book .entries; current = current }
+abbrev Worked : Acted → Type 0
+Worked c = First (c .if6 .came)
+
+-- the entry that it works on
+entry-is : (c : Acted) (w : Worked c) → w .2 .x ≡ getD (all-settled (chosen c) .if2 .book .entries) (chosen c .match3 .k) noEntry
+entry-is c w =
+    let s = all-settled (chosen c) in
+    let es = s .if2 .book .entries in
+    let z = after-settle s in
+    ⊎-elim (λ v. v .3)
+    (λ v. v .1 ∙ w .1 .ensures ∙ sym (List·getD-eq-default es noEntry (omega (arith, v .0 .left, z .0 .entries))))
+    (w .2 .came)
+
+-- a request's effect on an entry
+abbrev acts : Chosen → Request → Entry → Effect
+acts c y x =
+    let n = all-settled c .if2 .book in
+    let e = event-at (judged (taken (all-settled c))) in
+    actOn y (c .match3 .k % 256) (asks n e) (recentOn n e) (x .limits) (x .meters) (open-at c)
+
+-- what it does there
+part-is : (c : Acted) (w : Worked c) → w .6 .part
+    ≡ acts (chosen c) (event-at (judged (taken (all-settled (chosen c)))) .request)
+    (getD (all-settled (chosen c) .if2 .book .entries) (chosen c .match3 .k) noEntry)
+part-is c w =
+    let d = chosen c in
+    let e = event-at (judged (taken (all-settled d))) in
+    let x = w .2 .x in
+    let is-part : w .6 .part ≡ acts d (d .match3 .request) x =
+    ⊎-elim (λ v. v .6 ∙ v .4 .ensures ∙ ap (λ (y : Request). acts d y x) (sym (v .1 .given .1)))
+    (λ u. ⊎-elim (λ v. v .4 ∙ v .2 .ensures ∙ ap (λ (y : Request). acts d y x) (sym (v .1 .given .1)))
+    (λ t. ⊎-elim (λ v. v .4 ∙ v .2 .ensures ∙ ap (λ (y : Request). acts d y x) (sym (v .1 .given .1)))
+    (λ v. v .8 ∙ v .6 .ensures
+    ∙ ap (λ (r : Recent). cancelOn (e .player) r (x .limits) (x .meters) (open-at d)) (v .5 .ensures ∙ recent-is d)
+    ∙ ap (λ (y : Request). acts d y x) (sym (v .1 .given .1))) t) u)
+    (w .6 .came) in
+    is-part ∙ ap₂ (acts d) (request-kept d) (entry-is c w)
+
+-- the settled book at the event's time, with that event taken last and those entries
+abbrev timed : Acted → Latest → List Entry → Book
+timed c x es =
+    let n = all-settled (chosen c) .if2 .book in
+    changed n (event-at (judged (taken (all-settled (chosen c)))) .time) x es (n .players)
+
+-- with this event, by whether it started an interval
+abbrev marked : Acted → Bool → List Entry → Book
+marked c w es = timed c (latestBy (event-at (judged (taken (all-settled (chosen c))))) w) es
+
+-- what the operation leaves: the entries with their rows, and with the answer, the use and the mark what the step does
+abbrev Left : Acted → Book → List Row → Answer → Open → Bool → Type 0
+Left c book rows answer current started =
+    (book ≡ marked c started (book .entries)) × (rows ≡ rowsFor book)
+    × (record { answer = answer; entries = book .entries; current = current; started = started }
     ≡ doneOn (all-settled (chosen c) .if2 .book) (event-at (judged (taken (all-settled (chosen c))))))
     × (length (book .entries) ≡ 64)
 
 leaves :
-    (c : Acted) (es : List Entry) (a : Answer) (o : Open) →
-    c .if6 .book ≡ timed c es →
+    (c : Acted) (es : List Entry) (a : Answer) (o : Open) (w : Bool) →
+    c .if6 .book ≡ marked c w es →
     c .if6 .rows ≡ map rowOfEntry es →
     c .if6 .answer ≡ a →
     c .if6 .current ≡ o →
-    record { answer = a; entries = es; current = o }
+    record { answer = a; entries = es; current = o; started = w }
     ≡ doneOn (all-settled (chosen c) .if2 .book) (event-at (judged (taken (all-settled (chosen c))))) →
     length es ≡ 64 →
-    Left c (c .if6 .book) (c .if6 .rows) (c .if6 .answer) (c .if6 .current)
-leaves c es a o hb hr ha ho hd hl = (
-  hb ∙ ap (λ (m : Book). timed c (m .entries)) (sym hb),
+    Left c (c .if6 .book) (c .if6 .rows) (c .if6 .answer) (c .if6 .current) w
+leaves c es a o w hb hr ha ho hd hl = (
+  hb ∙ ap (λ (m : Book). marked c w (m .entries)) (sym hb),
   hr ∙ ap rowsFor (sym hb),
-  ap₂ (λ (x : Answer) (m : Book). record { answer = x; entries = m .entries; current = c .if6 .current }) ha hb
-      ∙ ap (λ (x : Open). record { answer = a; entries = es; current = x }) ho
+  ap₂ (λ (x : Answer) (m : Book). record { answer = x; entries = m .entries; current = c .if6 .current; started = w }) ha hb
+      ∙ ap (λ (x : Open). record { answer = a; entries = es; current = x; started = w }) ho
       ∙ hd,
   ap (λ (m : Book). length (m .entries)) hb ∙ hl,
 )
 
-left-by : (c : Acted) → Left c (c .if6 .book) (c .if6 .rows) (c .if6 .answer) (c .if6 .current)
+left-by : (c : Acted) → (w : Bool) × Left c (c .if6 .book) (c .if6 .rows) (c .if6 .answer) (c .if6 .current) w
 unfolding placed stored
 left-by c =
     let d = chosen c in
@@ -346,23 +409,14 @@ left-by c =
     let o = open-at d in
     let k = d .match3 .k in
     let z = after-settle s in
-    let acts : Request → Entry → Effect = λ y x. actOn y (k % 256) (asks n e) (x .limits) (x .meters) o in
     ⊎-elim
     (λ w.
     let x = w .2 .x in
-    let is-x : x ≡ getD es k noEntry =
-    ⊎-elim (λ v. v .3)
-    (λ v. v .1 ∙ w .1 .ensures ∙ sym (List·getD-eq-default es noEntry (omega (arith, v .0 .left, z .0 .entries))))
-    (w .2 .came) in
+    let is-x = entry-is c w in
     let part = w .6 .part in
-    let is-part : part ≡ acts (d .match3 .request) x =
-    ⊎-elim (λ v. v .6 ∙ v .4 .ensures ∙ ap (λ (y : Request). acts y x) (sym (v .1 .given .1)))
-    (λ u. ⊎-elim (λ v. v .4 ∙ v .2 .ensures ∙ ap (λ (y : Request). acts y x) (sym (v .1 .given .1)))
-    (λ v. v .4 ∙ v .2 .ensures ∙ ap (λ (y : Request). acts y x) (sym (v .1 .given .1))) u)
-    (w .6 .came) in
-    let hd = planned d .acts (w .0 .taken) part (is-part ∙ ap₂ acts (request-kept d) is-x) in
+    let hd = planned d .acts (w .0 .taken) part (part-is c w) in
     let es′ = set es k (record { limits = limitsAt es k; meters = part .meters }) in
-    let done : (w .7 .book ≡ timed c es′) × (w .7 .rows ≡ map rowOfEntry es′) =
+    let done : (w .7 .book ≡ timed c (n .latest) es′) × (w .7 .rows ≡ map rowOfEntry es′) =
     ⊎-elim
     (λ v.
     let rs = s .if2 .rows in
@@ -376,14 +430,26 @@ left-by c =
     ))
     (λ v.
     let same : es ≡ es′ = sym (set-out es k _ (omega (arith, v .0 .left, z .0 .entries))) in (
-      v .1 ∙ ap (timed c) same,
+      v .1 ∙ ap (timed c (n .latest)) same,
       v .2 ∙ z .1 ∙ ap (map rowOfEntry) same,
     ))
     (w .7 .came) in
-    leaves c es′ (part .answer) (part .current) (w .14 ∙ done .0) (w .16 ∙ done .1) (w .20) (w .21) hd (length-set es k _ ∙ z .0 .entries))
-    (λ w. leaves c es (c .before .refusal4 .result) o (w .1) (w .3 ∙ z .1) (w .7) (w .8)
-    (ap (λ (x : Answer). record { answer = x; entries = es; current = o }) (c .before .refusal4 .ensures) ∙ planned d .refuses (w .0 .left))
-    (z .0 .entries))
+    let is-book : c .if6 .book ≡ marked c (part .started) es′ =
+    w .15
+    ∙ ap (λ (m : Book). changed m (m .time) (w .10 .result) (m .entries) (m .players)) (done .0)
+    ∙ ap (λ (x : Latest). timed c x es′) (w .10 .ensures) in (
+      part .started,
+      leaves c es′ (part .answer) (part .current) (part .started) is-book (w .17 ∙ done .1) (w .21) (w .22) hd
+          (length-set es k _ ∙ z .0 .entries),
+    ))
+    (λ w. (
+      false,
+      leaves c es (c .before .refusal4 .result) o false (w .2 ∙ ap (λ (x : Latest). timed c x es) (w .1 .ensures)) (w .4 ∙ z .1) (w .8)
+          (w .9)
+          (ap (λ (x : Answer). record { answer = x; entries = es; current = o; started = false }) (c .before .refusal4 .ensures)
+          ∙ planned d .refuses (w .0 .left))
+          (z .0 .entries),
+    ))
     (c .if6 .came)
 
 -- the lines after the operation, by its answer
@@ -411,38 +477,30 @@ lines-by c =
     let o = open-at d in
     let k = d .match3 .k in
     let z = after-settle s in
-    let acts : Request → Entry → Effect = λ y x. actOn y (k % 256) (asks n e) (x .limits) (x .meters) o in
     let Good : Bool → List Line → Type 0 = λ v ms. v ≡ goodLines (start .b .assets) (start .b .assetcount) ms (start .lent) in
     let moved : (v w : Bool) (ms ns : List Line) → v ≡ w → ms ≡ ns → Good w ns → Good v ms = λ v w ms ns p q g.
     p ∙ g ∙ ap (λ (x : List Line). goodLines (start .b .assets) (start .b .assetcount) x (start .lent)) (sym q) in
     ⊎-elim
     (λ w.
     let x = w .2 .x in
-    let is-x : x ≡ getD es k noEntry =
-    ⊎-elim (λ v. v .3)
-    (λ v. v .1 ∙ w .1 .ensures ∙ sym (List·getD-eq-default es noEntry (omega (arith, v .0 .left, z .0 .entries))))
-    (w .2 .came) in
+    let is-x = entry-is c w in
     let part = w .6 .part in
-    let is-part : part ≡ acts (d .match3 .request) x =
-    ⊎-elim (λ v. v .6 ∙ v .4 .ensures ∙ ap (λ (y : Request). acts y x) (sym (v .1 .given .1)))
-    (λ u. ⊎-elim (λ v. v .4 ∙ v .2 .ensures ∙ ap (λ (y : Request). acts y x) (sym (v .1 .given .1)))
-    (λ v. v .4 ∙ v .2 .ensures ∙ ap (λ (y : Request). acts y x) (sym (v .1 .given .1))) u)
-    (w .6 .came) in
-    let names = planned d .names (w .0 .taken) part (is-part ∙ ap₂ acts (request-kept d) is-x) in
+    let names = planned d .names (w .0 .taken) part (part-is c w) in
     let same-book : (w .7 .book .switch ≡ n .switch) × (w .7 .book .assetcount ≡ n .assetcount) =
     ⊎-elim (λ v. (ap (λ (m : Book). m .switch) (v .6), ap (λ (m : Book). m .assetcount) (v .6)))
     (λ v. (ap (λ (m : Book). m .switch) (v .1), ap (λ (m : Book). m .assetcount) (v .1))) (w .7 .came) in
     let same-request : w .6 .request ≡ e .request =
-    ⊎-elim (λ v. v .5 ∙ sym (v .1 .given .1)) (λ u. ⊎-elim (λ v. v .3) (λ v. v .3) u) (w .6 .came) ∙ request-kept d in
-    let line = w .10 .result in
+    ⊎-elim (λ v. v .5 ∙ sym (v .1 .given .1)) (λ u. ⊎-elim (λ v. v .3) (λ t. ⊎-elim (λ v. v .3) (λ v. v .7) t) u)
+    (w .6 .came) ∙ request-kept d in
+    let line = w .11 .result in
     let hw : line ≡ requestLine (e .request) (part .answer) o (n .switch) (limitsAt es k) (start .b .assets) (n .assetcount) =
-    w .10 .ensures
+    w .11 .ensures
     ∙ ap₂ (λ (v m : ℕ). requestLine (w .6 .request) (part .answer) o v (x .limits) (start .b .assets) m) (same-book .0) (same-book .1)
     ∙ ap₂ (λ (y : Request) (u : Entry). requestLine y (part .answer) o (n .switch) (u .limits) (start .b .assets) (n .assetcount))
     same-request is-x in
     let ha : start .b .assets ≡ b .assets = sym (l .inv .6) in
-    let after : (w .11 .report ≡ recordedAll b A (endedBy (e .request) (e .time) o (part .answer))) × (Good (w .11 .good) (w .11 .report)) ×
-    (length (w .11 .report) ≡ 64) =
+    let after : (w .12 .report ≡ recordedAll b A (endedBy (e .request) (e .time) o (part .answer))) × (Good (w .12 .good) (w .12 .report)) ×
+    (length (w .12 .report) ≡ 64) =
     ⊎-elim
     (λ u.
     let r : Line = u .3 .result in
@@ -451,30 +509,30 @@ lines-by c =
     let hs : sec ≡ requestSeconds (e .request) (e .time) o = u .1 .ensures ∙ ap
     (λ (q : Request). requestSeconds q (e .time) o) same-request in
     let hr : r ≡ y = u .3 .ensures ∙ ap (λ (v : Entry). raised (v .limits) sec (lineAt A line)) is-x in
-    let to : w .11 .report ≡ set A line y = u .5 ∙ ap (set A line) hr in (
+    let to : w .12 .report ≡ set A line y = u .5 ∙ ap (set A line) hr in (
       to ∙ acted-raised b n (e .time) (z .0 .is-settled) A (start .b .assets) ha o (part .answer) (e .request) k names line hw sec hs
           (u .0 .taken),
-      moved (w .11 .good) _ (w .11 .report) (set A line y) (u .6 ∙ u .4 .ensures ∙ ap₂ goodAfter (z .4) hr) to
+      moved (w .12 .good) _ (w .12 .report) (set A line y) (u .6 ∙ u .4 .ensures ∙ ap₂ goodAfter (z .4) hr) to
           (good-raised (start .b .assets) (start .b .assetcount) A (start .lent) line (limitsAt es k) sec
           (omega (arith, u .0 .taken, z .5)) (u .0 .taken)),
       ap length to ∙ length-set A line y ∙ z .5,
     ))
     (λ u. (
       u .1 ∙ acted-kept b n (e .time) (z .0 .is-settled) A (start .b .assets) ha o (part .answer) (e .request) k names line hw (u .0 .left),
-      moved (w .11 .good) (s .if2 .good) (w .11 .report) A (u .2) (u .1) (z .4),
+      moved (w .12 .good) (s .if2 .good) (w .12 .report) A (u .2) (u .1) (z .4),
       ap length (u .1) ∙ z .5,
     ))
-    (w .11 .came) in (
-      w .15 ∙ after .0 ∙ ap (λ (a : Answer). recordedAll b A (endedBy (e .request) (e .time) o a)) (sym (w .20)),
-      moved (c .if6 .good) (w .11 .good) (c .if6 .report) (w .11 .report) (w .18) (w .15) (after .1),
-      ap length (w .15) ∙ after .2,
+    (w .12 .came) in (
+      w .16 ∙ after .0 ∙ ap (λ (a : Answer). recordedAll b A (endedBy (e .request) (e .time) o a)) (sym (w .21)),
+      moved (c .if6 .good) (w .12 .good) (c .if6 .report) (w .12 .report) (w .19) (w .16) (after .1),
+      ap length (w .16) ∙ after .2,
     ))
     (λ w.
-    let off : eqb (c .if6 .answer .code) 0 ≡ false = ap (λ (a : Answer). eqb (a .code) 0) (w .7 ∙ c .before .refusal4 .ensures)
+    let off : eqb (c .if6 .answer .code) 0 ≡ false = ap (λ (a : Answer). eqb (a .code) 0) (w .8 ∙ c .before .refusal4 .ensures)
     ∙ ne-eqb (d .match3 .code) 0 (w .0 .left) in (
-      w .2 ∙ refused-kept b A (e .time) o (c .if6 .answer) (e .request) off,
-      moved (c .if6 .good) (s .if2 .good) (c .if6 .report) A (w .5) (w .2) (z .4),
-      ap length (w .2) ∙ z .5,
+      w .3 ∙ refused-kept b A (e .time) o (c .if6 .answer) (e .request) off,
+      moved (c .if6 .good) (s .if2 .good) (c .if6 .report) A (w .6) (w .3) (z .4),
+      ap length (w .3) ∙ z .5,
     ))
     (c .if6 .came)
 
@@ -495,15 +553,15 @@ ends-by c q hq =
     let small : j < length ps = omega (arith, z .0 .players) in
     ⊎-elim
     (λ w.
-    let end : w .12 .result ≡ endOf (q .current) = w .12 .ensures ∙ ap endOf (sym (w .21)) ∙ ap endOf (sym hq) in (
-      w .17 ∙ ends-next ps (s .if2 .ends) (z .2) j q (w .12 .result) end,
-      subst (λ (v : ℕ). NextExpiry v (set ps j q)) (sym (w .19 ∙ w .13 .ensures ∙ ap (min (s .if2 .next)) end))
+    let end : w .13 .result ≡ endOf (q .current) = w .13 .ensures ∙ ap endOf (sym (w .22)) ∙ ap endOf (sym hq) in (
+      w .18 ∙ ends-next ps (s .if2 .ends) (z .2) j q (w .13 .result) end,
+      subst (λ (v : ℕ). NextExpiry v (set ps j q)) (sym (w .20 ∙ w .14 .ensures ∙ ap (min (s .if2 .next)) end))
           (expiry-store (s .if2 .next) ps j q (z .0 .expiry) small),
     ))
     (λ w.
-    let same : q .current ≡ openAt ps j = hq ∙ w .8 in (
-      w .4 ∙ ends-same ps (s .if2 .ends) (z .2) j q same,
-      subst (λ (v : ℕ). NextExpiry v (set ps j q)) (sym (w .6)) (expiry-keep (s .if2 .next) ps j q (z .0 .expiry) small same),
+    let same : q .current ≡ openAt ps j = hq ∙ w .9 in (
+      w .5 ∙ ends-same ps (s .if2 .ends) (z .2) j q same,
+      subst (λ (v : ℕ). NextExpiry v (set ps j q)) (sym (w .7)) (expiry-keep (s .if2 .next) ps j q (z .0 .expiry) small same),
     ))
     (c .if6 .came)
 
@@ -1031,6 +1089,9 @@ enum-told-3 c = search needs
 enum-told-4 : tie.Need-enum-told-4 Inv-loop2 μ-loop2 Inv-loop3 μ-loop3 Inv-loop μ-loop
 enum-told-4 c = search needs
 
+enum-told-5 : tie.Need-enum-told-5 Inv-loop2 μ-loop2 Inv-loop3 μ-loop3 Inv-loop μ-loop
+enum-told-5 c = search needs
+
 refusal-requires-4 :
     tie.Need-refusal-requires-4 Inv-loop2 μ-loop2 Inv-loop3 μ-loop3 Inv-loop μ-loop
 refusal-requires-4 c κs = tt
@@ -1059,18 +1120,33 @@ cast-begin-on c = search needs
 begin-on-requires : tie.Need-begin-on-requires Inv-loop2 μ-loop2 Inv-loop3 μ-loop3 Inv-loop μ-loop
 begin-on-requires c κs = tt
 
-enum-told-5 : tie.Need-enum-told-5 Inv-loop2 μ-loop2 Inv-loop3 μ-loop3 Inv-loop μ-loop
-enum-told-5 c = search needs
+enum-told-6 : tie.Need-enum-told-6 Inv-loop2 μ-loop2 Inv-loop3 μ-loop3 Inv-loop μ-loop
+enum-told-6 c = search needs
 
 continue-on-requires :
     tie.Need-continue-on-requires Inv-loop2 μ-loop2 Inv-loop3 μ-loop3 Inv-loop μ-loop
 continue-on-requires c κs = tt
 
-enum-told-6 : tie.Need-enum-told-6 Inv-loop2 μ-loop2 Inv-loop3 μ-loop3 Inv-loop μ-loop
-enum-told-6 c = search needs
+enum-told-7 : tie.Need-enum-told-7 Inv-loop2 μ-loop2 Inv-loop3 μ-loop3 Inv-loop μ-loop
+enum-told-7 c = search needs
 
 stop-on-requires : tie.Need-stop-on-requires Inv-loop2 μ-loop2 Inv-loop3 μ-loop3 Inv-loop μ-loop
 stop-on-requires c κs = tt
+
+enum-told-8 : tie.Need-enum-told-8 Inv-loop2 μ-loop2 Inv-loop3 μ-loop3 Inv-loop μ-loop
+enum-told-8 c = search needs
+
+mul-own : tie.Need-mul-own Inv-loop2 μ-loop2 Inv-loop3 μ-loop3 Inv-loop μ-loop
+mul-own c = search needs
+
+element-copy-out-own : tie.Need-element-copy-out-own Inv-loop2 μ-loop2 Inv-loop3 μ-loop3 Inv-loop μ-loop
+element-copy-out-own c = search needs
+
+recent-of-requires : tie.Need-recent-of-requires Inv-loop2 μ-loop2 Inv-loop3 μ-loop3 Inv-loop μ-loop
+recent-of-requires c κs = tt
+
+cancel-on-requires : tie.Need-cancel-on-requires Inv-loop2 μ-loop2 Inv-loop3 μ-loop3 Inv-loop μ-loop
+cancel-on-requires c κs = tt
 
 mul-y-2 : tie.Need-mul-y-2 Inv-loop2 μ-loop2 Inv-loop3 μ-loop3 Inv-loop μ-loop
 mul-y-2 c = search needs
@@ -1100,6 +1176,9 @@ mul-rows-2 c = search needs
 array-set-from-rows-2 :
     tie.Need-array-set-from-rows-2 Inv-loop2 μ-loop2 Inv-loop3 μ-loop3 Inv-loop μ-loop
 array-set-from-rows-2 c = search needs
+
+latest-by-requires : tie.Need-latest-by-requires Inv-loop2 μ-loop2 Inv-loop3 μ-loop3 Inv-loop μ-loop
+latest-by-requires c κs = tt
 
 request-line-requires : tie.Need-request-line-requires Inv-loop2 μ-loop2 Inv-loop3 μ-loop3 Inv-loop μ-loop
 request-line-requires c κs = tt
@@ -1137,6 +1216,9 @@ array-write-ends-2 c = search needs
 min-time-requires-2 : tie.Need-min-time-requires-2 Inv-loop2 μ-loop2 Inv-loop3 μ-loop3 Inv-loop μ-loop
 min-time-requires-2 c κs = tt
 
+latest-by-requires-2 : tie.Need-latest-by-requires-2 Inv-loop2 μ-loop2 Inv-loop3 μ-loop3 Inv-loop μ-loop
+latest-by-requires-2 c κs = tt
+
 mul-q-2 : tie.Need-mul-q-2 Inv-loop2 μ-loop2 Inv-loop3 μ-loop3 Inv-loop μ-loop
 mul-q-2 c = search needs
 
@@ -1172,16 +1254,18 @@ loop-again-4 c =
     let current = x .if6 .current in
     let z = after-settle s in
     let kept = assets-kept s in
-    let u = left-by x in
+    let started = left-by x .0 in
+    let u = left-by x .1 in
     let first = judged (taken s) .before .before .before .before .noted-last in
     let last : Last = answeredBy (first .result) answer in
     let q : Player = record { last = last; current = current } in
     let store : Book → Book = λ m. with m (m .entries) (set (m .players) j q) in
-    let is-book : store (x .if6 .book) ≡ closing n es j (e .time) last current = ap store (u .0) in
+    let is-book : store (x .if6 .book) ≡ closing n es j (e .time) (latestBy e started) last current = ap store (u .0) in
     let v = lines-by x in
     let f : arrive (l .book) (admitted-at r) ≡ record { answer = answer; book = store (x .if6 .book) } =
-    case-taken (l .book) (admitted-at r) e n (record { answer = answer; entries = es; current = current }) j last (is-admitted (taken s))
-    (z .0 .is-settled) (u .2) (is-player (taken s)) (noted-answer e _ answer (first .result) (first .ensures))
+    case-taken (l .book) (admitted-at r) e n (record { answer = answer; entries = es; current = current; started = started }) j
+    (latestBy e started) last (is-admitted (taken s)) (z .0 .is-settled) (u .2) (is-player (taken s)) refl
+    (noted-answer e _ answer (first .result) (first .ensures))
     ∙ ap (λ (m : Book). record { answer = answer; book = m }) (sym is-book) in
     let same-open : open-at (chosen x) ≡ openAt (map (shut (e .time)) (l .book .players)) (e .player) =
     ap (openAt ps) (is-player (taken s)) ∙ ap (λ (m : Book). openAt (m .players) (e .player)) (z .0 .is-settled) in
@@ -1324,6 +1408,7 @@ answer-block-spec =
     begin-code-requires
     enum-told-3
     enum-told-4
+    enum-told-5
     refusal-requires-4
     blank-entry-requires
     mul-held
@@ -1332,10 +1417,15 @@ answer-block-spec =
     enum-known-request-2
     cast-begin-on
     begin-on-requires
-    enum-told-5
-    continue-on-requires
     enum-told-6
+    continue-on-requires
+    enum-told-7
     stop-on-requires
+    enum-told-8
+    mul-own
+    element-copy-out-own
+    recent-of-requires
+    cancel-on-requires
     mul-y-2
     element-copy-out-y
     mul-y-3
@@ -1345,6 +1435,7 @@ answer-block-spec =
     refreshed-requires
     mul-rows-2
     array-set-from-rows-2
+    latest-by-requires
     request-line-requires
     request-seconds-requires
     mul-line-2
@@ -1357,6 +1448,7 @@ answer-block-spec =
     mul-ends-2
     array-write-ends-2
     min-time-requires-2
+    latest-by-requires-2
     mul-q-2
     element-set-from-q-2
     put-line-requires-4

@@ -1,11 +1,6 @@
 -- `image_meters::entry_meters_legal` meets its contract: its tests are the definition's. The open uses are counted by their marks.
-use mathlib.Core.Path.{_≡_}
-use mathlib.Core.List.{List}
-use Prim.Native.Nat.{ℕ}
-use Rattle.numbers.specs.Bits.{ones}
-use Rattle.numbers.proofs.BitLaws.{ones-mask}
-use Rattle.book.specs.declared.Player.{Player}
-use Rattle.model.specs.Book.{playerAt, opens, openUses, marksOf, entryMetersLegal}
+use Rattle.rules.specs.Uses.{uses-marked}
+use Rattle.model.specs.Book.{entryMetersLegal}
 use Rattle.rules.specs.Rules.{flagsOf}
 use borrow.Author.Needs.{needs}
 use Rattle.image_meters.proofs.entry_meters_legal.Statement.{statement}
@@ -40,11 +35,6 @@ meters-cover-requires c κs = search needs
 
 marks-legal-requires : tie.Need-marks-legal-requires
 marks-legal-requires c κs = search needs
-
--- each player has one use open at most
-uses-marked : (ps : List Player) (i : ℕ) → ones (marksOf ps i) ≡ openUses ps i
-unfolding marksOf openUses
-uses-marked ps i = ones-mask (λ p. opens i (playerAt ps p .current))
 
 returns : tie.Need-returns
 unfolding entryMetersLegal flagsOf

@@ -29,7 +29,7 @@ returns-2 c =
     let a = c .before .before .before .before .before .args in
     let older : leb 4 (a .v) ≡ false = lt-leb 4 (a .v) (omega arith) in
     let table = c .marked-entries .ensures ∙ ap (markedEntries (a .b .players) (a .b .entries)) (c .before .at-most-64 .ensures) in
-    rw older (ap (λ (es : List Entry). changed (a .b) (a .b .time) es (a .b .players)) table)
+    rw older (ap (λ (es : List Entry). changed (a .b) (a .b .time) (a .b .latest) es (a .b .players)) table)
 
 pub marked-spec : {M : Type 1} → statement M
 marked-spec = tie.close (tie.spec returns at-most-64-requires marked-entries-requires returns-2)

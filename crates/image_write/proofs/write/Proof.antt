@@ -11,7 +11,7 @@ use lib.ListN.{length}
 use Rattle.numbers.specs.Buffer.{lay}
 use Rattle.model.specs.Book.{assetsIn, entriesIn}
 use Rattle.model.specs.Image.{newest, headerSize, assetSize, entrySize, playerSize, imageLength, lengthOf, writeAnswer, writeBuffer}
-use Rattle.image_pieces.specs.Pieces.{startBytes, numberBytes, header-pieces}
+use Rattle.image_pieces.specs.Pieces.{startBytes, numberBytes, latestBytes, header-pieces}
 use Rattle.image_write.specs.Laid.{header, withHeader, withAssets, withEntries, withPlayers, entriesFrom, playersFrom, length-is}
 use Rattle.image_write.specs.Laid.{counted, laid-image}
 use Rattle.image_write.proofs.write.Statement.{statement}
@@ -66,7 +66,7 @@ returns-2 c =
     let at-entries = at-players .before .before .before .before .before in
     let at-assets = at-entries .before .before .before .before .before in
     let at-header = at-assets .before .before .before .before .before in
-    let at-count = at-header .before .before in
+    let at-count = at-header .before .before .before in
     let at-test = at-count .before .before in
     let at-length = at-test .before in
     let a = at-length .before .before .args in
@@ -81,7 +81,8 @@ returns-2 c =
     let fits : lengthOf b ≤ length old =
     omega (arith, at-test .if1 .left, at-length .image-length .ensures ∙ counted b) in
     let room : playersFrom b + playerSize newest * 16 ≤ length old = rw (length-is b) at fits in
-    let head = ap₂ (λ (n m : ℕ). startBytes n m (b .time) ++ numberBytes (b .switch)) na ne ∙ header-pieces (assetsIn b) (entriesIn b) b in
+    let head = ap₂ (λ (n m : ℕ). startBytes n m (b .time) ++ numberBytes (b .switch) ++ latestBytes (b .latest)) na ne
+    ∙ header-pieces (assetsIn b) (entriesIn b) b in
     let o₁ : ph .result ≡ headerSize newest = ph .ensures .0 in
     let o₂ : pa .result ≡ entriesFrom b = pa .ensures .0 ∙ (rw (o₁, na) refl) in
     let o₃ : pe .result ≡ playersFrom b = pe .ensures .0 ∙ (rw (o₂, ne) refl) in

@@ -36,6 +36,9 @@ saturating-sub-requires c κs = search needs
 record-end-requires-2 : tie.Need-record-end-requires-2
 record-end-requires-2 c κs = search needs
 
+enum-told-3 : tie.Need-enum-told-3
+enum-told-3 c = search needs
+
 returns : tie.Need-returns
 unfolding endedBy
 returns c =
@@ -82,6 +85,10 @@ unfolding endedBy
 returns-5 c = let a = c .before .before .before .before .args in rw (c .before .before .enum-told2 .given .1, ne-eqb _ _ (c .if2 .left))
     (all-none (a .b) (a .lines))
 
+returns-6 : tie.Need-returns-6
+unfolding endedBy
+returns-6 c = let a = c .before .before .args in rw (c .enum-told3 .given .1) (all-none (a .b) (a .lines))
+
 pub record-request-spec : {M : Type 1} → statement M
 record-request-spec =
     tie.close
@@ -95,8 +102,10 @@ record-request-spec =
     enum-told-2
     saturating-sub-requires
     record-end-requires-2
+    enum-told-3
     returns
     returns-2
     returns-3
     returns-4
-    returns-5)
+    returns-5
+    returns-6)

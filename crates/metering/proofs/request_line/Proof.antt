@@ -30,6 +30,9 @@ enum-told-2 c = search needs
 line-for-requires-2 : tie.Need-line-for-requires-2
 line-for-requires-2 c κs = search needs
 
+enum-told-3 : tie.Need-enum-told-3
+enum-told-3 c = search needs
+
 returns : tie.Need-returns
 unfolding requestLine
 returns c =
@@ -62,6 +65,10 @@ returns-5 : tie.Need-returns-5
 unfolding requestLine
 returns-5 c = rw (c .before .before .enum-told2 .given .1, ne-eqb _ _ (c .if2 .left)) refl
 
+returns-6 : tie.Need-returns-6
+unfolding requestLine
+returns-6 c = rw (c .enum-told3 .given .1) refl
+
 pub request-line-spec : {M : Type 1} → statement M
 request-line-spec =
     tie.close
@@ -74,8 +81,10 @@ request-line-spec =
     enum-told
     enum-told-2
     line-for-requires-2
+    enum-told-3
     returns
     returns-2
     returns-3
     returns-4
-    returns-5)
+    returns-5
+    returns-6)

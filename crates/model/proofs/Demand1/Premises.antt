@@ -5,8 +5,8 @@ use mathlib.Core.List.{List, [], _∷_}
 use native.Mathlib.Omega.{arith}
 use Rattle.numbers.specs.Count.{listed}
 use Rattle.model.specs.Run.{zeroLines}
-use Rattle.model.specs.Demand1.{GoodList, LegalRequest, begin, continue, stop, IsEvent, asker, Against, bad-list, cut, no-player}
-use Rattle.model.specs.Demand1.{no-request, unlike}
+use Rattle.model.specs.Demand1.{GoodList, LegalRequest, begin, continue, stop, cancel, IsEvent, asker, Against, bad-list, cut}
+use Rattle.model.specs.Demand1.{no-player, no-request, unlike}
 use Rattle.model.specs.Demand1.{out-of-line, out-of-time, Follows, same-boot, next-boot, greater-boot, IsResend, IsTaken}
 use Rattle.model.specs.Demand1.{TakenCode}
 use Rattle.model.proofs.Examples.AnswerCodes.{odd, bytes, kept, met}
@@ -53,6 +53,7 @@ one = no-request refl kept-good refl (omega arith) bad
     bad (begin o l h) = omega (arith, o)
     bad (continue o a k) = omega (arith, o)
     bad (stop o a k) = omega (arith, o)
+    bad (cancel o a k) = omega (arith, k)
 
 pub four : Against odd kept (bytes 0 5 1 1 2 100) 4
 four =

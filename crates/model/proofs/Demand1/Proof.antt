@@ -8,7 +8,8 @@ use lib.ListN.{length, getD, length-map}
 use lib.Seq.{getD-set-same, getD-set-other}
 use lib.Dec.{leb, ltb, eqb}
 use native.Mathlib.Omega.{arith}
-use borrow.Author.Tests.{eqb-true, ltb-true, ltb-false, leb-true, leb-false, not-false, eq-eqb, ne-eqb, lt-ltb, le-ltb, le-leb}
+use borrow.Author.Tests.{eqb-true, ltb-true, ltb-false, leb-true, leb-false, not-true, not-false, eq-eqb, ne-eqb, lt-ltb, le-ltb, le-leb}
+use Rattle.numbers.specs.Count.{one}
 use Rattle.numbers.specs.Fields.{size}
 use Rattle.book.specs.declared.Answer.{Answer}
 use Rattle.book.specs.declared.Last.{Last}
@@ -20,34 +21,36 @@ use Rattle.book.specs.declared.Book.{Book}
 use Rattle.book.specs.declared.Event.{Event}
 use Rattle.book.specs.declared.Ask.{Ask}
 use Rattle.book.specs.declared.Outcome.{Outcome}
+use Rattle.book.specs.declared.Recent.{Recent}
 use Rattle.book.specs.declared.Request.{Request}
-use Rattle.book.specs.declared.Request.the-variants.{Begin, Continue, Stop}
+use Rattle.book.specs.declared.Request.the-variants.{Begin, Continue, Stop, Cancel}
 use Rattle.book.specs.declared.Decoded.{Decoded}
 use Rattle.book.specs.declared.Decoded.the-variants.{Invalid, Valid}
 use Rattle.book.specs.declared.Gate.{Gate}
 use Rattle.book.specs.declared.Gate.the-variants.{Refuse, Resend, Take}
 use Rattle.book.specs.Blank.{noEntry, noPlayer, noBook, closed}
 use Rattle.model.specs.Book.{limitsAt, metersAt, playerAt, latestTime, momentary, between, assetsLegal, entriesLegal, requestLegal}
-use Rattle.model.specs.Book.{takenCode, answerLegal, switchLegal, playersLegal, metersLegal, ruleBroken, Legal}
+use Rattle.model.specs.Book.{takenCode, answerLegal, switchLegal, playersLegal, latestPasses, metersLegal, ruleBroken, Legal}
+use Rattle.model.specs.Book.{flagged, intervalFlag}
 use Rattle.model.specs.Image.{headerStart, newest, imageLength, Bytes, markIn, versionIn, assetCountIn, entryCountIn, timeIn}
 use Rattle.model.specs.Image.{headerBroken, readCode, readBook, bookIn}
 use Rattle.model.specs.Record.{kindNumber, operationNumber, requestAsset, requestKind, kindOf, requestOf, eventIn, decoded}
 use Rattle.model.specs.Gate.{sameRequest, sameNumber, inLine, gate}
-use Rattle.model.specs.Meters.{amend, isOn, expired, shut, settled}
+use Rattle.model.specs.Meters.{amend, isStarted, isOn, expired, shut, settled}
 use Rattle.model.specs.Choice.{Catalog, catalogOf, usable, parentOf, own, suitable, grantable, suits, allowed, goesBefore, anyOf}
 use Rattle.model.specs.Choice.{choose, Choice, nobody, chosen, asks, failsForSwitch, noneGrantable}
-use Rattle.model.specs.Step.{Done, unchanged, granted, doBegin, more, doContinue, doStop, done, openAt, noted, takenStep, stepBy}
-use Rattle.model.specs.Step.{step, arrive}
+use Rattle.model.specs.Step.{Done, unchanged, startsInterval, granted, doBegin, more, doContinue, doStop, doCancel, done, lastAt}
+use Rattle.model.specs.Step.{openAt, recentOf, noted, takenStep, stepBy, step, arrive}
 use Rattle.model.specs.Report.{lineAt, good, recordedAll, endings, linesBy, linesRead, admitted, receive, linesLeft}
 use Rattle.model.specs.Demand1.{askedPlayer, askedNumber, askedOperation, askedAsset, askedKind, askedTime, LegalRequest, begin}
-use Rattle.model.specs.Demand1.{continue, stop, IsEvent, asker, SameNumber, SameRequest, InLine, InTime, Against, bad-list, cut}
-use Rattle.model.specs.Demand1.{no-player}
-use Rattle.model.specs.Demand1.{GoodList, received, left}
+use Rattle.model.specs.Demand1.{continue, stop, cancel, IsEvent, asker, SameNumber, SameRequest, InLine, InTime, Against, bad-list}
+use Rattle.model.specs.Demand1.{cut, no-player, GoodList, received, left}
 use Rattle.model.specs.Demand1.{no-request, unlike, out-of-line, out-of-time, IsResend, IsTaken, Verdict, turned-away, resend, taken}
-use Rattle.model.specs.Demand1.{refused, TakenCode, Settles, settledEntries, LeavesSettled, Opens, Stored, TableCode, Answered}
+use Rattle.model.specs.Demand1.{refused, TakenCode, Settles, settledEntries, LeavesSettled, Opens, StartedInterval, Stored}
+use Rattle.model.specs.Demand1.{AddedCode, TableCode, Answered}
 use Rattle.model.specs.Demand1.{ImageCode, IsImage, Demand1}
-use Rattle.model.proofs.Ledger.Facts.{on-test, on-same, clash, and-left, and-right, and-both}
-use Rattle.model.proofs.Ledger.Concrete.{Sure, choose-sound, shut-at}
+use Rattle.model.proofs.Ledger.Facts.{on-test, on-same, clash, and-left, and-right, and-both, one-le}
+use Rattle.model.proofs.Ledger.Concrete.{Sure, choose-sound, shut-at, settled-limits}
 use Rattle.model.proofs.Ledger.WellFormed.{Static, step-static}
 use Rattle.model.proofs.Demand3.Checks.{gate-again, gate-4, gate-3, gate-5, gate-0, same-number, other-number, follows-line}
 use Rattle.model.proofs.Demand3.Checks.{next-follows, none-after, line-follows, line-is, follows-not, in-time, not-in-time}
@@ -63,19 +66,20 @@ unfolding requestLegal
 legal-test operation asset kind (begin o l h) = rw (o, le-leb 1 kind l, le-leb kind 5 h)
 legal-test operation asset kind (continue o a k) = rw (o, a, k)
 legal-test operation asset kind (stop o a k) = rw (o, a, k)
+legal-test operation asset kind (cancel o a k) = rw (o, a, k)
 
 other-request : (operation asset kind : ℕ) → (operation ≡ 1 → ⊥) → requestLegal operation asset kind ≡ true → LegalRequest operation
     asset kind
 unfolding requestLegal
 other-request operation asset kind n h =
-    let w : (between 2 3 operation && eqb asset 0 && eqb kind 0) ≡ true = rw (ne-eqb operation 1 n) at h in
-    let k : kind ≡ 0 = eqb-true kind 0 (and-right (between 2 3 operation && eqb asset 0) (eqb kind 0) w) in
-    let v : (between 2 3 operation && eqb asset 0) ≡ true = and-left (between 2 3 operation && eqb asset 0) (eqb kind 0) w in
-    let a : asset ≡ 0 = eqb-true asset 0 (and-right (between 2 3 operation) (eqb asset 0) v) in
-    let u : between 2 3 operation ≡ true = and-left (between 2 3 operation) (eqb asset 0) v in
-    let low : 2 ≤ operation = leb-true 2 operation (and-left (leb 2 operation) (leb operation 3) u) in
-    let high : operation ≤ 3 = leb-true operation 3 (and-right (leb 2 operation) (leb operation 3) u) in
-    on-same operation 2 (λ e. continue e a k) (λ e. stop (omega arith) a k)
+    let w : (between 2 4 operation && eqb asset 0 && eqb kind 0) ≡ true = rw (ne-eqb operation 1 n) at h in
+    let k : kind ≡ 0 = eqb-true kind 0 (and-right (between 2 4 operation && eqb asset 0) (eqb kind 0) w) in
+    let v : (between 2 4 operation && eqb asset 0) ≡ true = and-left (between 2 4 operation && eqb asset 0) (eqb kind 0) w in
+    let a : asset ≡ 0 = eqb-true asset 0 (and-right (between 2 4 operation) (eqb asset 0) v) in
+    let u : between 2 4 operation ≡ true = and-left (between 2 4 operation) (eqb asset 0) v in
+    let low : 2 ≤ operation = leb-true 2 operation (and-left (leb 2 operation) (leb operation 4) u) in
+    let high : operation ≤ 4 = leb-true operation 4 (and-right (leb 2 operation) (leb operation 4) u) in
+    on-same operation 2 (λ e. continue e a k) (λ x. on-same operation 3 (λ e. stop e a k) (λ y. cancel (omega arith) a k))
 
 test-legal : (operation asset kind : ℕ) → requestLegal operation asset kind ≡ true → LegalRequest operation asset kind
 unfolding requestLegal
@@ -104,59 +108,78 @@ unfolding requestOf
 numbers operation asset kind (begin o l h) = rw o (record { same-operation = refl; same-asset = refl; same-kind = kind-number kind l h })
 numbers operation asset kind (continue o a k) = rw o (record { same-operation = refl; same-asset = sym a; same-kind = sym k })
 numbers operation asset kind (stop o a k) = rw o (record { same-operation = refl; same-asset = sym a; same-kind = sym k })
+numbers operation asset kind (cancel o a k) = rw o (record { same-operation = refl; same-asset = sym a; same-kind = sym k })
 
 -- ## What a taken event does, once all players are settled
 
--- a code of 10 to 15 or 43 and nothing changed, or a grant that changes no entry but its own
+-- a refusal that changes nothing, or a grant that changes no entry but its own
 data Did (es : List Entry) (o : Open) (d : Done) : Type 0 where
-  kept : (code : ℕ) → 10 ≤ code → code ≤ 15 → d ≡ unchanged code es o → Did es o d
-  kept-43 : d ≡ unchanged 43 es o → Did es o d
+  kept : (code : ℕ) → 0 < code → TakenCode code → d ≡ unchanged code es o → Did es o d
   gave : d .answer .code ≡ 0 → ((i : ℕ) → (i ≡ d .answer .entry → ⊥) → getD (d .entries) i noEntry ≡ getD es i noEntry) → Did es o d
+
+-- one of 10 to 15
+kept-at : {es : List Entry} {o : Open} (code : ℕ) → 10 ≤ code → code ≤ 15 → Did es o (unchanged code es o)
+kept-at code low high = kept code (omega arith) (inr (inl (low, high))) refl
+
+-- one of the added codes
+kept-added : {es : List Entry} {o : Open} (code : ℕ) → AddedCode code → Did es o (unchanged code es o)
+kept-added code c = kept code (omega (arith, c .0)) (inr (inr c)) refl
 
 begin-did : (c : Catalog) (es : List Entry) (o : Open) (t : Ask) (asset kind : ℕ) → Did es o (doBegin c es o t asset kind)
 unfolding doBegin amend noneGrantable
 begin-did c es o t asset kind =
-    on-test (isOn o) (λ q. rw q (kept 11 (omega arith) (omega arith) refl)) (λ q.
-    on-test (not (usable c asset)) (λ r. rw (q, r) (kept 10 (omega arith) (omega arith) refl)) (λ r.
-    on-test (not (anyOf (suits c es asset kind) (c .entryCount))) (λ u. rw (q, r, u) (kept 12 (omega arith) (omega arith) refl)) (λ u.
+    on-test (isOn o) (λ q. rw q (kept-at 11 (omega arith) (omega arith))) (λ q.
+    on-test (not (usable c asset)) (λ r. rw (q, r) (kept-at 10 (omega arith) (omega arith))) (λ r.
+    on-test (not (anyOf (suits c es asset kind) (c .entryCount))) (λ u. rw (q, r, u) (kept-at 12 (omega arith) (omega arith))) (λ u.
     rw (q, r, u) (go _ (choose c es t asset kind)))))
   where
     go : (o′ : Open) (x : Choice) → Did es o′ (granted (noneGrantable c es t asset kind) t asset es o′ x)
     go o′ nobody =
         on-test (anyOf (failsForSwitch c es t asset kind) (c .entryCount))
-        (λ q. rw q (kept-43 refl))
-        (λ q. rw q (kept 13 (omega arith) (omega arith) refl))
+        (λ q. rw q (kept-added 43 (omega arith, omega arith)))
+        (λ q. rw q (kept-at 13 (omega arith) (omega arith)))
     go o′ (chosen i) = gave refl (λ j n. getD-set-other es i j _ noEntry n)
 
-done-did : (q : Request) (c : Catalog) (es : List Entry) (o : Open) (t : Ask) → Did es o (done q c es o t)
-unfolding done doContinue doStop amend
-done-did (Begin kind asset) c es o t = begin-did c es o t asset (kindNumber kind)
-done-did Continue c es o t =
-    on-test (not (isOn o)) (λ q. rw q (kept 14 (omega arith) (omega arith) refl)) (λ q.
+done-did : (q : Request) (c : Catalog) (es : List Entry) (o : Open) (t : Ask) (x : Recent) → Did es o (done q c es o t x)
+unfolding done doContinue doStop doCancel amend
+done-did (Begin kind asset) c es o t x = begin-did c es o t asset (kindNumber kind)
+done-did Continue c es o t x =
+    on-test (not (isOn o)) (λ q. rw q (kept-at 14 (omega arith) (omega arith))) (λ q.
     on-test (leb (more es o (t .time)) (o .until))
-    (λ r. rw (q, r) (kept 15 (omega arith) (omega arith) refl))
+    (λ r. rw (q, r) (kept-at 15 (omega arith) (omega arith)))
     (λ r. rw (q, r) (gave refl (λ j n. getD-set-other es (o .entry) j _ noEntry n))))
-done-did Stop c es o t =
-    on-test (not (isOn o)) (λ q. rw q (kept 14 (omega arith) (omega arith) refl)) (λ q.
+done-did Stop c es o t x =
+    on-test (not (isOn o)) (λ q. rw q (kept-at 14 (omega arith) (omega arith))) (λ q.
     rw q (gave refl (λ j n. getD-set-other es (o .entry) j _ noEntry n)))
+done-did Cancel c es o t x =
+    on-test (not (isOn o)) (λ q. rw q (kept-at 14 (omega arith) (omega arith))) (λ q.
+    on-test (not (x .begun))
+    (λ r. rw (q, r) (kept-added 44 (omega arith, omega arith)))
+    (λ r. rw (q, r) (gave refl (λ j n. getD-set-other es (o .entry) j _ noEntry n))))
 
 did-code : {es : List Entry} {o : Open} {d : Done} → Did es o d → TakenCode (d .answer .code)
-did-code (kept code low high q) =
-    let c = ap (λ (x : Done). x .answer .code) q in
-    inr (inl (omega (arith, low, c), omega (arith, high, c)))
-did-code (kept-43 q) = inr (inr (ap (λ (x : Done). x .answer .code) q))
+did-code (kept code some c q) = subst TakenCode (sym (ap (λ (x : Done). x .answer .code) q)) c
 did-code (gave z f) = inl z
 
 did-grants : {es : List Entry} {o : Open} {d : Done} → Did es o d → d .answer .code ≡ 0
     → (i : ℕ) → (i ≡ d .answer .entry → ⊥) → getD (d .entries) i noEntry ≡ getD es i noEntry
-did-grants (kept code low high q) z = absurd (omega (arith, z, low, ap (λ (x : Done). x .answer .code) q))
-did-grants (kept-43 q) z = absurd (omega (arith, z, ap (λ (x : Done). x .answer .code) q))
+did-grants (kept code some c q) z = absurd (omega (arith, z, some, ap (λ (x : Done). x .answer .code) q))
 did-grants (gave z f) y = f
 
 did-refuses : {es : List Entry} {o : Open} {d : Done} → Did es o d → (d .answer .code ≡ 0 → ⊥) → d ≡ unchanged (d .answer .code) es o
-did-refuses {es} {o} {d} (kept code low high q) n = subst (λ (x : Done). x ≡ unchanged (x .answer .code) es o) (sym q) refl
-did-refuses {es} {o} {d} (kept-43 q) n = subst (λ (x : Done). x ≡ unchanged (x .answer .code) es o) (sym q) refl
+did-refuses {es} {o} {d} (kept code some c q) n = subst (λ (x : Done). x ≡ unchanged (x .answer .code) es o) (sym q) refl
 did-refuses (gave z f) n = absurd (n z)
+
+-- only a begin starts an interval
+no-start : (q : Request) (c : Catalog) (es : List Entry) (o : Open) (t : Ask) (x : Recent) → (operationNumber q ≡ 1 → ⊥)
+    → done q c es o t x .started ≡ false
+unfolding done doContinue doStop doCancel
+no-start (Begin kind asset) c es o t x n = absurd (n refl)
+no-start Continue c es o t x n =
+    on-test (not (isOn o)) (λ q. rw q) (λ q. on-test (leb (more es o (t .time)) (o .until)) (λ r. rw (q, r)) (λ r. rw (q, r)))
+no-start Stop c es o t x n = on-test (not (isOn o)) (λ q. rw q) (λ q. rw q)
+no-start Cancel c es o t x n =
+    on-test (not (isOn o)) (λ q. rw q) (λ q. on-test (not (x .begun)) (λ r. rw (q, r)) (λ r. rw (q, r)))
 
 -- ## What a grant opens
 
@@ -171,13 +194,19 @@ kind-runs : (k : ℕ) → k ≤ 3 → momentary k ≡ false
 unfolding momentary
 kind-runs k h = on-test (leb 4 k) (λ q. absurd (omega (arith, leb-true 4 k q, h))) (λ q. rw q)
 
-record Opened (o : Open) (t asset kind : ℕ) (d : Done) : Type 0 where
+runs-kind : (k : ℕ) → k ≤ 5 → momentary k ≡ false → k ≤ 3
+unfolding momentary
+runs-kind k h q = on-test (leb 4 k) (λ r. clash (and-both r (le-leb k 5 h)) q) (λ r. omega (arith, leb-false 4 k r))
+
+record Opened (es : List Entry) (o : Open) (t asset kind : ℕ) (d : Done) : Type 0 where
   runs : kind ≤ 3 → d .current ≡ record { on = 1; entry = d .answer .entry; begin = t; until = d .answer .until; content = asset }
   moment : 4 ≤ kind → kind ≤ 5 → d .current ≡ o
+  starts : d .started ≡ (not (momentary kind) && flagged intervalFlag (limitsAt es (d .answer .entry))
+      && not (isStarted (metersAt es (d .answer .entry))))
 
 begin-opens : (c : Catalog) (es : List Entry) (o : Open) (t : Ask) (asset kind : ℕ) → doBegin c es o t asset kind .answer .code ≡ 0
-    → Opened o (t .time) asset kind (doBegin c es o t asset kind)
-unfolding doBegin choose suitable noneGrantable
+    → Opened es o (t .time) asset kind (doBegin c es o t asset kind)
+unfolding doBegin choose suitable noneGrantable startsInterval
 begin-opens c es o t asset kind z =
     on-test (isOn o) (λ q. absurd (no-code 11 (omega arith) (rw q at z))) (λ q.
     on-test (not (usable c asset)) (λ r. absurd (no-code 10 (omega arith) (rw (q, r) at z))) (λ r.
@@ -193,7 +222,7 @@ begin-opens c es o t asset kind z =
 
     go : (o′ : Open) (x : Choice) → choose c es t asset kind ≡ x
         → granted (noneGrantable c es t asset kind) t asset es o′ x .answer .code ≡ 0
-        → Opened o′ (t .time) asset kind (granted (noneGrantable c es t asset kind) t asset es o′ x)
+        → Opened es o′ (t .time) asset kind (granted (noneGrantable c es t asset kind) t asset es o′ x)
     go o′ nobody e y = absurd (none (noneGrantable c es t asset kind) code y)
     go o′ (chosen i) e y =
         let s : Sure (allowed c es t asset kind) (c .entryCount) i = choose-sound _ (goesBefore es asset) (c .entryCount) i e in
@@ -204,6 +233,7 @@ begin-opens c es o t asset kind z =
         record {
           runs = λ h. rw (ap momentary k ∙ kind-runs kind h);
           moment = λ low high. rw (ap momentary k ∙ kind-momentary kind low high);
+          starts = ap (λ (m : Bool). not m && flagged intervalFlag (limitsAt es i) && not (isStarted (metersAt es i))) (ap momentary k);
         }
 
 continue-opens : (es : List Entry) (o : Open) (t : ℕ) → doContinue es o t .answer .code ≡ 0
@@ -224,6 +254,12 @@ stop-opens : (es : List Entry) (o : Open) (t : Ask) → doStop es o t .answer .c
 unfolding doStop
 stop-opens es o t z =
     on-test (not (isOn o)) (λ q. absurd (no-code 14 (omega arith) (rw q at z))) (λ q. rw q)
+
+cancel-opens : (es : List Entry) (o : Open) (p : ℕ) (x : Recent) → doCancel es o p x .answer .code ≡ 0 → doCancel es o p x .current ≡ closed
+unfolding doCancel
+cancel-opens es o p x z =
+    on-test (not (isOn o)) (λ q. absurd (no-code 14 (omega arith) (rw q at z))) (λ q.
+    on-test (not (x .begun)) (λ r. absurd (no-code 44 (omega arith) (rw (q, r) at z))) (λ r. rw (q, r)))
 
 -- ## A player settled, in words
 
@@ -253,7 +289,14 @@ test-code c h =
     (λ z.
     on-test (between 10 15 c)
     (λ w. inr (inl (leb-true 10 c (and-left (leb 10 c) (leb c 15) w), leb-true c 15 (and-right (leb 10 c) (leb c 15) w))))
-    (λ w. inr (inr (eqb-true c 43 (rw (ne-eqb c 0 z, w) at h)))))
+    (λ w.
+    let added : between 43 44 c ≡ true = rw (ne-eqb c 0 z, w) at h in
+    inr (inr (leb-true 43 c (and-left (leb 43 c) (leb c 44) added), leb-true c 44 (and-right (leb 43 c) (leb c 44) added)))))
+
+-- a mark of 1
+one-true : (w : Bool) → one w ≡ 1 → w ≡ true
+one-true true e = refl
+one-true false e = absurd (omega arith)
 
 -- a stage of the reader
 stage : (t : Bool) (c x : ℕ) → 20 ≤ c → c ≤ 27 → ImageCode x → ImageCode (cond t c x)
@@ -475,8 +518,11 @@ module _ (b : Book) (ls : List Line) (s : List ℕ) where
     abbrev o : Open
     o = openAt ps (askedPlayer s)
 
+    abbrev recent : Recent
+    recent = recentOf (b .latest) (askedPlayer s) (lastAt (b .players) (askedPlayer s)) o
+
     abbrev d : Done
-    d = done (e .request) (catalogOf b) es o (asks b e)
+    d = done (e .request) (catalogOf b) es o (asks b e) recent
 
     abbrev new : Outcome
     new = takenStep b e
@@ -518,7 +564,7 @@ module _ (b : Book) (ls : List Line) (s : List ℕ) where
         λ i. record { number = askedNumber s; operation = n .same-operation i; asset = n .same-asset i; kind = n .same-kind i; answer = a }
 
     did : Did es o d
-    did = done-did (e .request) (catalogOf b) es o (asks b e)
+    did = done-did (e .request) (catalogOf b) es o (asks b e) recent
 
     leaves : (d .answer .code ≡ 0 → ⊥) → LeavesSettled b s new
     unfolding takenStep eventIn
@@ -534,8 +580,8 @@ module _ (b : Book) (ls : List Line) (s : List ℕ) where
         }
 
     -- the operation by its number
-    done-as : (q : Request) → e .request ≡ q → d ≡ done q (catalogOf b) es o (asks b e)
-    done-as q x = ap (λ (y : Request). done y (catalogOf b) es o (asks b e)) x
+    done-as : (q : Request) → e .request ≡ q → d ≡ done q (catalogOf b) es o (asks b e) recent
+    done-as q x = ap (λ (y : Request). done y (catalogOf b) es o (asks b e) recent) x
 
     begin-kind : askedOperation s ≡ 1 → (1 ≤ askedKind s) × (askedKind s ≤ 5)
     begin-kind h = go (t .event .request)
@@ -544,14 +590,15 @@ module _ (b : Book) (ls : List Line) (s : List ℕ) where
         go (begin x low high) = (low, high)
         go (continue x a k) = absurd (omega (arith, h, x))
         go (stop x a k) = absurd (omega (arith, h, x))
+        go (cancel x a k) = absurd (omega (arith, h, x))
 
-    opened : askedOperation s ≡ 1 → d .answer .code ≡ 0 → Opened o (askedTime s) (askedAsset s) (askedKind s) d
+    opened : askedOperation s ≡ 1 → d .answer .code ≡ 0 → Opened es o (askedTime s) (askedAsset s) (askedKind s) d
     unfolding eventIn requestOf done
     opened h z =
         let k : kindNumber (kindOf (askedKind s)) ≡ askedKind s = kind-number (askedKind s) (begin-kind h .0) (begin-kind h .1) in
         let q : d ≡ doBegin (catalogOf b) es o (asks b e) (askedAsset s) (askedKind s) = done-as
         (Begin (kindOf (askedKind s)) (askedAsset s)) (rw h) ∙ rw k in
-        subst (Opened o (askedTime s) (askedAsset s) (askedKind s)) (sym q)
+        subst (Opened es o (askedTime s) (askedAsset s) (askedKind s)) (sym q)
         (begin-opens (catalogOf b) es o (asks b e) (askedAsset s) (askedKind s) (sym (ap (λ (x : Done). x .answer .code) q) ∙ z))
 
     lengthened : askedOperation s ≡ 2 → d .answer .code ≡ 0
@@ -591,6 +638,13 @@ module _ (b : Book) (ls : List Line) (s : List ℕ) where
         let q : d ≡ doStop es o (asks b e) = done-as Stop (rw h) in
         ap (λ (x : Done). x .current) q ∙ stop-opens es o (asks b e) (sym (ap (λ (x : Done). x .answer .code) q) ∙ z)
 
+    given-back : askedOperation s ≡ 4 → d .answer .code ≡ 0 → d .current ≡ closed
+    unfolding eventIn requestOf done
+    given-back h z =
+        let q : d ≡ doCancel es o (askedPlayer s) recent = done-as Cancel (rw h) in
+        ap (λ (x : Done). x .current) q
+        ∙ cancel-opens es o (askedPlayer s) recent (sym (ap (λ (x : Done). x .answer .code) q) ∙ z)
+
     opens : d .answer .code ≡ 0 → length (b .players) ≡ 16 → Opens b s new
     unfolding takenStep eventIn
     opens z k =
@@ -601,13 +655,57 @@ module _ (b : Book) (ls : List Line) (s : List ℕ) where
               (sym (own-current ∙ opened h z .moment high (begin-kind h .1))) own-settles;
           continued = λ h. own-current ∙ lengthened h z;
           stopped = λ h. own-current ∙ halted h z;
+          cancelled = λ h. own-current ∙ given-back h z;
         }
+
+    -- ## Whether an interval is started
+
+    -- the limits of an entry, before and after settling
+    limits-kept : (i : ℕ) → limitsAt es i ≡ limitsAt (b .entries) i
+    limits-kept i = settled-limits (askedTime s) (b .players) (b .entries) i
+
+    starts-begin : d .started ≡ true → askedOperation s ≡ 1
+    unfolding eventIn
+    starts-begin w =
+        let n = numbers (askedOperation s) (askedAsset s) (askedKind s) (t .event .request) in
+        on-same (askedOperation s) 1 (λ h. h)
+        (λ h. clash w (no-start (e .request) (catalogOf b) es o (asks b e) recent (λ z. h (sym (n .same-operation) ∙ z))))
+
+    starts-granted : d .started ≡ true → d .answer .code ≡ 0
+    starts-granted w =
+        on-same (d .answer .code) 0 (λ z. z) (λ z. clash w (ap (λ (x : Done). x .started) (did-refuses did z)))
+
+    starts-from : d .started ≡ true → StartedInterval b s (d .answer)
+    starts-from w =
+        let h = starts-begin w in
+        let z = starts-granted w in
+        let row = sym (opened h z .starts) ∙ w in
+        let two = and-left (not (momentary (askedKind s)) && flagged intervalFlag (limitsAt es (d .answer .entry))) _ row in
+        record {
+          begin = h;
+          granted = z;
+          opening = runs-kind (askedKind s) (begin-kind h .1) (not-true _ (and-left (not (momentary (askedKind s))) _ two));
+          interval = ap (flagged intervalFlag) (sym (limits-kept (d .answer .entry))) ∙ and-right (not (momentary (askedKind s))) _ two;
+          new = λ x. clash (eq-eqb _ 1 x)
+              (not-true _ (and-right (not (momentary (askedKind s)) && flagged intervalFlag (limitsAt es (d .answer .entry))) _ row));
+        }
+
+    starts-to : StartedInterval b s (d .answer) → d .started ≡ true
+    starts-to i =
+        opened (i .begin) (i .granted) .starts
+        ∙ and-both (and-both
+        (ap not (kind-runs (askedKind s) (i .opening)))
+        (ap (flagged intervalFlag) (limits-kept (d .answer .entry)) ∙ i .interval))
+        (ap not (ne-eqb _ 1 (i .new)))
 
     stores : Stored b s new
     unfolding takenStep eventIn shut
     stores = record {
       last = λ n. ap (λ (x : Player). x .last) (own-record n) ∙ last-stored (d .answer);
       time = refl;
+      player = refl;
+      started = (λ x. starts-from (one-true (d .started) x), λ i. ap one (starts-to i));
+      mark = one-le (d .started);
       lasts = λ p n. ap (λ (x : Player). x .last) (other-record p n);
       currents = λ p n.
           subst (λ (x : Player). Settles (askedTime s) (playerAt (b .players) p .current) (x .current)) (sym (other-record p n))
@@ -643,10 +741,10 @@ module _ (b : Book) (ls : List Line) (s : List ℕ) where
   not-both : (code : ℕ) → AwayCode code → TakenCode code → ⊥
   not-both code (inl a) (inl z) = omega (arith, a .0, z)
   not-both code (inl a) (inr (inl z)) = omega (arith, a .1, z .0)
-  not-both code (inl a) (inr (inr z)) = omega (arith, a .1, z)
+  not-both code (inl a) (inr (inr z)) = omega (arith, a .1, z .0)
   not-both code (inr a) (inl z) = omega (arith, a, z)
   not-both code (inr a) (inr (inl z)) = omega (arith, a, z .1)
-  not-both code (inr a) (inr (inr z)) = omega (arith, a, z)
+  not-both code (inr a) (inr (inr z)) = omega (arith, a, z .0)
 
   only : (code : ℕ) → AwayCode code → received b ls s .answer .code ≡ code → (IsResend b ls s → ⊥) → Against b ls s code
   only code range x n = go verdict
@@ -726,7 +824,7 @@ unfolding ruleBroken
 rule-code b =
     stage (not (assetsLegal b)) 24 _ (omega arith) (omega arith)
     (stage (not (entriesLegal b)) 25 _ (omega arith) (omega arith)
-    (stage (not (switchLegal b && playersLegal b)) 26 _ (omega arith) (omega arith)
+    (stage (not (switchLegal b && playersLegal b && latestPasses b)) 26 _ (omega arith) (omega arith)
     (stage (not (metersLegal b)) 27 _ (omega arith) (omega arith)
     (inl refl))))
 

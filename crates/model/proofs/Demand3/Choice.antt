@@ -20,7 +20,7 @@ use Rattle.model.specs.Ledger.{Use, earliest}
 use Rattle.model.specs.Demand3.{startOr, isSome, running, figures, SameFlags, Moment, at-end, at-interval, LastMoment, NoMoment}
 use Rattle.model.specs.Demand3.{EarlierMoment, only-first, both-sooner, SameMoment, neither, both-same}
 use Rattle.model.specs.Demand3.{Precedes, by-flags, by-moment, by-owner, by-position}
-use Rattle.model.proofs.Ledger.Facts.{on-test, on-same, clash, and-left, and-right, one-is}
+use Rattle.model.proofs.Ledger.Facts.{on-test, on-same, clash, and-left, and-right, one-is, one-le}
 use Rattle.model.proofs.Ledger.Invariant.{Lawful}
 use Rattle.model.proofs.Ledger.Concrete.{choose-sound, choose-none}
 
@@ -172,10 +172,6 @@ rank asset l last = record {
   last = last;
   inherited = one (not (eqb (l .asset) asset));
 }
-
-one-le : (b : Bool) → one b ≤ 1
-one-le true = omega arith
-one-le false = omega arith
 
 less-on : (a b : Bool) → one (not a) < one (not b) → a ≡ true
 less-on true b h = refl

@@ -15,6 +15,7 @@ use Rattle.book.specs.declared.Answer.{Answer}
 use Rattle.book.specs.declared.Open.{Open}
 use Rattle.book.specs.declared.Book.{Book}
 use Rattle.book.specs.declared.Event.{Event}
+use Rattle.book.specs.declared.Recent.{Recent}
 use Rattle.book.specs.declared.Request.{Request}
 use Rattle.book.specs.declared.Request.the-variants.{Continue, Stop}
 use Rattle.book.specs.declared.Gate.{Gate}
@@ -27,7 +28,7 @@ use Rattle.model.specs.Step.{refusal, more, doContinue, doStop, done, la
 use Rattle.model.specs.Gate.{gate}
 use Rattle.model.specs.Ledger.{Use, Account, resent, calledTaken, latest, isOpen}
 use Rattle.model.specs.Demand3.{State, Takes, NothingOpen, SomeOpen, IsLeast, filled, Lengthened, Continues, Stops, heldIn}
-use Rattle.model.specs.Demand3.{Every, figures}
+use Rattle.model.specs.Demand3.{Every, figures, recentBy}
 use Rattle.model.proofs.Ledger.Facts.{on-test, on-same, clash}
 use Rattle.model.proofs.Ledger.Sums.{ShutFor, Tidy, all-map, all-latest, all-shut, latest-player}
 use Rattle.model.proofs.Ledger.Invariant.{Invariant, heldAs, held-cases, more-ge}
@@ -85,9 +86,12 @@ module _ (s : State) (e : Event) (h : Inv (s .book) (s .account)) (t : Takes s e
   pub taking : gate (B .time) (lastAt (B .players) (e .player)) e ≡ Take
   taking = takes-gate B (s .account) e h (t .new) (t .taken)
 
-  pub answer-is : (q : Request) → e .request ≡ q → step B e .answer ≡ done q (catalogOf B) F O (asks B e) .answer
+  abbrev R : Recent
+  R = recentBy (e .player) (s .account .taken)
+
+  pub answer-is : (q : Request) → e .request ≡ q → step B e .answer ≡ done q (catalogOf B) F O (asks B e) R .answer
   unfolding step stepBy
-  answer-is q x = rw taking (judged B (s .account) e h taking ∙ ap (λ (r : Request). done r (catalogOf B) F O (asks B e) .answer) x)
+  answer-is q x = rw taking (judged B (s .account) e h taking ∙ ap (λ (r : Request). done r (catalogOf B) F O (asks B e) R .answer) x)
 
   -- the invariant at the event's time, on the ledger's figures
   now : Invariant (e .time) (length (map (shut (e .time)) (B .players))) (length F) (limitsAt F) (metersAt F)
@@ -137,7 +141,7 @@ module _ (s : State) (e : Event) (h : Inv (s .book) (s .account)) (t : Takes s e
   on-some x = on-test (isOn O) (λ q. q) (λ q. absurd (none-not-some (e .time) (e .player) (s .account .uses) (idle-on q) x))
 
   -- if a use is open, it is not the case that nothing is open
-  busy : (u : Use) → O ≡ heldAs u → Idle → ⊥
+  pub busy : (u : Use) → O ≡ heldAs u → Idle → ⊥
   busy u c n = clash (ap (λ (o : Open). isOn o) c) (on-idle n)
 
   -- ## Continue

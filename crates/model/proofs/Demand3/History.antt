@@ -2,7 +2,7 @@
 -- Resends struck out leave the other answers and the book as they were.
 use mathlib.Core.Path.{_≡_, refl, sym, ap, _∙_}
 use Prim.Native.Nat.{ℕ, zero, suc, _+_, _≤_, zero-le, _<_}
-use mathlib.Core.Bool.{Bool, true, false, not, and-false}
+use mathlib.Core.Bool.{Bool, true, false, not, _&&_, and-false}
 use mathlib.Core.List.{List, [], _∷_, map}
 use mathlib.Core.Option.{Option, none, some, Option·none-ne-some}
 use lib.ListN.{length, List·getD-eq-default}
@@ -10,12 +10,18 @@ use lib.Seq.{ext-getD}
 use lib.Dec.{eqb}
 use native.Mathlib.Omega.{arith}
 use native.Mathlib.Nat.{add-zero, zero-add}
+use borrow.Author.Tests.{eq-eqb, ne-eqb}
 use Rattle.numbers.specs.Count.{one}
 use Rattle.book.specs.declared.Limits.{Limits}
 use Rattle.book.specs.declared.Meters.{Meters}
 use Rattle.book.specs.declared.Entry.{Entry}
 use Rattle.book.specs.declared.Answer.{Answer}
 use Rattle.book.specs.declared.Last.{Last}
+use Rattle.book.specs.declared.Latest.{Latest}
+use Rattle.book.specs.declared.Ask.{Ask}
+use Rattle.book.specs.declared.Recent.{Recent}
+use Rattle.book.specs.declared.Request.{Request}
+use Rattle.book.specs.declared.Request.the-variants.{Begin, Continue, Stop, Cancel}
 use Rattle.book.specs.declared.Open.{Open}
 use Rattle.book.specs.declared.Player.{Player}
 use Rattle.book.specs.declared.Line.{Line}
@@ -28,24 +34,28 @@ use Rattle.book.specs.declared.Gate.the-variants.{Refuse, Resend, Take}
 use Rattle.book.specs.Blank.{noLimits, noMeters, noEntry}
 use Rattle.model.specs.Book.{limitsAt, metersAt, flagged, Fresh}
 use Rattle.model.specs.Choice.{asks, Catalog, catalogOf}
-use Rattle.model.specs.Meters.{where-flagged, settled}
-use Rattle.model.specs.Step.{done, lastAt, openAt, takenStep, stepBy, step, arrive}
+use Rattle.model.specs.Meters.{where-flagged, isOn, settled}
+use Rattle.model.specs.Step.{doCancel, done, lastAt, openAt, noted, justBegun, takenStep, stepBy, step, arrive}
 use Rattle.model.specs.Report.{Arrival, good, admitted, receive, linesLeft, lent}
 use Rattle.model.specs.Gate.{gate}
-use Rattle.model.specs.Record.{decoded}
-use Rattle.model.specs.Ledger.{Use, Account, empty, latestTaken, resent, timeOf, latest, sumOf, counts, countsTimed, countsSeconds}
+use Rattle.model.specs.Record.{operationNumber, decoded}
+use Rattle.model.specs.Ledger.{Use, Taken, Account, empty, latestTaken, resent, timeOf, latest, sumOf, counts, countsTimed}
+use Rattle.model.specs.Ledger.{countsSeconds, isOpen}
 use Rattle.model.specs.Ledger.{earliest, sooner, noteArrival, marksBy}
 use Rattle.model.specs.Demand3.{State, advance, after, Every, startOr, isSome, figures, filledFrom, filled, UseInside, Limited}
-use Rattle.model.specs.Demand3.{readResend, isResend, struck, kept, heldIn, lastOf, predictBy, predict, predicted}
+use Rattle.model.specs.Demand3.{readResend, isResend, struck, kept, heldIn, lastBy, lastOf, grantedBegin, begunLast, recentBy}
+use Rattle.model.specs.Demand3.{predictBy, predict, predicted}
 use Rattle.model.specs.History.{answers, final, handed, handedLines, recordAnswers, recordFinal, recordLines}
-use Rattle.model.proofs.Ledger.Facts.{on-test, clash, and-left, and-right, eqb-self, flag-on, meters-path}
+use Rattle.model.specs.Agrees.{playerLast}
+use Rattle.model.proofs.Ledger.Facts.{on-test, on-same, clash, and-left, and-right, cond-on, eqb-self, flag-on, meters-path}
 use Rattle.model.proofs.Ledger.Sums.{all-map, all-both}
 use Rattle.model.proofs.Ledger.Marks.{no-marks, marks-together}
-use Rattle.model.proofs.Ledger.Invariant.{Invariant, Sound, Spanned, Dated, all-earliest}
+use Rattle.model.proofs.Ledger.Invariant.{Invariant, Sound, Spanned, Dated, heldAs, held-cases, all-earliest}
 use Rattle.model.proofs.Ledger.Concrete.{settled-held, settled-limits, settled-size}
 use Rattle.model.proofs.Ledger.WellFormed.{WellFormed, Static, static-self, static-trans, catalog-static, admitted-static}
 use Rattle.model.proofs.Ledger.WellFormed.{receive-static}
-use Rattle.model.proofs.Ledger.Steps.{Inv, gate-take, resent-is, note-skip, receive-keeps}
+use Rattle.model.proofs.Ledger.Steps.{Inv, newest-open, opened, recently, gate-take, resent-is, note-skip}
+use Rattle.model.proofs.Ledger.Steps.{receive-keeps}
 use Rattle.numbers.specs.Bits.{ones}
 use Rattle.numbers.proofs.BitLaws.{ones-zero}
 use Rattle.numbers.proofs.TableLaws.{below-or-not}
@@ -81,6 +91,10 @@ fresh-inv b g f = record {
     });
   };
   formed = g;
+  player = ap (λ (x : Latest). x .player) (f .latest);
+  mark = omega (arith, ap (λ (x : Latest). x .started) (f .latest));
+  none = λ q. ap (λ (x : Latest). x .started) (f .latest);
+  taken-last = λ x xs e. let w : true ≡ false = cc in clash refl w;
 }
 
 pub advance-book : (s : State) (x : Arrival) → advance s x .book ≡ receive (s .book) x .book
@@ -280,17 +294,76 @@ settled-filled S T es ps us later h =
 
 -- ## The answers are those of the ledger
 
+-- what is known of the event taken last decides only the answer to a cancel, and only if a use is open
+recent-same : (q : Request) (c : Catalog) (es : List Entry) (o : Open) (t : Ask) (r r′ : Recent) → (isOn o ≡ true → r .begun ≡ r′ .begun)
+    → done q c es o t r .answer ≡ done q c es o t r′ .answer
+unfolding done doCancel
+recent-same (Begin kind asset) c es o t r r′ x = refl
+recent-same Continue c es o t r r′ x = refl
+recent-same Stop c es o t r r′ x = refl
+recent-same Cancel c es o t r r′ x =
+    on-test (isOn o) (λ on. rw (on, x on) (on-test (r′ .begun) (λ m. rw m) (λ m. rw m))) (λ off. rw off)
+
+-- the header's player and its stored request and answer tell what the ledger tells
+module _ (b : Book) (a : Account) (e : Event) (h : Inv b a) where
+  begun-own : (u : Use) → latest (e .player) (a .uses) ≡ some u → isOpen (e .time) u ≡ true → b .time ≤ e .time
+      → (x : Taken) (xs : List Taken) → a .taken ≡ x ∷ xs → x .event .player ≡ e .player
+      → (true && eqb (operationNumber (x .event .request)) 1 && eqb (x .answer .code) 0 && eqb (x .answer .entry) (u .entry)
+      && eqb (x .answer .until) (u .until)) ≡ grantedBegin x
+  begun-own u s z later x xs y p =
+      on-test (grantedBegin x)
+      (λ g.
+      let v = newest-open b a e h u s z later x xs y p g .1 in
+      let k = and-left (eqb (operationNumber (x .event .request)) 1) _ g in
+      let m = and-right (eqb (operationNumber (x .event .request)) 1) _ g in
+      rw (
+        k,
+        m,
+        eq-eqb (x .answer .entry) (u .entry) (sym (v .entry)),
+        eq-eqb (x .answer .until) (u .until) (sym (v .until)),
+      ))
+      (λ g. rw g)
+
+  begun-last : (o : Open) (u : Use) → latest (e .player) (a .uses) ≡ some u → isOpen (e .time) u ≡ true → b .time ≤ e .time
+      → o ≡ heldAs u → (t : List Taken) → a .taken ≡ t
+      → justBegun (b .latest) (e .player) (lastAt (b .players) (e .player)) o ≡ begunLast (e .player) t
+  unfolding justBegun latestTaken
+  begun-last o u s z later c [] y = rw (ne-eqb (b .latest .player) (e .player + 1) (λ q. omega (arith, h .player ∙ ap playerLast y)))
+  begun-last o u s z later c (x ∷ xs) y =
+      on-same (x .event .player) (e .player)
+      (λ p.
+      let k : lastAt (b .players) (e .player) ≡ noted (x .event) (x .answer) =
+      h .lasts (e .player) ∙ ap (lastOf (e .player)) y
+      ∙ ap lastBy (cond-on (eqb (x .event .player) (e .player)) _ _ (eq-eqb (x .event .player) (e .player) p)) in
+      rw (
+        k,
+        c,
+        eq-eqb (b .latest .player) (e .player + 1) (omega (arith, h .player ∙ ap playerLast y)),
+        eq-eqb (x .event .player) (e .player) p,
+      ) (begun-own u s z later x xs y p))
+      (λ p. rw (
+        ne-eqb (b .latest .player) (e .player + 1) (λ q. p (omega (arith, h .player ∙ ap playerLast y))),
+        ne-eqb (x .event .player) (e .player) p,
+      ))
+
+  recent-is : b .time ≤ e .time → (o : Open) → o ≡ heldIn (e .time) (e .player) (a .uses) → isOn o ≡ true
+      → justBegun (b .latest) (e .player) (lastAt (b .players) (e .player)) o ≡ begunLast (e .player) (a .taken)
+  recent-is later o w on =
+      held-cases (e .time) (e .player) (a .uses) o w
+      (λ c g. clash on (ap (λ (z : Open). isOn z) c))
+      (λ u s z c. begun-last o u s z later c (a .taken) refl)
+
 -- a taken event is judged on the ledger's figures
 pub judged : (b : Book) (a : Account) (e : Event) → Inv b a → gate (b .time) (lastAt (b .players) (e .player)) e ≡ Take
     → takenStep b e .answer ≡ done (e .request) (catalogOf b) (filled (e .time) (a .uses) (b .entries))
-    (heldIn (e .time) (e .player) (a .uses)) (asks b e) .answer
+    (heldIn (e .time) (e .player) (a .uses)) (asks b e) (recentBy (e .player) (a .taken)) .answer
 unfolding takenStep
 judged b a e h q =
     let k = gate-take _ _ e q in
-    rw (
-      settled-filled (b .time) (e .time) (b .entries) (b .players) (a .uses) (k .later) (h .held),
-      settled-held (b .time) (e .time) (b .entries) (b .players) (a .uses) (k .later) (h .held) .opens (e .player),
-    )
+    let now = settled-held (b .time) (e .time) (b .entries) (b .players) (a .uses) (k .later) (h .held) .opens (e .player) in
+    recent-same (e .request) (catalogOf b) (settled (e .time) (b .players) (b .entries)) (opened b e) (asks b e) (recently b e)
+    (recentBy (e .player) (a .taken)) (recent-is b a e h (k .later) (opened b e) now)
+    ∙ rw (settled-filled (b .time) (e .time) (b .entries) (b .players) (a .uses) (k .later) (h .held), now)
 
 arrive-predicted : (b : Book) (a : Account) (d : Decoded) → Inv b a → arrive b d .answer ≡ predict b a d
 unfolding arrive predict step stepBy predictBy
@@ -321,10 +394,11 @@ predict-same b c a (Valid e) s = go (gate (timeOf (a .taken)) (lastOf (e .player
     go Resend = refl
     go Take =
         ap (λ (x : Catalog). done (e .request) x (filled (e .time) (a .uses) (c .entries)) (heldIn (e .time) (e .player) (a .uses))
-        (asks c e) .answer) (catalog-static s) ∙
+        (asks c e) (recentBy (e .player) (a .taken)) .answer) (catalog-static s) ∙
         ap (λ (w : ℕ). done (e .request) (catalogOf b) (filled (e .time) (a .uses) (c .entries)) (heldIn (e .time) (e .player) (a .uses))
-        (record { player = e .player; time = e .time; switch = w }) .answer) (s .switch) ∙
-        ap (λ (y : List Entry). done (e .request) (catalogOf b) y (heldIn (e .time) (e .player) (a .uses)) (asks b e) .answer)
+        (record { player = e .player; time = e .time; switch = w }) (recentBy (e .player) (a .taken)) .answer) (s .switch) ∙
+        ap (λ (y : List Entry). done (e .request) (catalogOf b) y (heldIn (e .time) (e .player) (a .uses)) (asks b e)
+        (recentBy (e .player) (a .taken)) .answer)
         (filled-same (e .time) (a .uses) (b .entries) (c .entries) (s .entries) (s .limits))
 
 pub answers-predicted : (b : Book) (xs : List Arrival) (s : State) → Inv (s .book) (s .account) → Static b (s .book) → answers (s .book)

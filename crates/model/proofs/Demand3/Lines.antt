@@ -1,6 +1,6 @@
 -- The lines of the report: which lists are good, and what the end of a use does to each line.
 -- From a good list no sum is cut off, so a line gains what the uses that end add.
-use mathlib.Core.Path.{_≡_, refl, sym, ap, _∙_}
+use mathlib.Core.Path.{_≡_, refl, sym, ap, subst, _∙_}
 use Prim.Native.Nat.{ℕ, _+_, _*_, _-_, _≤_, _<_, min}
 use mathlib.Core.Bool.{Bool, true, false, _&&_, cond, and-false}
 use mathlib.Core.List.{List, [], _∷_, _++_, map}
@@ -20,7 +20,7 @@ use Rattle.book.specs.declared.Line.{Line}
 use Rattle.book.specs.declared.Book.{Book}
 use Rattle.book.specs.declared.Event.{Event}
 use Rattle.book.specs.declared.Request.{Request}
-use Rattle.book.specs.declared.Request.the-variants.{Begin, Continue, Stop}
+use Rattle.book.specs.declared.Request.the-variants.{Begin, Continue, Stop, Cancel}
 use Rattle.book.specs.Blank.{noLine}
 use Rattle.model.specs.Book.{assetAt, limitsAt, assetsIn, assetPosition, inBook, isTracked, isMetered, momentary}
 use Rattle.model.specs.Record.{kindNumber}
@@ -31,7 +31,7 @@ use Rattle.model.specs.Report.{endedAt, overdue, endedBy, endings}
 use Rattle.model.specs.Demand1.{GoodList}
 use Rattle.model.specs.Demand3.{contentOf}
 use Rattle.model.proofs.Ledger.Facts.{on-test, on-same, clash, and-left, and-right, and-both, eqb-self, cond-off}
-use Rattle.model.proofs.Ledger.Reports.{Value, timesOf, secondsOf, gain, total}
+use Rattle.model.proofs.Ledger.Reports.{Value, timesOf, secondsOf, gain, total, cancel-ends}
 use Rattle.model.proofs.Ledger.WellFormed.{WellFormed}
 use Rattle.model.proofs.Legal.Facts.{all-of}
 use Rattle.model.proofs.Demand3.Suitable.{in-book}
@@ -250,6 +250,7 @@ ended-brief (Begin kind asset) t o a =
     on-test (eqb (a .code) 0 && momentary (kindNumber kind)) (λ q. rw q (omega arith, tt)) (λ q. rw q tt)
 ended-brief Continue t o a = tt
 ended-brief Stop t o a = on-test (eqb (a .code) 0) (λ q. rw q (omega arith, tt)) (λ q. rw q tt)
+ended-brief Cancel t o a = subst (Brief t) (sym (cancel-ends t o a)) tt
 
 ended-few : (r : Request) (t : ℕ) (o : Open) (a : Answer) → length (endedBy r t o a) ≤ 1
 unfolding endedBy
@@ -257,6 +258,7 @@ ended-few (Begin kind asset) t o a =
     on-test (eqb (a .code) 0 && momentary (kindNumber kind)) (λ q. rw q (omega arith)) (λ q. rw q (omega arith))
 ended-few Continue t o a = omega arith
 ended-few Stop t o a = on-test (eqb (a .code) 0) (λ q. rw q (omega arith)) (λ q. rw q (omega arith))
+ended-few Cancel t o a = omega (arith, ap length (cancel-ends t o a))
 
 module _ (b : Book) (e : Event) where
   pub endings-brief : Brief (e .time) (endings b e)

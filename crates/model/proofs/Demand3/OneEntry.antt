@@ -7,8 +7,8 @@ use native.Mathlib.Omega.{arith}
 use Rattle.numbers.proofs.TableLaws.{blanks}
 use Rattle.book.specs.declared.Entry.{Entry}
 use Rattle.book.specs.declared.Book.{Book}
-use Rattle.book.specs.Blank.{noAsset, noMeters, noEntry, noPlayer}
-use Rattle.model.specs.Book.{assetAt, metersAt, ruleBroken, Legal}
+use Rattle.book.specs.Blank.{noAsset, noMeters, noEntry, noPlayer, noLatest}
+use Rattle.model.specs.Book.{assetAt, metersAt, ruleBroken, Legal, Fresh}
 use Rattle.model.specs.Demand3.{Demand3}
 use Rattle.model.proofs.Examples.Afternoon.{asset}
 use Rattle.model.proofs.Demand3.Proof.{demand3}
@@ -18,6 +18,7 @@ abbrev pub alone : ℕ → Entry → Book
 alone switch e = record {
   time = 0;
   switch = switch;
+  latest = noLatest;
   assetcount = 1;
   entrycount = 1;
   assets = asset 5 1 0 ∷ replicate 63 noAsset;
@@ -37,7 +38,7 @@ module _ (switch : ℕ) (e : Entry) (new : e .meters ≡ noMeters) (rules : rule
   entries-blank zero h = absurd (omega arith)
   entries-blank (suc i) h = blanks 63 i noEntry
 
-  legal : Legal b
+  pub legal : Legal b
   legal = record {
     assetSlots = refl;
     entrySlots = refl;
@@ -54,6 +55,8 @@ module _ (switch : ℕ) (e : Entry) (new : e .meters ≡ noMeters) (rules : rule
   unused zero = new
   unused (suc i) = ap (λ (x : Entry). x .meters) (blanks 63 i noEntry)
 
-  -- such a book is fresh, so demand 3 holds of it
+  pub fresh : Fresh b
+  fresh = record { time = refl; meters = unused; players = λ p. blanks 16 p noPlayer; latest = refl }
+
   pub demanded : Demand3 b
-  demanded = demand3 b legal (record { time = refl; meters = unused; players = λ p. blanks 16 p noPlayer })
+  demanded = demand3 b legal fresh

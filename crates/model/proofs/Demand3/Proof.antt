@@ -49,6 +49,7 @@ use Rattle.model.proofs.Demand3.Choice.{choose-first, weightAt, before-
 use Rattle.model.proofs.Demand3.Until.{grant-until}
 use Rattle.model.proofs.Demand3.Current.{taking, answer-is, figures-at, tidy-now, players-below, idle-on, on-idle, some-on}
 use Rattle.model.proofs.Demand3.Current.{on-some, continues, stops}
+use Rattle.model.proofs.Demand3.Cancel.{cancels}
 use Rattle.model.proofs.Demand3.History.{fresh-inv, after-inv, after-static, limited, struck-answers, struck-book, filled-limits}
 use Rattle.model.proofs.Demand3.History.{answers-predicted, record-answers, record-final, record-lines}
 use Rattle.model.proofs.Demand3.Gains.{lent-of, gains-of, reported-of}
@@ -587,6 +588,7 @@ demand3 b g f =
       begins = λ xs e kind asset x t. begins (after (starting b) xs) e (h xs) kind asset x t;
       continues = λ xs e x t. continues (after (starting b) xs) e (h xs) t x;
       stops = λ xs e x t. stops (after (starting b) xs) e (h xs) t x;
+      cancels = λ xs e x t. cancels (after (starting b) xs) e (h xs) t x;
       struckAnswers = λ xs. struck-answers xs (starting b) start;
       struckBook = λ xs. struck-book xs (starting b) start;
       predictable = λ xs. answers-predicted b xs (starting b) start (static-self b);

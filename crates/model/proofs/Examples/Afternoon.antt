@@ -14,7 +14,7 @@ use Rattle.book.specs.declared.Request.{Request}
 use Rattle.book.specs.declared.Request.the-variants.{Begin, Continue, Stop}
 use Rattle.book.specs.declared.Decoded.{Decoded}
 use Rattle.book.specs.declared.Decoded.the-variants.{Valid}
-use Rattle.book.specs.Blank.{noAsset, noMeters, noEntry, noPlayer}
+use Rattle.book.specs.Blank.{noAsset, noMeters, noEntry, noPlayer, noLatest}
 use Rattle.model.specs.Step.{refusal}
 use Rattle.model.specs.History.{answers, handed}
 use Rattle.model.specs.Run.{zeroLines}
@@ -76,6 +76,7 @@ abbrev pub start : Book
 start = record {
   time = 0;
   switch = 0;
+  latest = noLatest;
   assetcount = 4;
   entrycount = 3;
   assets = asset 1 1 9 ∷ asset 2 1 9 ∷ asset 9 0 0 ∷ asset 7 0 9 ∷ replicate 60 noAsset;

@@ -34,10 +34,12 @@ player number operation asset kind answer current = record {
 abbrev pub running : ℕ → ℕ → Open
 running begin until = record { on = 1; entry = 0; begin = begin; until = until; content = 1 }
 
-abbrev pub book : ℕ → ℕ → ℕ → Player → Player → Book
-book time timed marks zeroth first = record {
+-- its time, the player last taken, plus 1, the entry's timed count and marks, and two players
+abbrev pub book : ℕ → ℕ → ℕ → ℕ → Player → Player → Book
+book time latest timed marks zeroth first = record {
   time = time;
   switch = 0;
+  latest = record { player = latest; started = 0 };
   assetcount = 1;
   entrycount = 1;
   assets = asset 1 1 0 ∷ [];
@@ -50,7 +52,7 @@ abbrev pub stale : Player
 stale = player 5 1 1 1 (record { code = 7; entry = 3; until = 9 }) (running 40 90)
 
 abbrev pub odd : Book
-odd = book 100 2 1 stale noPlayer
+odd = book 100 0 2 1 stale noPlayer
 
 -- a good list for it
 abbrev pub kept : List Line
@@ -84,6 +86,9 @@ pub nothing-changed : (
     ∷ met (bytes 0 6 1 1 6 100)
     ∷ met (bytes 0 6 3 1 0 100)
     ∷ met (bytes 0 6 2 0 1 100)
+    ∷ met (bytes 0 6 4 1 0 100)
+    ∷ met (bytes 0 6 4 0 1 100)
+    ∷ met (bytes 0 6 5 0 0 100)
     ∷ met (bytes 0 5 1 2 1 100)
     ∷ met (bytes 0 5 1 1 2 100)
     ∷ met (bytes 0 5 3 0 0 0)
@@ -103,6 +108,9 @@ pub nothing-changed : (
     ∷ left (refused 1)
     ∷ left (refused 1)
     ∷ left (refused 1)
+    ∷ left (refused 1)
+    ∷ left (refused 1)
+    ∷ left (refused 1)
     ∷ left (refused 4)
     ∷ left (refused 4)
     ∷ left (refused 4)
@@ -116,14 +124,14 @@ pub nothing-changed : (
 unfolding events-run
 nothing-changed = refl
 
--- Taken: number, request, answer and time are stored. The stale use ends at its until, whichever player asks: its mark is cleared and,
--- since it was shorter than the timer, its timed count goes back. The stop then finds nothing open; the other player's begin adds its own
--- timed count and mark.
+-- Taken: number, request, answer, time and, in the header, the player plus 1 are stored. The stale use ends at its until, whichever player
+-- asks: its mark is cleared and, since it was shorter than the timer, its timed count goes back. The stop then finds nothing open; the
+-- other player's begin adds its own timed count and mark.
 pub stored : (met (bytes 0 6 3 0 0 100) ∷ met (bytes 1 1 1 1 1 101) ∷ []) ≡ (
-    record { answer = refused 14; book = book 100 1 0 (player 6 3 0 0 (refused 14) closed) noPlayer }
+    record { answer = refused 14; book = book 100 1 1 0 (player 6 3 0 0 (refused 14) closed) noPlayer }
     ∷ record {
       answer = granted 0 161;
-      book = book 101 2 2 (player 5 1 1 1 (record { code = 7; entry = 3; until = 9 }) closed)
+      book = book 101 2 2 2 (player 5 1 1 1 (record { code = 7; entry = 3; until = 9 }) closed)
           (player 1 1 1 1 (granted 0 161) (running 101 161));
     }
     ∷ [])

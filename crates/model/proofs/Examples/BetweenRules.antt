@@ -7,8 +7,8 @@ use lib.ListN.{take, replicate}
 use Rattle.book.specs.declared.Book.{Book}
 use Rattle.book.specs.declared.Entry.{Entry}
 use Rattle.book.specs.declared.Kind.the-variants.{Play, Display, Execute, Print, Export}
-use Rattle.book.specs.declared.Request.the-variants.{Begin, Continue, Stop}
-use Rattle.book.specs.Blank.{noPlayer}
+use Rattle.book.specs.declared.Request.the-variants.{Begin, Continue, Stop, Cancel}
+use Rattle.book.specs.Blank.{noPlayer, noLatest}
 use Rattle.model.specs.Image.{readCode}
 use Rattle.model.specs.Record.{kindOf, requestOf}
 use Rattle.model.specs.Step.{refusal}
@@ -22,6 +22,7 @@ abbrev book : List Entry → ℕ → Book
 book entries count = record {
   time = 0;
   switch = 0;
+  latest = noLatest;
   assetcount = 4;
   entrycount = count;
   assets = asset 1 1 8 ∷ asset 8 1 0 ∷ asset 2 1 9 ∷ asset 9 0 0 ∷ [];
@@ -116,8 +117,8 @@ unfolding kindOf
 kinds-read = refl
 
 pub requests-read :
-    requestOf 0 7 1 ∷ requestOf 1 7 1 ∷ requestOf 2 7 1 ∷ requestOf 3 7 1 ∷ requestOf 4 7 1 ∷ []
-    ≡ Stop ∷ Begin Play 7 ∷ Continue ∷ Stop ∷ Stop ∷ []
+    requestOf 0 7 1 ∷ requestOf 1 7 1 ∷ requestOf 2 7 1 ∷ requestOf 3 7 1 ∷ requestOf 4 7 1 ∷ requestOf 5 7 1 ∷ []
+    ≡ Cancel ∷ Begin Play 7 ∷ Continue ∷ Stop ∷ Cancel ∷ Cancel ∷ []
 unfolding kindOf requestOf
 requests-read = refl
 

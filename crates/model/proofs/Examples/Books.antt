@@ -19,7 +19,8 @@ use Rattle.book.specs.declared.Entry.{Entry}
 use Rattle.book.specs.declared.Last.{Last}
 use Rattle.book.specs.declared.Player.{Player}
 use Rattle.book.specs.declared.Book.{Book}
-use Rattle.book.specs.Blank.{noAsset, noEntry, noPlayer, noMeters, noBook}
+use Rattle.book.specs.Blank.{noAsset, noEntry, noPlayer, noMeters, noLatest, noBook}
+use Rattle.book.specs.Changed.{changed}
 use Rattle.model.specs.Book.{assetsIn, entriesIn}
 use Rattle.model.specs.Book.{Legal, Fresh}
 use Rattle.model.specs.Image.{newest, headerStart, headerTail, assetWidths, assetValues, entryWidths, entryValues, playerWidths}
@@ -62,9 +63,11 @@ noBook-fresh = record {
   time = refl;
   meters = λ i. ap (λ (x : Entry). x .meters) (blanks 64 i noEntry);
   players = λ p. blanks 16 p noPlayer;
+  latest = refl;
 }
 
--- ## A book of the greatest size: every slot filled, every limit flagged and used up; all players have entry 63 open
+-- ## A book of the greatest size: every slot filled, every limit flagged and used up; all players have entry 63 open, and the last one's
+-- event was taken last
 
 abbrev greatAsset : ℕ → Asset
 greatAsset i = record { number = 65535 - i; inherit = 65535; key = 1 }
@@ -107,6 +110,7 @@ unfoldable pub greatest : Book
 greatest = record {
   time = 4000000000;
   switch = 1;
+  latest = record { player = 16; started = 0 };
   assetcount = 64;
   entrycount = 64;
   assets = listed greatAsset 64;
@@ -148,7 +152,7 @@ greatest-typed = record {
       (zeros-fit (playerWidths newest));
 }
 
--- the reader run on its 5,391 bytes
+-- the reader run on its 5,399 bytes
 pub greatest-read : readCode (image greatest) ≡ 0
 unfolding legal-run image-run greatest
 greatest-read = refl
@@ -157,11 +161,12 @@ greatest-read = refl
 pub greatest-back : readBook noBook (image greatest) ≡ greatest
 greatest-back = demand2 .readsBack noBook greatest greatest-legal greatest-typed .1
 
-pub greatest-length : lengthOf greatest ≡ 5391
+pub greatest-length : lengthOf greatest ≡ 5399
 unfolding greatest assetsIn entriesIn imageLength headerSize assetSize entrySize playerSize lengthOf
 greatest-length = refl
 
--- ## A small book: an asset with a parent, an entry with every limit, a print without limits, one player with an open use
+-- ## A small book: an asset with a parent, an entry with every limit, a print without limits, one player with an open use, whose event was
+-- taken last
 
 -- the entry with every limit, by what newer versions say of it; player 0 has it open
 abbrev smallEntry : ℕ → ℕ → ℕ → ℕ → Entry
@@ -190,6 +195,7 @@ unfoldable pub small : Book
 small = record {
   time = 168496141;
   switch = 1;
+  latest = record { player = 1; started = 0 };
   assetcount = 2;
   entrycount = 2;
   assets = record { number = 258; inherit = 2; key = 1 } ∷ record { number = 2; inherit = 0; key = 0 } ∷ replicate 62 noAsset;
@@ -232,7 +238,7 @@ small = record {
 
 -- its bytes, one line for each of the header, the assets, the entries and the players
 pub small-bytes : image small
-    ≡ 82 ∷ 66 ∷ 75 ∷ 0 ∷ 4 ∷ 2 ∷ 2 ∷ 10 ∷ 11 ∷ 12 ∷ 13 ∷ 0 ∷ 0 ∷ 0 ∷ 1 ∷ []
+    ≡ 82 ∷ 66 ∷ 75 ∷ 0 ∷ 5 ∷ 2 ∷ 2 ∷ 10 ∷ 11 ∷ 12 ∷ 13 ∷ 0 ∷ 0 ∷ 0 ∷ 1 ∷ 0 ∷ 0 ∷ 0 ∷ 1 ∷ 0 ∷ 0 ∷ 0 ∷ 0 ∷ []
     ++ 1 ∷ 2 ∷ 0 ∷ 2 ∷ 1 ∷ []
     ++ 0 ∷ 2 ∷ 0 ∷ 0 ∷ 0 ∷ []
     ++ 5 ∷ 6 ∷ 1 ∷ 2 ∷ 2 ∷ 63 ∷ 0 ∷ 0 ∷ 0 ∷ 10 ∷ 0 ∷ 0 ∷ 0 ∷ 11 ∷ 0 ∷ 0 ∷ 0 ∷ 12 ∷ 10 ∷ 11 ∷ 12 ∷ 1 ∷ 10 ∷ 11 ∷ 12 ∷ 255 ∷ 0 ∷ 0 ∷ 0 ∷
@@ -256,6 +262,10 @@ lastByte ws k = size (take (suc k) ws) - 1
 abbrev inHeader : ℕ → ℕ
 inHeader k = lastByte headerStart k
 
+-- what versions added to it
+abbrev inTail : ℕ → ℕ
+inTail k = size headerStart + lastByte (headerTail newest) k
+
 abbrev inAsset : ℕ → ℕ → ℕ
 inAsset i k = headerSize newest + assetSize newest * i + lastByte (assetWidths newest) k
 
@@ -272,6 +282,9 @@ with k v = readCode (set (image small) k v)
 abbrev setHeader : ℕ → ℕ → ℕ
 setHeader k v = with (inHeader k) v
 
+abbrev setTail : ℕ → ℕ → ℕ
+setTail k v = with (inTail k) v
+
 abbrev setAsset : ℕ → ℕ → ℕ → ℕ
 setAsset i k v = with (inAsset i k) v
 
@@ -281,7 +294,7 @@ setEntry i k v = with (inEntry i k) v
 abbrev setPlayer : ℕ → ℕ → ℕ → ℕ
 setPlayer p k v = with (inPlayer p k) v
 
--- one group for each of 20 to 25, two for 26, one for 27; the last are accepted, most of them exactly at a bound, three with a flagged
+-- one group for each of 20 to 25, three for 26, one for 27; the last are accepted, most of them exactly at a bound, three with a flagged
 -- limit of 0, one with a content that has no key. A count or timed count set to 0 where some was used is 27, an interval set to 0 under
 -- an open use 26.
 pub damaged :
@@ -297,7 +310,8 @@ pub damaged :
     ∷ setEntry 0 19 17 ∷ setEntry 1 19 17 ∷ with (inEntry 0 19 - 1) 1 ∷ [])
     ∷ (setPlayer 0 1 2 ∷ setPlayer 0 1 4 ∷ setPlayer 0 3 0 ∷ setPlayer 0 3 6 ∷ setPlayer 0 4 9 ∷ setPlayer 0 4 16
     ∷ setPlayer 0 4 10 ∷ setPlayer 0 5 2 ∷ setPlayer 0 7 0 ∷ setPlayer 0 7 2 ∷ setPlayer 0 8 1 ∷ setPlayer 0 8 2
-    ∷ setPlayer 1 1 1 ∷ setPlayer 1 11 1 ∷ setPlayer 0 11 3 ∷ with (headerSize newest - 1) 2 ∷ [])
+    ∷ setPlayer 1 1 1 ∷ setPlayer 1 11 1 ∷ setPlayer 0 11 3 ∷ setPlayer 0 1 5 ∷ [])
+    ∷ (setTail 0 2 ∷ setTail 1 2 ∷ setTail 1 17 ∷ with (inTail 1 - 3) 1 ∷ setTail 2 1 ∷ setTail 2 2 ∷ with (inTail 2 - 3) 1 ∷ [])
     ∷ (setPlayer 0 9 14 ∷ setPlayer 0 10 13 ∷ setPlayer 0 10 74 ∷ setEntry 0 7 9 ∷ setEntry 0 8 12 ∷ setEntry 0 13 9
     ∷ setEntry 0 9 11 ∷ setEntry 0 15 0 ∷ setEntry 0 9 0 ∷ [])
     ∷ (setEntry 0 4 0 ∷ setEntry 0 5 0 ∷ setEntry 0 11 0 ∷ setEntry 0 11 11 ∷ setEntry 0 12 0 ∷ setEntry 0 12 12
@@ -306,7 +320,7 @@ pub damaged :
     ∷ (readCode (image small) ∷ setPlayer 0 9 13 ∷ setPlayer 0 10 73 ∷ setEntry 0 7 8 ∷ setEntry 0 8 13 ∷ setEntry 0 13 8
     ∷ setEntry 0 9 12 ∷ setEntry 0 11 10 ∷ setEntry 0 12 11 ∷ setEntry 0 14 6 ∷ setPlayer 0 5 0 ∷ setEntry 1 3 1
     ∷ setEntry 1 3 2 ∷ setEntry 1 3 16 ∷ setEntry 0 17 0 ∷ setEntry 0 18 0 ∷ setEntry 1 16 1 ∷ with (inPlayer 0 11 - 1) 0
-    ∷ with (headerSize newest - 1) 0 ∷ setEntry 0 19 0 ∷ setEntry 0 19 1 ∷ setEntry 0 19 16 ∷ setEntry 1 19 16 ∷ [])
+    ∷ setTail 0 0 ∷ setTail 1 0 ∷ setEntry 0 19 0 ∷ setEntry 0 19 1 ∷ setEntry 0 19 16 ∷ setEntry 1 19 16 ∷ [])
     ∷ []
     ≡ replicate 4 20
     ∷ replicate 4 21
@@ -315,9 +329,10 @@ pub damaged :
     ∷ replicate 3 24
     ∷ replicate 20 25
     ∷ replicate 16 26
+    ∷ replicate 7 26
     ∷ replicate 9 26
     ∷ replicate 14 27
-    ∷ replicate 23 0
+    ∷ replicate 24 0
     ∷ []
 unfolding legal-run image-run small
 damaged = refl
@@ -327,22 +342,25 @@ abbrev both : ℕ → ℕ → ℕ → ℕ → ℕ
 both i v j w = readCode (set (set (image small) i v) j w)
 
 -- if two neighbouring stages fail, the first is reported, from "20 wrong length, 24 asset rules" on; the header's are in `BetweenRules`.
--- The switch is judged with the players: after the entries, before the meters.
+-- The switch and the event taken last are judged with the players: after the entries, before the meters.
 pub two-faults :
     readCode (take (lengthOf small - 1) (set (image small) (inAsset 0 2) 2))
     ∷ both (inAsset 0 2) 2 (inEntry 0 2) 0
     ∷ both (inEntry 0 2) 0 (inPlayer 0 1) 4
     ∷ both (inPlayer 0 1) 4 (inEntry 0 11) 11
-    ∷ both (inEntry 0 2) 0 (headerSize newest - 1) 2
-    ∷ both (headerSize newest - 1) 2 (inEntry 0 11) 11
+    ∷ both (inEntry 0 2) 0 (inTail 0) 2
+    ∷ both (inTail 0) 2 (inEntry 0 11) 11
+    ∷ both (inEntry 0 2) 0 (inTail 1) 2
+    ∷ both (inTail 1) 2 (inEntry 0 11) 11
     ∷ both (inEntry 0 19) 17 (inPlayer 0 1) 4
     ∷ both (inPlayer 0 1) 4 (inEntry 0 20) 3
     ∷ []
-    ≡ 20 ∷ 24 ∷ 25 ∷ 26 ∷ 25 ∷ 26 ∷ 25 ∷ 26 ∷ []
+    ≡ 20 ∷ 24 ∷ 25 ∷ 26 ∷ 25 ∷ 26 ∷ 25 ∷ 26 ∷ 25 ∷ 26 ∷ []
 unfolding legal-run image-run small
 two-faults = refl
 
--- ## Its images of older versions, which have no threshold; the marks are set from the open use
+-- ## Its images of older versions, which have no event taken last; up to version 3 they have no threshold, and the marks are set from the
+-- open use
 
 -- versions 1 and 2 have the lower 32 bits of the number; version 1 has no switch, track and content either
 abbrev olderLast : Last
@@ -358,6 +376,7 @@ abbrev older : Book
 older = record {
   time = small .time;
   switch = 0;
+  latest = noLatest;
   assetcount = 2;
   entrycount = 2;
   assets = small .assets;
@@ -388,6 +407,7 @@ abbrev untilThird : List Player → Book
 untilThird players = record {
   time = small .time;
   switch = 1;
+  latest = noLatest;
   assetcount = 2;
   entrycount = 2;
   assets = small .assets;
@@ -425,6 +445,19 @@ third-read = refl
 pub third-book : bookIn (imageAs 3 small) ≡ untilThird (small .players)
 unfolding imageAs image-run small
 third-book = refl
+
+-- 15 + 5 * 2 + 71 * 2 + 512 bytes
+pub fourth-length : length (imageAs 4 small) ≡ 679
+unfolding imageAs image-run small
+fourth-length = refl
+
+pub fourth-read : readCode (imageAs 4 small) ≡ 0
+unfolding imageAs legal-run image-run small
+fourth-read = refl
+
+pub fourth-book : bookIn (imageAs 4 small) ≡ changed small (small .time) noLatest (small .entries) (small .players)
+unfolding imageAs image-run small
+fourth-book = refl
 
 -- ## What an older version can say: the premises of `Demand2.readsAs` are met by what was read from one
 

@@ -165,7 +165,7 @@ thresholds = refl
 
 -- ## Players
 
--- "code 0 or 10 to 15", and 43 of order 3; "entry a position if code 0, else entry 255 and until 0"; there are two entries
+-- "code 0 or 10 to 15", 43 of order 3 and 44 of order 8; "entry a position if code 0, else entry 255 and until 0"; there are two entries
 abbrev stored : ℕ → ℕ → ℕ → Bool
 stored code entry until = answerLegal 2 (record { code = code; entry = entry; until = until })
 
@@ -182,10 +182,12 @@ pub answers :
     ∷ stored 43 255 0
     ∷ stored 42 255 0
     ∷ stored 44 255 0
+    ∷ stored 45 255 0
     ∷ stored 30 255 0
     ∷ stored 43 0 0
+    ∷ stored 44 1 0
     ∷ []
-    ≡ true ∷ true ∷ true ∷ false ∷ false ∷ false ∷ false ∷ false ∷ false ∷ true ∷ false ∷ false ∷ false ∷ false ∷ []
+    ≡ true ∷ true ∷ true ∷ false ∷ false ∷ false ∷ false ∷ false ∷ false ∷ true ∷ false ∷ true ∷ false ∷ false ∷ false ∷ false ∷ []
 unfolding takenCode answerLegal
 answers = refl
 

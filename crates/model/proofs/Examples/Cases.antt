@@ -10,12 +10,12 @@ use Rattle.book.specs.declared.Event.{Event}
 use Rattle.book.specs.declared.Last.{Last}
 use Rattle.book.specs.declared.Kind.the-variants.{Play, Display, Execute, Print, Export}
 use Rattle.book.specs.declared.Request.{Request}
-use Rattle.book.specs.declared.Request.the-variants.{Begin, Continue, Stop}
+use Rattle.book.specs.declared.Request.the-variants.{Begin, Continue, Stop, Cancel}
 use Rattle.book.specs.declared.Decoded.{Decoded}
 use Rattle.book.specs.declared.Decoded.the-variants.{Invalid, Valid}
 use Rattle.book.specs.declared.Gate.{Gate}
 use Rattle.book.specs.declared.Gate.the-variants.{Refuse, Resend, Take}
-use Rattle.book.specs.Blank.{noAnswer, noPlayer}
+use Rattle.book.specs.Blank.{noAnswer, noPlayer, noLatest}
 use Rattle.model.specs.Book.{requestLegal}
 use Rattle.model.specs.Record.{kindOf, requestOf, eventIn, decoded}
 use Rattle.model.specs.Gate.{sameRequest, sameNumber, inLine, timely, gate}
@@ -51,6 +51,7 @@ abbrev pub book : List Entry → ℕ → Book
 book entries count = record {
   time = 0;
   switch = 0;
+  latest = noLatest;
   assetcount = 8;
   entrycount = count;
   assets = asset 1 1 9 ∷ asset 2 1 9 ∷ asset 3 1 7 ∷ asset 4 1 8 ∷ asset 5 1 6 ∷ asset 7 0 9 ∷ asset 8 1 9 ∷ asset 9 0 0 ∷ [];
@@ -302,14 +303,18 @@ reads =
     ∷ decoded []
     ∷ decoded (bytes 16 4 3 4 5)
     ∷ decoded (bytes 1 4 0 0 0)
+    ∷ decoded (bytes 1 5 0 0 0)
     ∷ decoded (bytes 1 0 0 0 0)
     ∷ decoded (bytes 1 1 3 4 0)
     ∷ decoded (bytes 1 1 3 4 6)
     ∷ decoded (bytes 1 2 3 4 0)
     ∷ decoded (bytes 1 3 0 0 1)
+    ∷ decoded (bytes 1 4 0 1 0)
+    ∷ decoded (bytes 1 4 0 0 1)
     ∷ []
 
--- "6 | event record not 13 bytes", now 17: not 18, 16, 13 or 0; "Kind is 1 to 5 for begin; asset and kind are 0 otherwise."
+-- "6 | event record not 13 bytes", now 17: not 18, 16, 13 or 0; "Kind is 1 to 5 for begin; asset and kind are 0 otherwise.";
+-- order 8: "Operation 4, with asset and kind 0"
 pub records-read : reads ≡ (
     Valid (asks 1 (numbered 1543 258) (Begin Export 772) 1029)
     ∷ Valid (asks 1 (numbered 1543 258) Continue 1029)
@@ -319,6 +324,9 @@ pub records-read : reads ≡ (
     ∷ Invalid 6
     ∷ Invalid 6
     ∷ Invalid 2
+    ∷ Valid (asks 1 (numbered 1543 258) Cancel 1029)
+    ∷ Invalid 1
+    ∷ Invalid 1
     ∷ Invalid 1
     ∷ Invalid 1
     ∷ Invalid 1

@@ -61,7 +61,7 @@ unused (suc (suc zero)) = refl
 unused (suc (suc (suc i))) = ap (λ (e : Entry). e .meters) (blanks 61 i noEntry)
 
 pub start-fresh : Fresh start
-start-fresh = record { time = refl; meters = unused; players = λ p. blanks 16 p noPlayer }
+start-fresh = record { time = refl; meters = unused; players = λ p. blanks 16 p noPlayer; latest = refl }
 
 pub afternoon : Demand3 start
 afternoon = demand3 start start-legal start-fresh

@@ -10,7 +10,7 @@ use Rattle.book.specs.declared.Entry.{Entry}
 use Rattle.book.specs.declared.Decoded.{Decoded}
 use Rattle.book.specs.declared.Kind.the-variants.{Play, Print}
 use Rattle.book.specs.declared.Request.the-variants.{Begin}
-use Rattle.book.specs.Blank.{noPlayer}
+use Rattle.book.specs.Blank.{noPlayer, noLatest}
 use Rattle.model.proofs.Examples.Afternoon.{asset, entry, event, granted, run}
 use Rattle.model.proofs.Examples.Computes.{events-run}
 
@@ -19,6 +19,7 @@ abbrev book : Entry → Entry → Book
 book x y = record {
   time = 0;
   switch = 0;
+  latest = noLatest;
   assetcount = 3;
   entrycount = 2;
   assets = asset 1 1 9 ∷ asset 2 1 9 ∷ asset 9 0 0 ∷ [];

@@ -70,7 +70,7 @@ marked marks = replicate 19 0 ++ (marks ∷ [])
 -- the header, four assets, three entries and eight players, one to a line; the other eight players are blank
 abbrev after : List ℕ
 after =
-    row (headerSize newest) (82 ∷ 66 ∷ 75 ∷ 0 ∷ newest ∷ 4 ∷ 3 ∷ 0 ∷ 0 ∷ 4 ∷ 56 ∷ [])
+    row (headerSize newest) (82 ∷ 66 ∷ 75 ∷ 0 ∷ newest ∷ 4 ∷ 3 ∷ 0 ∷ 0 ∷ 4 ∷ 56 ∷ 0 ∷ 0 ∷ 0 ∷ 0 ∷ 0 ∷ 0 ∷ 0 ∷ 8 ∷ [])
     ++ row (assetSize newest) (0 ∷ 1 ∷ 0 ∷ 9 ∷ 1 ∷ [])
     ++ row (assetSize newest) (0 ∷ 2 ∷ 0 ∷ 9 ∷ 1 ∷ [])
     ++ row (assetSize newest) (0 ∷ 9 ∷ 0 ∷ 0 ∷ 0 ∷ [])

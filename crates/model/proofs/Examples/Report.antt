@@ -13,7 +13,7 @@ use Rattle.book.specs.declared.Kind.the-variants.{Play, Display, Execute, Print
 use Rattle.book.specs.declared.Request.the-variants.{Begin, Continue, Stop}
 use Rattle.book.specs.declared.Decoded.{Decoded}
 use Rattle.book.specs.declared.Decoded.the-variants.{Invalid}
-use Rattle.book.specs.Blank.{noMeters, noPlayer}
+use Rattle.book.specs.Blank.{noMeters, noPlayer, noLatest}
 use Rattle.model.specs.Step.{refusal}
 use Rattle.model.specs.Report.{lineBound, good, Arrival, receive, linesLeft}
 use Rattle.model.specs.History.{answers, final, handed, handedLines}
@@ -54,6 +54,7 @@ abbrev book : ℕ → List Entry → ℕ → Book
 book switch entries count = record {
   time = 0;
   switch = switch;
+  latest = noLatest;
   assetcount = 3;
   entrycount = count;
   assets = asset 5 1 8 ∷ asset 3 1 8 ∷ asset 8 0 0 ∷ [];

@@ -13,7 +13,7 @@ use Rattle.book.specs.declared.Player.{Player}
 use Rattle.book.specs.declared.Decoded.{Decoded}
 use Rattle.book.specs.declared.Kind.the-variants.{Play, Print, Export}
 use Rattle.book.specs.declared.Request.the-variants.{Begin, Continue, Stop}
-use Rattle.book.specs.Blank.{noPlayer}
+use Rattle.book.specs.Blank.{noPlayer, noLatest}
 use Rattle.model.specs.Book.{metersAt}
 use Rattle.model.specs.Step.{refusal}
 use Rattle.model.specs.History.{final, handed}
@@ -154,6 +154,7 @@ abbrev opened : Limits → ℕ → Book
 opened l marks = record {
   time = 10;
   switch = 0;
+  latest = noLatest;
   assetcount = 1;
   entrycount = 1;
   assets = asset 1 1 0 ∷ [];
@@ -175,9 +176,10 @@ full-and-switch = refl
 abbrev saved : ℕ → ℕ → Book
 saved threshold marks = opened (group threshold (limits 1 1 1 9 0 0 0 0 0 0)) marks
 
--- versions 1 to 3 say nothing of the marks, which are set from the open uses; version 4 is read as it stands
+-- versions 1 to 3 say nothing of the marks, which are set from the open uses; later ones are read as they stand
 pub set-on-reading :
-    map (λ (v : ℕ). metersAt (bookIn (imageAs v (saved 2 7)) .entries) 0 .marks) (1 ∷ 2 ∷ 3 ∷ 4 ∷ []) ≡ 33281 ∷ 33281 ∷ 33281 ∷ 7 ∷ []
+    map (λ (v : ℕ). metersAt (bookIn (imageAs v (saved 2 7)) .entries) 0 .marks) (1 ∷ 2 ∷ 3 ∷ 4 ∷ 5 ∷ [])
+    ≡ 33281 ∷ 33281 ∷ 33281 ∷ 7 ∷ 7 ∷ []
 unfolding imageAs image-run
 set-on-reading = refl
 

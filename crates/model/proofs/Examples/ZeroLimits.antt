@@ -12,7 +12,7 @@ use Rattle.book.specs.declared.Entry.{Entry}
 use Rattle.book.specs.declared.Event.{Event}
 use Rattle.book.specs.declared.Kind.the-variants.{Play, Display, Execute, Print}
 use Rattle.book.specs.declared.Request.the-variants.{Begin, Continue, Stop}
-use Rattle.book.specs.Blank.{noAsset, noEntry, noPlayer, noMeters}
+use Rattle.book.specs.Blank.{noAsset, noEntry, noPlayer, noMeters, noLatest}
 use Rattle.model.specs.Book.{assetAt, limitsAt, metersAt, flagged, ruleBroken, Legal}
 use Rattle.model.specs.Choice.{groundsOf, groundList}
 use Rattle.model.specs.Step.{refusal, step}
@@ -27,6 +27,7 @@ abbrev book : List Entry → ℕ → Book
 book entries count = record {
   time = 0;
   switch = 0;
+  latest = noLatest;
   assetcount = 3;
   entrycount = count;
   assets = asset 1 1 9 ∷ asset 2 1 9 ∷ asset 9 0 0 ∷ replicate 61 noAsset;
@@ -150,7 +151,9 @@ unused (suc (suc (suc (suc zero)))) = refl
 unused (suc (suc (suc (suc (suc i))))) = ap (λ (e : Entry). e .meters) (blanks 59 i noEntry)
 
 pub never : NeverGranted promotional
-never = demand3 promotional promotional-legal (record { time = refl; meters = unused; players = λ p. blanks 16 p noPlayer }) .never
+never =
+    demand3 promotional promotional-legal (record { time = refl; meters = unused; players = λ p. blanks 16 p noPlayer; latest = refl })
+    .never
 
 -- every entry of the book has a limit of 0
 each-zero : (i : ℕ) → i < 5 → ZeroLimit (limitsAt zeros i)

@@ -18,24 +18,26 @@ use Rattle.model.specs.Image.{versionIn, assetCountIn, entryCountIn, tim
 -- ## Versions
 
 -- what holds of each version that is read, one by one, holds of all: a further version is a further case
-pub by-version : (P : ℕ → Type 0) → P 1 → P 2 → P 3 → P 4 → (v : ℕ) → 1 ≤ v → v ≤ newest → P v
-by-version P one two three four zero h k = absurd (omega arith)
-by-version P one two three four (suc zero) h k = one
-by-version P one two three four (suc (suc zero)) h k = two
-by-version P one two three four (suc (suc (suc zero))) h k = three
-by-version P one two three four (suc (suc (suc (suc zero)))) h k = four
-by-version P one two three four (suc (suc (suc (suc (suc v))))) h k = absurd (omega arith)
+pub by-version : (P : ℕ → Type 0) → P 1 → P 2 → P 3 → P 4 → P 5 → (v : ℕ) → 1 ≤ v → v ≤ newest → P v
+by-version P one two three four five zero h k = absurd (omega arith)
+by-version P one two three four five (suc zero) h k = one
+by-version P one two three four five (suc (suc zero)) h k = two
+by-version P one two three four five (suc (suc (suc zero))) h k = three
+by-version P one two three four five (suc (suc (suc (suc zero)))) h k = four
+by-version P one two three four five (suc (suc (suc (suc (suc zero))))) h k = five
+by-version P one two three four five (suc (suc (suc (suc (suc (suc v)))))) h k = absurd (omega arith)
 
 pub known-version : (v : ℕ) → not (between 1 newest v) ≡ false → (1 ≤ v) × (v ≤ newest)
 known-version v e =
     let q = not-false (between 1 newest v) e in
     (leb-true 1 v (and-left (leb 1 v) (leb v newest) q), leb-true v newest (and-right (leb 1 v) (leb v newest) q))
 
--- "Length 11 + 5A + 51P + 384, at most 3,979."; in version 2 at most 4,815, in version 3 at most 4,879, in version 4 at most 5,391
-pub longest : (v assets entries : ℕ) → 1 ≤ v → v ≤ newest → assets ≤ 64 → entries ≤ 64 → imageLength v assets entries ≤ 5391
+-- "Length 11 + 5A + 51P + 384, at most 3,979."; in version 2 at most 4,815, in version 3 at most 4,879, in version 4 at most 5,391,
+-- in version 5 at most 5,399
+pub longest : (v assets entries : ℕ) → 1 ≤ v → v ≤ newest → assets ≤ 64 → entries ≤ 64 → imageLength v assets entries ≤ 5399
 unfolding imageLength headerSize assetSize entrySize playerSize
 longest v assets entries h k a p =
-    by-version (λ v. imageLength v assets entries ≤ 5391) (omega arith) (omega arith) (omega arith) (omega arith) v h k
+    by-version (λ v. imageLength v assets entries ≤ 5399) (omega arith) (omega arith) (omega arith) (omega arith) (omega arith) v h k
 
 -- ## The first stages
 

@@ -44,15 +44,15 @@ marked-slots ps f n k = ap₂ _++_
 
 -- so for every version the table becomes that of the entries that are read
 pub marked-table : (v n k : ℕ) (b : Book) (f : ℕ → Entry) → entriesIn b ≡ n → b .entries ≡ listed f n ++ replicate k noEntry
-    → marked v b ≡ changed b (b .time) (listed (λ i. entryRead v (b .players) i (f i)) n ++ replicate k noEntry) (b .players)
+    → marked v b ≡ changed b (b .time) (b .latest) (listed (λ i. entryRead v (b .players) i (f i)) n ++ replicate k noEntry) (b .players)
 unfolding marked
 marked-table v n k b f q h =
     let ps = b .players in
     on-test (leb 4 v)
-    (λ e. rw e (λ j. changed b (b .time) (h j) ps))
+    (λ e. rw e (λ j. changed b (b .time) (b .latest) (h j) ps))
     (λ e. rw e
-    (ap₂ (λ (es : List Entry) (m : ℕ). changed b (b .time) (markedEntries ps es m) ps) h q
-    ∙ ap (λ (es : List Entry). changed b (b .time) es ps) (marked-slots ps f n k)))
+    (ap₂ (λ (es : List Entry) (m : ℕ). changed b (b .time) (b .latest) (markedEntries ps es m) ps) h q
+    ∙ ap (λ (es : List Entry). changed b (b .time) (b .latest) es ps) (marked-slots ps f n k)))
 
 -- ## A legal book
 
@@ -67,7 +67,7 @@ pub entry-kept : (v : ℕ) → 1 ≤ v → v ≤ newest → (ps : List Player) (
     → entryRead v ps i (entrySaid v e) ≡ e
 entry-kept v oldest known ps i e h =
     let set : withMarks (marksOf ps i) e ≡ e = ap (λ (m : ℕ). withMarks m e) (sym h) in
-    by-version (λ v. entryRead v ps i (entrySaid v e) ≡ e) set set set refl v oldest known
+    by-version (λ v. entryRead v ps i (entrySaid v e) ≡ e) set set set refl refl v oldest known
 
 -- the marks of a legal book fit their type
 pub marks-fit : (b : Book) → Legal b → (i : ℕ) → metersAt (b .entries) i .marks < 65536

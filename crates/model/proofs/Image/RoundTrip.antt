@@ -105,26 +105,27 @@ header-parts v assets entries b = refl
 module _ (v : ℕ) (oldest : 1 ≤ v) (known : v ≤ newest) where
   tail-enough : (b : Book) → length (headerTail v) ≤ length (tailValues b)
   tail-enough b =
-      by-version (λ v. length (headerTail v) ≤ length (tailValues b)) (omega arith) (omega arith) (omega arith) (omega arith) v oldest known
+      by-version (λ v. length (headerTail v) ≤ length (tailValues b)) (omega arith) (omega arith) (omega arith) (omega arith) (omega arith)
+      v oldest known
 
   asset-enough : (a : Asset) → length (assetWidths v) ≤ length (assetValues a)
   asset-enough a =
-      by-version (λ v. length (assetWidths v) ≤ length (assetValues a)) (omega arith) (omega arith) (omega arith) (omega arith)
-      v oldest known
+      by-version (λ v. length (assetWidths v) ≤ length (assetValues a))
+      (omega arith) (omega arith) (omega arith) (omega arith) (omega arith) v oldest known
 
   entry-enough : (e : Entry) → length (entryWidths v) ≤ length (entryValues v e)
   entry-enough e =
-      by-version (λ v. length (entryWidths v) ≤ length (entryValues v e)) (omega arith) (omega arith) (omega arith) (omega arith)
-      v oldest known
+      by-version (λ v. length (entryWidths v) ≤ length (entryValues v e))
+      (omega arith) (omega arith) (omega arith) (omega arith) (omega arith) v oldest known
 
   player-enough : (p : Player) → length (playerWidths v) ≤ length (playerValues p)
   player-enough p =
-      by-version (λ v. length (playerWidths v) ≤ length (playerValues p)) (omega arith) (omega arith) (omega arith) (omega arith)
-      v oldest known
+      by-version (λ v. length (playerWidths v) ≤ length (playerValues p))
+      (omega arith) (omega arith) (omega arith) (omega arith) (omega arith) v oldest known
 
   header-sizes : headerSize v ≡ size headerStart + size (headerTail v)
   unfolding headerSize
-  header-sizes = by-version (λ v. headerSize v ≡ size headerStart + size (headerTail v)) refl refl refl refl v oldest known
+  header-sizes = by-version (λ v. headerSize v ≡ size headerStart + size (headerTail v)) refl refl refl refl refl v oldest known
 
   length-headerPart : (b : Book) → length (headerPart v b) ≡ headerSize v
   length-headerPart b =
@@ -175,7 +176,7 @@ image-length : (b : Book) → length (image b) ≡ lengthOf b
 unfolding lengthOf
 image-length b = ap length (sym (as-newest b)) ∙ length-as newest (omega arith) (omega arith) b
 
-length-bounds : (b : Book) → (527 ≤ lengthOf b) × (lengthOf b ≤ 5391)
+length-bounds : (b : Book) → (535 ≤ lengthOf b) × (lengthOf b ≤ 5399)
 unfolding lengthOf imageLength assetsIn entriesIn headerSize assetSize entrySize playerSize
 length-bounds b = (omega arith, omega arith)
 
@@ -237,15 +238,16 @@ module _ (v : ℕ) (oldest : 1 ≤ v) (known : v ≤ newest) (b : Book) (l : Leg
       ∙ values-back headerStart 0 start [] after refl
       (start-fits v (b .assetcount) (b .entrycount) (b .time) known (l .assetCount) (l .entryCount) (l .time))
 
-  switch-back : Fit (headerTail v) (tailValues b) → getD (tailIn v laid) 0 0 ≡ b .switch
+  -- each field that versions added
+  tail-back : Fit (headerTail v) (tailValues b) → (k : ℕ) → getD (tailIn v laid) k 0 ≡ getD (tailValues b) k 0
   unfolding after
-  switch-back f =
+  tail-back f k =
       let rest = assetPart v b ++ (entryPart v b ++ playerPart v b) in
-      ap (λ (s : List ℕ). getD (valuesAt (headerTail v) (size headerStart) s) 0 0) (image-start ∙ sym
+      ap (λ (s : List ℕ). getD (valuesAt (headerTail v) (size headerStart) s) k 0) (image-start ∙ sym
       (append-assoc (laidOut headerStart start) (laidOut (headerTail v) (tailValues b)) rest))
-      ∙ ap (λ (vs : List ℕ). getD vs 0 0)
+      ∙ ap (λ (vs : List ℕ). getD vs k 0)
       (values-back (headerTail v) (size headerStart) (tailValues b) (laidOut headerStart start) rest refl f)
-      ∙ field-back (headerTail v) (tailValues b) f 0
+      ∙ field-back (headerTail v) (tailValues b) f k
 
   assets-counted : assetCountIn laid ≡ assetsIn b
   unfolding assetCountIn
@@ -325,11 +327,12 @@ module _ (v : ℕ) (oldest : 1 ≤ v) (known : v ≤ newest) (b : Book) (l : Leg
         ∙ sym (append-nil (listed (playerAt (b .players)) 16))
         ∙ slots-back (b .players) 16 0 noPlayer (l .playerSlots) past
 
-    as-back : bookAs v laid ≡ changed b (b .time) entriesSaid (b .players)
+    as-back : bookAs v laid ≡ changed b (b .time) (b .latest) entriesSaid (b .players)
     unfolding bookAs
     as-back = λ i. record {
       time = time-back i;
-      switch = switch-back (y .header) i;
+      switch = tail-back (y .header) 0 i;
+      latest = record { player = tail-back (y .header) 1 i; started = tail-back (y .header) 2 i };
       assetcount = (assets-counted ∙ assets-in) i;
       entrycount = (entries-counted ∙ entries-in) i;
       assets = (ap (assetTable v laid (headerSize v)) assets-counted ∙ assets-back) i;
@@ -342,9 +345,9 @@ module _ (v : ℕ) (oldest : 1 ≤ v) (known : v ≤ newest) (b : Book) (l : Leg
     book-back =
         ap (λ (w : ℕ). marked w (bookAs w laid)) version-back
         ∙ ap (marked v) as-back
-        ∙ marked-table v (entriesIn b) (64 - entriesIn b) (changed b (b .time) entriesSaid (b .players))
+        ∙ marked-table v (entriesIn b) (64 - entriesIn b) (changed b (b .time) (b .latest) entriesSaid (b .players))
         (λ i. entrySaid v (getD (b .entries) i noEntry)) refl refl
-        ∙ ap (λ (es : List Entry). changed b (b .time) es (b .players)) entries-kept
+        ∙ ap (λ (es : List Entry). changed b (b .time) (b .latest) es (b .players)) entries-kept
 
     mark-back : markIn laid ≡ true
     unfolding markIn
@@ -353,7 +356,7 @@ module _ (v : ℕ) (oldest : 1 ≤ v) (known : v ≤ newest) (b : Book) (l : Leg
     version-known : not (between 1 newest (versionIn laid)) ≡ false
     version-known =
         ap (λ (w : ℕ). not (between 1 newest w)) version-back
-        ∙ by-version (λ w. not (between 1 newest w) ≡ false) refl refl refl refl v oldest known
+        ∙ by-version (λ w. not (between 1 newest w) ≡ false) refl refl refl refl refl v oldest known
 
     none-large : (ltb 64 (assetCountIn laid) || ltb 64 (entryCountIn laid) || ltb latestTime (timeIn laid)) ≡ false
     none-large =
@@ -457,7 +460,8 @@ module _ (s : List ℕ) (b : Bytes s) (p : HeaderPassed s) where
 
   -- the book that is read
   abbrev read : Book
-  read = changed (bookAs v s) (timeIn s) (listed entryAt (entryCountIn s) ++ replicate (64 - entryCountIn s) noEntry) playersRead
+  read = changed (bookAs v s) (timeIn s) (bookAs v s .latest)
+      (listed entryAt (entryCountIn s) ++ replicate (64 - entryCountIn s) noEntry) playersRead
 
   book-read : bookIn s ≡ read
   unfolding bookIn bookAs entryTable entriesIn
@@ -499,11 +503,11 @@ module _ (s : List ℕ) (b : Bytes s) (p : HeaderPassed s) where
       let t = drop (entriesFrom v s + entrySize v * i) s in
       by-version (λ v. entryValues v (entryRead v playersRead i (entryOf (valuesAt (entryWidths v) 0 t)))
       ≡ padded (entryWidths newest) (λ k. getD (valuesAt (entryWidths v) 0 t) k 0))
-      refl refl refl refl v (p .oldest) (p .known)
+      refl refl refl refl refl v (p .oldest) (p .known)
 
   blank-said : Fit (entryWidths v) (entryValues v noEntry)
-  blank-said = by-version (λ v. Fit (entryWidths v) (entryValues v noEntry)) (omega arith) (omega arith) (omega arith) (omega arith)
-      v (p .oldest) (p .known)
+  blank-said = by-version (λ v. Fit (entryWidths v) (entryValues v noEntry))
+      (omega arith) (omega arith) (omega arith) (omega arith) (omega arith) v (p .oldest) (p .known)
 
   read-said : SaidBy v (bookIn s)
   unfolding bookAs assetTable playerTable assetIn playerIn headerSize assetSize entrySize playerSize

@@ -7,6 +7,7 @@ use native.Mathlib.Omega.{arith}
 use borrow.Author.Tests.{eqb-true, eqb-false, ne-eqb, lt-ltb, le-ltb, not-false}
 use Rattle.numbers.specs.Count.{one}
 pub use Rattle.numbers.proofs.Tests.{on-test, on-same, eqb-self, clash, cond-on, cond-off, and-left, and-right, and-both}
+pub use Rattle.numbers.proofs.BitLaws.{one-le}
 use Rattle.book.specs.declared.Meters.{Meters}
 use Rattle.model.specs.Meters.{where-flagged}
 use Rattle.model.specs.Choice.{cap, fails}

@@ -1,4 +1,4 @@
--- How the ledger's figures change when a use is added, continued, stopped or comes to its end.
+-- How the ledger's figures change when a use is added, continued, stopped, taken back or comes to its end.
 -- Each change is what the rules do to an entry's meters.
 use mathlib.Core.Path.{_≡_, refl, sym, ap, subst, _∙_}
 use Prim.Native.Nat.{ℕ, suc, _+_, _-_, _≤_, _<_, min}
@@ -9,10 +9,11 @@ use lib.Dec.{leb, ltb, eqb}
 use native.Mathlib.Omega.{arith}
 use borrow.Author.Tests.{ne-eqb, ltb-true, ltb-false, lt-ltb, le-ltb, leb-true, leb-false}
 use Rattle.book.specs.declared.Limits.{Limits}
+use Rattle.book.specs.declared.Recent.{Recent}
 use Rattle.numbers.specs.Count.{one}
 use Rattle.numbers.specs.Bits.{putBit}
 use Rattle.model.specs.Book.{flagged, momentary}
-use Rattle.model.specs.Meters.{where-flagged, begun, continued, ended}
+use Rattle.model.specs.Meters.{where-flagged, begun, continued, ended, cancelled}
 use Rattle.model.proofs.Ledger.Facts.{on-test, on-same, and-left, and-right, and-both, eqb-self, flag-add, meters-path}
 use Rattle.model.specs.Ledger.{Use, isOpen, ran, latest, revise, sumOf, counts, countsTimed, countsSeconds, earliest, sooner, stopAt}
 use Rattle.model.specs.Ledger.{goOn, openBy, marksBy}
@@ -247,6 +248,38 @@ module _ (at : ℕ → ℕ) (us : List Use) (l : Limits) where
       (λ c e. earliest-le (u .begin) (u .entry) us c h e)))
       (ap (where-flagged (flagged 32 l)) (omega (arith, seconds-own u)) ∙ flag-add (flagged 32 l) _ (u .until - u .begin))
       (new-marks u nobody runs)
+
+-- ## The newest use is taken back
+
+started-cancelled : (f : Bool) (s : Option ℕ) → one (f && isSome s) ≡ cond (f && not (isSome s)) 0 (one (f && true))
+started-cancelled true none = refl
+started-cancelled true (some c) = refl
+started-cancelled false s = refl
+
+first-cancelled : (f : Bool) (b : ℕ) (s : Option ℕ) → ((c : ℕ) → s ≡ some c → c ≤ b)
+    → where-flagged f (startOr 0 s) ≡ cond (f && not (isSome s)) 0 (where-flagged f (sooner b s))
+first-cancelled false b s h = refl
+first-cancelled true b none h = refl
+first-cancelled true b (some c) h = omega (arith, h c refl)
+
+-- a begin no earlier than any other, of a player whose other uses have ended; r is what is known of it
+pub figures-cancelled : (at : ℕ → ℕ) (us : List Use) (l : Limits) (u : Use) → Every (λ v. v .begin ≤ u .begin) us
+    → isOpen (at (u .player)) u ≡ true → ((v : Use) → latest (u .player) us ≡ some v → isOpen (at (u .player)) v ≡ false)
+    → (r : Recent) → r .started ≡ (flagged 16 l && not (isSome (earliest (u .entry) us)))
+    → figures at us (u .entry) l ≡ cancelled (u .player) r (u .begin) (u .until) l (figures at (u ∷ us) (u .entry) l)
+unfolding figures cancelled sumOf earliest
+figures-cancelled at us l u h o nobody r e =
+    rw e
+    (meters-path
+    (seconds-back (flagged 1 l) _ _ 1 (omega (arith, counts-own u)))
+    (seconds-back (flagged 2 l) _ _ 1 (omega (arith, timed-open at (l .timer) u o)))
+    (rw (eqb-self (u .entry)) (started-cancelled (flagged 16 l) (earliest (u .entry) us)))
+    (rw (eqb-self (u .entry)) (first-cancelled (flagged 16 l) (u .begin) (earliest (u .entry) us)
+    (λ c x. earliest-le (u .begin) (u .entry) us c h x)))
+    (seconds-back (flagged 32 l) _ _ (u .until - u .begin) (omega (arith, seconds-own u)))
+    (marks-put at at (u ∷ us) us (u .entry) (u .player) false
+    (nobody-open (at (u .player)) (u .player) (u .entry) us nobody)
+    (λ q d. sym (others-new at us l u nobody (u .entry) q d))))
 
 -- ## Settling one player: the time at which its uses are judged moves from S to T
 

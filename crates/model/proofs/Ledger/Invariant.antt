@@ -1,8 +1,8 @@
 -- The invariant over positions: meters and open uses are those given by the ledger, and its uses keep within their limits.
--- A grant, a continue, a stop and the settling of one player each preserve it.
+-- A grant, a continue, a stop, a cancel and the settling of one player each preserve it.
 use mathlib.Core.Path.{_≡_, refl, sym, ap, _∙_}
 use Prim.Native.Nat.{ℕ, suc, _+_, _-_, _≤_, _<_}
-use mathlib.Core.Bool.{Bool, true, false, not, _||_, cond, and-false, or-true}
+use mathlib.Core.Bool.{Bool, true, false, not, _&&_, _||_, cond, and-false, or-true}
 use mathlib.Core.List.{List, [], _∷_}
 use mathlib.Core.Option.{Option, none, some, Option·none-ne-some}
 use lib.Dec.{leb, ltb, eqb}
@@ -14,21 +14,23 @@ use Rattle.numbers.proofs.Tests.{Fail, none-pass}
 use Rattle.book.specs.declared.Limits.{Limits}
 use Rattle.book.specs.declared.Meters.{Meters}
 use Rattle.book.specs.declared.Open.{Open}
+use Rattle.book.specs.declared.Recent.{Recent}
 use Rattle.book.specs.declared.Ask.{Ask}
 use Rattle.book.specs.Blank.{closed}
 use Rattle.model.specs.Book.{latestTime, mostSeconds, flagged, momentary, grantLength}
 use Rattle.model.specs.Choice.{cap, groundsOf, groundList, grantable, leastUntil, grantUntil, moreUntil}
-use Rattle.model.specs.Meters.{begun, continued, ended, isStarted, intervalFrom, expired}
+use Rattle.model.specs.Meters.{begun, continued, ended, cancelled, isStarted, intervalFrom, expired}
 use Rattle.model.proofs.Ledger.Facts.{on-test, on-same, clash, and-left, and-both, passes, eqb-self, cap-le, cap-at}
 use Rattle.model.proofs.Ledger.Facts.{cap-ge, upd, upd-same, upd-other, one-is}
 use Rattle.model.specs.Ledger.{Use, isOpen, ran, latest, revise, countsTimed, earliest, sooner, stopAt, goOn}
 use Rattle.model.specs.Demand3.{Every, isSome, startOr, figures, heldBy, heldIn, ZeroLimit, zero-count, zero-timed, zero-interval}
 use Rattle.model.specs.Demand3.{zero-accumulated}
 use Rattle.model.proofs.Ledger.Sums.{all-map, all-both, all-revise, latest-new, latest-new-other, all-latest, Kept, earliest-revise}
-use Rattle.model.proofs.Ledger.Sums.{latest-revise, latest-revise-other, Tidy, tidy-revise, open-falls, all-shut}
+use Rattle.model.proofs.Ledger.Sums.{latest-revise, latest-revise-other, latest-player, ShutFor, Tidy, tidy-revise, open-falls}
+use Rattle.model.proofs.Ledger.Sums.{all-shut}
 use Rattle.model.proofs.Ledger.Figures.{stopAt-keeps, goOn-keeps, open-until, open-on, stopped-shut, figures-other, figures-ended}
 use Rattle.model.proofs.Ledger.Figures.{figures-continued, earliest-le, figures-new-other, figures-begun, stage, settle-nobody}
-use Rattle.model.proofs.Ledger.Figures.{settle-open, settle-other, settle-ended}
+use Rattle.model.proofs.Ledger.Figures.{figures-cancelled, settle-open, settle-other, settle-ended}
 
 -- ## The parts
 
@@ -558,4 +560,57 @@ module _ (ask : Ask) {k n : ℕ} {lim : ℕ → Limits} {met : ℕ → Meters} {
         (λ x. rw x (rw (upd-same i (begun who now (grantUntil now (lim i) (met i)) (lim i) (met i)) met)
         (within-begun ask (lim i) (met i) ok who)))
         (λ x. rw (upd-other i (begun who now (grantUntil now (lim i) (met i)) (lim i) (met i)) met j x) (h .within j));
+  }
+
+-- ## The newest use is taken back
+
+within-cancelled : (p : ℕ) (r : Recent) (b u : ℕ) (l : Limits) (m : Meters) → Within l m → Within l (cancelled p r b u l m)
+unfolding cancelled
+within-cancelled p r b u l m h = record {
+  count = λ f. omega (arith, h .count f);
+  timed = λ f. omega (arith, h .timed f);
+  seconds = λ f. omega (arith, h .seconds f);
+  together = λ f. omega (arith, h .together f, ones-off p (m .marks));
+}
+
+module _ {T k n : ℕ} {lim : ℕ → Limits} {met : ℕ → Meters} {opn : ℕ → Open} {us : List Use} (u : Use)
+    (h : Invariant T k n lim met opn (u ∷ us)) (begins : Every (λ v. v .begin ≤ u .begin) us) (o : isOpen T u ≡ true)
+    (r : Recent) (e : r .started ≡ (flagged 16 (lim (u .entry)) && not (isSome (earliest (u .entry) us)))) where
+  abbrev back : Meters
+  back = cancelled (u .player) r (u .begin) (u .until) (lim (u .entry)) (met (u .entry))
+
+  -- the player's earlier uses have ended
+  earlier-shut : (v : Use) → latest (u .player) us ≡ some v → isOpen T v ≡ false
+  earlier-shut v q = all-latest (ShutFor T (u .player)) (u .player) us v q (h .tidy .0) (latest-player (u .player) us v q)
+
+  nothing-held : (r : Option Use) → latest (u .player) us ≡ r → closed ≡ heldBy T r
+  nothing-held none q = refl
+  nothing-held (some v) q = rw (earlier-shut v q)
+
+  pub cancelled-held : Invariant T k n lim (upd (u .entry) back met) (upd (u .player) closed opn) us
+  cancelled-held = record {
+    opens = λ q.
+        on-same q (u .player)
+        (λ x. rw x (upd-same (u .player) closed opn ∙ nothing-held (latest (u .player) us) refl))
+        (λ x. upd-other (u .player) closed opn q x ∙ h .opens q ∙ rw (latest-new-other q u us (λ z. x (sym z))));
+    meters = λ i.
+        on-same i (u .entry)
+        (λ x. rw x
+        (upd-same (u .entry) back met
+        ∙ ap (cancelled (u .player) r (u .begin) (u .until) (lim (u .entry))) (h .meters (u .entry))
+        ∙ sym (figures-cancelled (λ _. T) us (lim (u .entry)) u begins o earlier-shut r e)))
+        (λ x. upd-other (u .entry) back met i x ∙ h .meters i
+        ∙ figures-new-other (λ _. T) us (lim i) u earlier-shut i (λ z. x (sym z)));
+    tidy = h .tidy .1;
+    sound = h .sound .1;
+    spans =
+        all-both (λ v x z. record {
+          from = λ f. rw (← earliest-new (v .entry) u us begins z) (x .from f);
+          last = λ f. rw (← earliest-new (v .entry) u us begins z) (x .last f);
+        }) us (h .spans .1) (all-earliest us);
+    within = λ i.
+        on-same i (u .entry)
+        (λ x. rw x (rw (upd-same (u .entry) back met)
+        (within-cancelled (u .player) r (u .begin) (u .until) (lim (u .entry)) (met (u .entry)) (h .within (u .entry)))))
+        (λ x. rw (upd-other (u .entry) back met i x) (h .within i));
   }

@@ -1,4 +1,4 @@
--- The ledger's sums for the report, and how they change when a use is added, continued, stopped or comes to its end:
+-- The ledger's sums for the report, and how they change when a use is added, continued, stopped, taken back or comes to its end:
 -- each change is what the uses that end add.
 use mathlib.Core.Path.{_≡_, refl, sym, ap, _∙_, fun-ext}
 use Prim.Native.Nat.{ℕ, suc, _+_, _≤_, zero-le}
@@ -13,11 +13,13 @@ use borrow.Author.Tests.{leb-true, leb-false}
 use Rattle.numbers.specs.Count.{one}
 use Rattle.book.specs.declared.Limits.{Limits}
 use Rattle.book.specs.declared.Meters.{Meters}
+use Rattle.book.specs.declared.Answer.{Answer}
 use Rattle.book.specs.declared.Open.{Open}
+use Rattle.book.specs.declared.Request.the-variants.{Cancel}
 use Rattle.book.specs.declared.Player.{Player}
 use Rattle.model.specs.Meters.{expired}
 use Rattle.model.specs.Step.{openAt}
-use Rattle.model.specs.Report.{Ended, endedAt, overdue}
+use Rattle.model.specs.Report.{Ended, endedAt, endedBy, overdue}
 use Rattle.model.specs.Ledger.{Use, isOpen, ran, latest, revise, sumOf, stopAt, goOn}
 use Rattle.model.specs.Demand3.{Every, heldIn}
 use Rattle.model.proofs.Ledger.Facts.{on-test}
@@ -96,6 +98,16 @@ module _ (v : Value) (at : ℕ → ℕ) (lim : ℕ → Limits) (c : ℕ) (us : L
         weighs-open v at lim c u o,
         weighs-shut v at lim c (stopAt e u) (stopped-shut (at (u .player)) e u),
       )
+
+-- an open use is taken back: nothing is recorded, and it had added nothing
+pub cancel-ends : (t : ℕ) (o : Open) (a : Answer) → endedBy Cancel t o a ≡ []
+unfolding endedBy
+cancel-ends t o a = refl
+
+pub report-cancelled : (v : Value) (at : ℕ → ℕ) (lim : ℕ → Limits) (c : ℕ) (u : Use) (us : List Use) → isOpen (at (u .player)) u ≡ true
+    → sumOf (weighs v at lim c) us ≡ sumOf (weighs v at lim c) (u ∷ us)
+unfolding sumOf
+report-cancelled v at lim c u us o = omega (arith, weighs-open v at lim c u o)
 
 -- ## Settling
 

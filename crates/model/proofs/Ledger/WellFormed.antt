@@ -17,22 +17,23 @@ use Rattle.book.specs.declared.Line.{Line}
 use Rattle.book.specs.declared.Book.{Book}
 use Rattle.book.specs.declared.Event.{Event}
 use Rattle.book.specs.declared.Request.{Request}
-use Rattle.book.specs.declared.Request.the-variants.{Begin, Continue, Stop}
+use Rattle.book.specs.declared.Request.the-variants.{Begin, Continue, Stop, Cancel}
 use Rattle.book.specs.declared.Decoded.{Decoded}
 use Rattle.book.specs.declared.Decoded.the-variants.{Invalid, Valid}
 use Rattle.book.specs.declared.Ask.{Ask}
+use Rattle.book.specs.declared.Recent.{Recent}
 use Rattle.book.specs.declared.Gate.{Gate}
 use Rattle.book.specs.declared.Gate.the-variants.{Refuse, Resend, Take}
 use Rattle.book.specs.Blank.{noLimits}
 use Rattle.model.specs.Book.{assetAt, limitsAt, assetsIn, entriesIn, latestTime, assetPosition, inBook, between, flagged, momentary}
 use Rattle.model.specs.Book.{limit, assetLegal, assetsLegal, rangesLegal, limitsLegal, entriesLegal, ruleBroken, Legal}
 use Rattle.model.specs.Book.{countFlag, timedFlag, startFlag, endFlag, intervalFlag, accumulatedFlag, mostTimes}
-use Rattle.model.specs.Book.{mostSeconds, trackLegal, thresholdLegal, switchLegal, playersLegal}
+use Rattle.model.specs.Book.{mostSeconds, trackLegal, thresholdLegal, switchLegal, playersLegal, latestPasses}
 use Rattle.model.specs.Record.{kindNumber}
 use Rattle.model.specs.Meters.{isOn, shut, settled}
 use Rattle.model.specs.Choice.{Catalog, catalogOf, usable, suits, asks, anyOf, Choice, nobody, chosen, choose, noneGrantable}
 use Rattle.model.specs.Step.{Done, unchanged, granted, doBegin, more, doContinue, doStop, done, openAt, takenStep, lastAt, stepBy}
-use Rattle.model.specs.Step.{step, arrive}
+use Rattle.model.specs.Step.{doCancel, step, arrive}
 use Rattle.model.specs.Report.{Arrival, good, admitted, receive}
 use Rattle.model.specs.Gate.{gate}
 use Rattle.model.proofs.Ledger.Facts.{on-test, and-left, and-right}
@@ -96,8 +97,9 @@ pub switch-most : (b : Book) → Legal b → b .switch ≤ 1
 unfolding ruleBroken switchLegal
 switch-most b g =
     leb-true _ _ (and-left (leb (b .switch) 1) (playersLegal b)
-    (not-false _ (passed (not (switchLegal b && playersLegal b)) 25 _
-    (passed (not (entriesLegal b)) 24 _ (passed (not (assetsLegal b)) 23 _ (g .rules) .1) .1) .0)))
+    (and-left (switchLegal b && playersLegal b) (latestPasses b)
+    (not-false _ (passed (not (switchLegal b && playersLegal b && latestPasses b)) 25 _
+    (passed (not (entriesLegal b)) 24 _ (passed (not (assetsLegal b)) 23 _ (g .rules) .1) .1) .0))))
 
 pub asset-tests : (b : Book) → Legal b → (i : ℕ) → i < assetsIn b → (between 1 65535 (assetAt (b .assets) i .number) ≡ true)
     × Pass (eqb (assetPosition (b .assets) (assetsIn b) (assetAt (b .assets) i .number)) i ∷ leb (assetAt (b .assets) i .key) 1 ∷ [])
@@ -197,22 +199,26 @@ begin-steady c es o t asset kind =
     go o′ nobody = steady es _ o′
     go o′ (chosen i) = record { limits = amend-limits i _ es; size = amend-length i _ es }
 
-done-steady : (q : Request) (c : Catalog) (es : List Entry) (o : Open) (t : Ask) → Steady es (done q c es o t)
-unfolding done doContinue doStop
-done-steady (Begin kind asset) c es o t = begin-steady c es o t asset (kindNumber kind)
-done-steady Continue c es o t =
+done-steady : (q : Request) (c : Catalog) (es : List Entry) (o : Open) (t : Ask) (r : Recent) → Steady es (done q c es o t r)
+unfolding done doContinue doStop doCancel
+done-steady (Begin kind asset) c es o t r = begin-steady c es o t asset (kindNumber kind)
+done-steady Continue c es o t _ =
     on-test (not (isOn o)) (λ q. rw q (steady es 14 _)) (λ q.
     on-test (leb (more es o (t .time)) (o .until)) (λ r. rw (q, r) (steady es 15 _))
     (λ r. rw (q, r) (record { limits = amend-limits (o .entry) _ es; size = amend-length (o .entry) _ es })))
-done-steady Stop c es o t =
+done-steady Stop c es o t r =
     on-test (not (isOn o)) (λ q. rw q (steady es 14 _)) (λ q. rw q
     (record { limits = amend-limits (o .entry) _ es; size = amend-length (o .entry) _ es }))
+done-steady Cancel c es o t r =
+    on-test (not (isOn o)) (λ q. rw q (steady es 14 _)) (λ q.
+    on-test (not (r .begun)) (λ x. rw (q, x) (steady es 44 _))
+    (λ x. rw (q, x) (record { limits = amend-limits (o .entry) _ es; size = amend-length (o .entry) _ es })))
 
 pub taken-static : (b : Book) (e : Event) → Static b (takenStep b e .book)
 unfolding takenStep
 taken-static b e =
     let d : Steady _ _ = done-steady (e .request) (catalogOf b) (settled (e .time) (b .players) (b .entries))
-    (openAt (map (shut (e .time)) (b .players)) (e .player)) (asks b e) in
+    (openAt (map (shut (e .time)) (b .players)) (e .player)) (asks b e) _ in
     record {
       switch = refl;
       assets = refl;

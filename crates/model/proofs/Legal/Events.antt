@@ -8,7 +8,7 @@ use lib.Seq.{take-all}
 use lib.Dec.{leb, ltb, eqb}
 use native.Mathlib.Omega.{arith}
 use native.Mathlib.Nat.{add-zero, zero-add}
-use borrow.Author.Tests.{eqb-true, lt-ltb, le-ltb, leb-false}
+use borrow.Author.Tests.{not-true, eqb-true, lt-ltb, le-ltb, leb-false}
 use Rattle.numbers.proofs.TableLaws.{below-or-not}
 use Rattle.book.specs.declared.Limits.{Limits}
 use Rattle.book.specs.declared.Meters.{Meters}
@@ -19,22 +19,25 @@ use Rattle.book.specs.declared.Ask.{Ask}
 use Rattle.book.specs.declared.Player.{Player}
 use Rattle.book.specs.declared.Kind.{Kind}
 use Rattle.book.specs.declared.Kind.the-variants.{Play, Display, Execute, Print, Export}
+use Rattle.book.specs.declared.Recent.{Recent}
 use Rattle.book.specs.declared.Request.{Request}
-use Rattle.book.specs.declared.Request.the-variants.{Begin, Continue, Stop}
+use Rattle.book.specs.declared.Request.the-variants.{Begin, Continue, Stop, Cancel}
 use Rattle.book.specs.Blank.{closed}
-use Rattle.model.specs.Book.{limitsAt, metersAt, between, momentary, takenCode, contentLegal}
+use Rattle.model.specs.Book.{limitsAt, metersAt, between, flagged, momentary, takenCode, contentLegal}
 use Rattle.model.specs.Record.{kindNumber}
-use Rattle.model.specs.Meters.{amend, begun, continued, ended, isOn, expired, shut, released, settledFrom, settled}
+use Rattle.model.specs.Meters.{amend, begun, continued, ended, cancelled, isStarted, isOn, expired, shut, released, settledFrom}
+use Rattle.model.specs.Meters.{settled}
 use Rattle.model.specs.Choice.{Catalog, suitable, usable, parentOf, own, grantable, Choice, nobody, chosen, anyOf, suits, allowed}
 use Rattle.model.specs.Choice.{goesBefore, choose, leastUntil, grantUntil, failsForSwitch, noneGrantable}
-use Rattle.model.specs.Step.{Done, unchanged, granted, doBegin, more, doContinue, doStop, done, openAt}
+use Rattle.model.specs.Step.{Done, unchanged, startsInterval, granted, doBegin, more, doContinue, doStop, takenBack, doCancel, done}
+use Rattle.model.specs.Step.{openAt}
 use Rattle.model.proofs.Ledger.Facts.{on-test, on-same, clash, and-left, and-right, cond-on, cond-off, upd, upd-same, upd-other}
 use Rattle.model.proofs.Legal.Facts.{upd-own}
 use Rattle.model.proofs.Ledger.Invariant.{shutO}
 use Rattle.model.proofs.Ledger.Concrete.{amend-length, amend-limits, amend-meters, shut-open, Sure, choose-sound}
-use Rattle.model.proofs.Legal.Rules.{MeterOk, UseOk, Sound, Live, Named}
+use Rattle.model.proofs.Legal.Rules.{MeterOk, UseOk, usesOf, Sound, Live, Named}
 use Rattle.model.proofs.Legal.Meters.{ended-sound, continued-sound, more-near, Grant, grant-of, momentary-sound, begun-sound}
-use Rattle.model.proofs.Legal.Meters.{begun-live, grant-near}
+use Rattle.model.proofs.Legal.Meters.{begun-live, grant-near, Alone, cancelled-sound, begun-alone, begun-first}
 
 -- ## A later time
 
@@ -215,11 +218,19 @@ pub record AnswerOk (T n : ℕ) (a : Answer) : Type 0 where
   pub refuses : eqb (a .code) 0 ≡ false → (a .entry ≡ 255) × (a .until ≡ 0)
   pub near : a .until ≤ T + 300
 
+-- what it requires of a use that started an interval: it is an interval entry's only open one, begun at first
+pub record Starts (lim : ℕ → Limits) (met : ℕ → Meters) (opn : ℕ → Open) (o : Open) : Type 0 where
+  pub on : isOn o ≡ true
+  pub interval : flagged 16 (lim (o .entry)) ≡ true
+  pub first : o .begin ≡ met (o .entry) .first
+  pub only : usesOf opn (o .entry) ≡ 1
+
 pub record DoneOk (has : ℕ → Bool) (T n p : ℕ) (lim : ℕ → Limits) (opn : ℕ → Open) (d : Done) : Type 0 where
   pub answer : AnswerOk T n (d .answer)
   pub part : Effect T n lim (d .entries) (upd p (d .current) opn)
   pub live : isOn (d .current) ≡ true → T < d .current .until
   pub named : Named has lim (d .current)
+  pub starts : d .started ≡ true → Starts lim (metersAt (d .entries)) (upd p (d .current) opn) (d .current)
 
 module _ (ask : Ask) {n : ℕ} (room : n ≤ 64) (es : List Entry) {opn : ℕ → Open} (slots : length es ≡ 64)
     (h : Sound (ask .time) n (limitsAt es) (metersAt es) opn) (running : Live (ask .time) opn) (pl : ask .player < 16)
@@ -236,6 +247,7 @@ module _ (ask : Ask) {n : ℕ} (room : n ≤ 64) (es : List Entry) {opn : ℕ �
     part = record { slots = slots; limits = λ i. refl; sound = subst (Sound T n (limitsAt es) (metersAt es)) (sym (upd-own p opn)) h };
     live = running p;
     named = named p;
+    starts = λ q. clash q refl;
   }
 
   stop-ok : DoneOk has T n p (limitsAt es) opn (doStop es (opn p) ask)
@@ -251,6 +263,7 @@ module _ (ask : Ask) {n : ℕ} (room : n ≤ 64) (es : List Entry) {opn : ℕ �
             (ended-sound h p pl on T (omega (arith, use₁ on .begun)));
         live = λ q. clash q refl;
         named = λ q. clash q refl;
+        starts = λ q. clash q refl;
       }))
       (λ on. rw on (unchanged-ok 14 refl refl))
     where
@@ -280,16 +293,44 @@ module _ (ask : Ask) {n : ℕ} (room : n ≤ 64) (es : List Entry) {opn : ℕ �
             (continued-sound h p pl on (running p on) (leb-false _ _ q));
         live = λ z. omega (arith, running p on, leb-false (more es (opn p) T) (opn p .until) q);
         named = λ z. named p on;
+        starts = λ z. clash z refl;
       }))))
       (λ on. rw on (unchanged-ok 14 refl refl))
     where
       use₁ : isOn (opn p) ≡ true → UseOk T n (limitsAt es (opn p .entry)) (metersAt es (opn p .entry)) (opn p)
       use₁ on = h .opens p .runs on
 
+  cancel-ok : (r : Recent) → (isOn (opn p) ≡ true → r .begun ≡ true → r .started ≡ true → Alone opn p)
+      → DoneOk has T n p (limitsAt es) opn (doCancel es (opn p) p r)
+  unfolding doCancel takenCode
+  cancel-ok r alone =
+      on-test (isOn (opn p))
+      (λ on. rw on (back-or-44 on (r .begun) refl))
+      (λ on. rw on (unchanged-ok 14 refl refl))
+    where
+      back-or-44 : isOn (opn p) ≡ true → (w : Bool) → r .begun ≡ w
+          → DoneOk has T n p (limitsAt es) opn (cond (not w) (unchanged 44 es (opn p)) (takenBack p r es (opn p)))
+      back-or-44 on true m = record {
+        answer = record {
+          code = refl;
+          grants = λ q. h .opens p .runs on .entry;
+          refuses = λ q. clash refl q;
+          near = omega (arith, h .opens p .runs on .begun);
+        };
+        part =
+            amend-part T n room (limitsAt es) es (upd p closed opn) (opn p .entry)
+            (cancelled p r (opn p .begin) (opn p .until)) (h .opens p .runs on .entry) slots (λ i. refl)
+            (cancelled-sound h p pl on r (alone on m));
+        live = λ q. clash q refl;
+        named = λ q. clash q refl;
+        starts = λ q. clash q refl;
+      }
+      back-or-44 on false m = unchanged-ok 44 refl refl
+
   chosen-ok : (kind : Kind) (asset none i : ℕ) → has asset ≡ true → isOn (opn p) ≡ false → i < n
       → eqb (limitsAt es i .kind) (kindNumber kind) ≡ true → grantable ask (limitsAt es i) (metersAt es i) ≡ true →
       DoneOk has T n p (limitsAt es) opn (granted none ask asset es (opn p) (chosen i))
-  unfolding grantUntil takenCode contentLegal
+  unfolding grantUntil takenCode contentLegal startsInterval
   chosen-ok kind asset none i known off k e g =
       let a : AnswerOk T n (record { code = 0; entry = i; until = grantUntil T (limitsAt es i) (metersAt es i) }) =
       record { code = refl; grants = λ q. k; refuses = λ q. clash refl q; near = grant-near T (limitsAt es i) (metersAt es i) } in
@@ -301,6 +342,7 @@ module _ (ask : Ask) {n : ℕ} (room : n ≤ 64) (es : List Entry) {opn : ℕ �
             (momentary-sound h p pl off i k grant q));
         live = rw q (running p);
         named = rw q (named p);
+        starts = rw q (λ z. clash z refl);
       })
       (λ q. record {
         answer = a;
@@ -311,6 +353,18 @@ module _ (ask : Ask) {n : ℕ} (room : n ≤ 64) (es : List Entry) {opn : ℕ �
             (begun-sound h p pl off i k grant (kind-runs kind (limitsAt es i .kind) e q) q asset));
         live = rw q (λ z. begun-live h p pl off i k grant);
         named = rw q (λ z. rw known);
+        starts = rw q (λ z.
+            let f : flagged 16 (limitsAt es i) ≡ true = and-left (flagged 16 (limitsAt es i)) _ z in
+            let s : isStarted (metersAt es i) ≡ false = not-true _ (and-right (flagged 16 (limitsAt es i)) _ z) in
+            let w : ℕ = leastUntil T T (limitsAt es i) (metersAt es i) in
+            let m : metersAt (amend i (begun p T w) es) i ≡ begun p T w (limitsAt es i) (metersAt es i) =
+            amend-meters i (begun p T w) es (omega (arith, slots, room)) i ∙ upd-same i (begun p T w (limitsAt es i) (metersAt es i)) _ in
+            record {
+              on = refl;
+              interval = f;
+              first = sym (ap (λ (x : Meters). x .first) m ∙ begun-first h p pl off i k grant f s w);
+              only = begun-alone h p pl off i k grant f s w asset;
+            });
       })
 
   module _ (c : Catalog) (counted : c .entryCount ≡ n) (known : (asset : ℕ) → usable c asset ≡ true → has asset ≡ true) where
@@ -344,8 +398,10 @@ module _ (ask : Ask) {n : ℕ} (room : n ≤ 64) (es : List Entry) {opn : ℕ �
             (limitsAt es i .kind) (kindNumber kind))
             (own asset (limitsAt es i) || (not (eqb (parentOf c asset) 0) && eqb (limitsAt es i .asset) (parentOf c asset))) a) g
 
-    pub done-ok : (r : Request) → DoneOk has T n p (limitsAt es) opn (done r c es (opn p) ask)
+    pub done-ok : (r : Request) (x : Recent) → (isOn (opn p) ≡ true → x .begun ≡ true → x .started ≡ true → Alone opn p)
+        → DoneOk has T n p (limitsAt es) opn (done r c es (opn p) ask x)
     unfolding done
-    done-ok (Begin kind asset) = begin-ok kind asset
-    done-ok Continue = continue-ok
-    done-ok Stop = stop-ok
+    done-ok (Begin kind asset) x alone = begin-ok kind asset
+    done-ok Continue x alone = continue-ok
+    done-ok Stop x alone = stop-ok
+    done-ok Cancel x alone = cancel-ok x alone

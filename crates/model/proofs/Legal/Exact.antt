@@ -5,22 +5,24 @@ use mathlib.Core.Bool.{true}
 use mathlib.Core.List.{List, [], _∷_, _++_, map}
 use lib.ListN.{length, take, length-append, length-take}
 use lib.Seq.{take-suc, take-all}
-use lib.Dec.{leb}
+use lib.Dec.{leb, eqb}
 use native.Mathlib.Omega.{arith}
+use borrow.Author.Tests.{eq-eqb}
 use Rattle.numbers.proofs.TableLaws.{below-or-not}
 use Rattle.book.specs.declared.Entry.{Entry}
 use Rattle.book.specs.declared.Open.{Open}
 use Rattle.book.specs.declared.Player.{Player}
+use Rattle.book.specs.declared.Latest.{Latest}
 use Rattle.book.specs.declared.Line.{Line}
 use Rattle.book.specs.declared.Book.{Book}
 use Rattle.book.specs.declared.Event.{Event}
 use Rattle.book.specs.Blank.{noPlayer}
-use Rattle.model.specs.Book.{limitsAt, metersAt, playerAt, entriesIn, playersLegal, Legal}
+use Rattle.model.specs.Book.{limitsAt, metersAt, playerAt, entriesIn, playersLegal, latestLegal, Legal}
 use Rattle.model.specs.Meters.{isOn, expired, shut, released, settled, settledFrom}
 use Rattle.model.specs.Choice.{asks, catalogOf, grantable, chosen, suits, allowed, goesBefore, choose}
 use Rattle.model.specs.Step.{openAt}
 use Rattle.model.specs.Report.{lineAt, good, Ended, recordedAll, endings}
-use Rattle.model.specs.Exact.{ExactEnd, ExactBegin, ExactContinue, ExactLine, Taken, atTurn, atRequest, asking, Exact}
+use Rattle.model.specs.Exact.{ExactEnd, ExactBegin, ExactContinue, ExactCancel, ExactLine, Taken, atTurn, atRequest, asking, Exact}
 use Rattle.model.proofs.Ledger.Facts.{clash, and-left, and-right}
 use Rattle.model.proofs.Ledger.Invariant.{grant-seconds, until-from}
 use Rattle.model.proofs.Ledger.Concrete.{choose-sound, settled-both}
@@ -28,7 +30,7 @@ use Rattle.model.proofs.Ledger.WellFormed.{all-below}
 use Rattle.model.proofs.Ledger.Steps.{gate-take}
 use Rattle.model.proofs.Demand3.Lines.{good-list, Brief, brief-before, brief-behind, endings-brief, endings-few, all-most}
 use Rattle.model.proofs.Legal.Rules.{Sound, UseOk, playerPasses, player-live, player-open, no-player, stages-from}
-use Rattle.model.proofs.Legal.Meters.{more-ge, own-timed, own-spent}
+use Rattle.model.proofs.Legal.Meters.{more-ge, own-count, own-timed, own-spent}
 use Rattle.model.proofs.Legal.Events.{stage, stage-own, settled-live}
 use Rattle.model.proofs.Legal.Step.{Passed, gate-passed, turn-sound, settled-sound}
 use native.Mathlib.Nat.{add-zero}
@@ -122,6 +124,21 @@ module _ (b : Book) (e : Event) (h : Legal b) where
       stop-exact : ExactEnd T es (asking b e)
       stop-exact = end-exact es (openAt (map (shut T) ps)) sound (e .player) T (t .player) on (own .begun) (omega (arith, live))
 
+      cancel-exact : ExactCancel es (asking b e)
+      cancel-exact = record {
+        begun = omega (arith, own .begun, live);
+        count = own-count sound (e .player) (t .player) on;
+        timed = own-timed sound (e .player) (t .player) on;
+        seconds = own-spent sound (e .player) (t .player) on;
+      }
+
+-- ## The header
+
+nobody-read : (x : Latest) (uses uses′ : ℕ) (e e′ : Entry) (p p′ : Player) → x .player ≡ 0
+    → latestLegal x uses e p ≡ latestLegal x uses′ e′ p′
+unfolding latestLegal
+nobody-read x uses uses′ e e′ p p′ z = let q : eqb (x .player) 0 ≡ true = eq-eqb (x .player) 0 z in rw q
+
 -- ## The report
 
 sums-exact : (b : Book) (e : Event) (ls : List Line) (done left : List Ended) (x : Ended) (k : ℕ) → Legal b → Taken b e
@@ -147,6 +164,8 @@ exact = record {
   begin = λ b e asset kind i h g x. begin-exact b e h g asset kind i x;
   continue = continue-exact;
   stop = stop-exact;
+  cancel = cancel-exact;
   lasts = λ b p h k on. ran-on b p (all-below _ 16 h p k) on;
+  nobody = nobody-read;
   sums = sums-exact;
 }

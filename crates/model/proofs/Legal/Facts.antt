@@ -20,6 +20,11 @@ unfolding all
 all-of f zero h = refl
 all-of f (suc n) h = and-both (all-of f n (λ i j. h i (omega arith))) (h n (omega arith))
 
+pub sum-none : (f : ℕ → ℕ) (n : ℕ) → ((i : ℕ) → i < n → f i ≡ 0) → sum f n ≡ 0
+unfolding sum
+sum-none f zero h = refl
+sum-none f (suc n) h = omega (arith, sum-none f n (λ i j. h i (omega arith)), h n (omega arith))
+
 -- a sum with one term changed
 pub sum-upd : {A : Type 0} (w : A → ℕ) (p : ℕ) (x : A) (f : ℕ → A) (n : ℕ) → p < n → sum (λ q. w (upd p x f q)) n + w (f p) ≡ sum
     (λ q. w (f q)) n + w x

@@ -1,4 +1,4 @@
--- What a begin, a continue and the end of a use do to the meters and to the open uses: the rules on both still hold.
+-- What a begin, a continue, the end of a use and a cancel do to the meters and to the open uses: the rules on both still hold.
 use mathlib.Core.Path.{_≡_, refl, sym, ap, _∙_, subst}
 use Prim.Native.Nat.{ℕ, suc, _+_, _-_, _≤_, _<_}
 use mathlib.Core.Bool.{Bool, true, false, _&&_, cond, not}
@@ -9,18 +9,19 @@ use Rattle.numbers.specs.Count.{one}
 use Rattle.book.specs.declared.Limits.{Limits}
 use Rattle.book.specs.declared.Meters.{Meters}
 use Rattle.book.specs.declared.Open.{Open}
+use Rattle.book.specs.declared.Recent.{Recent}
 use Rattle.book.specs.declared.Ask.{Ask}
 use Rattle.book.specs.Blank.{closed}
 use Rattle.model.specs.Book.{grantLength, between, flagged, momentary, opens, isGroup}
-use Rattle.model.specs.Meters.{where-flagged, isStarted, intervalFrom, begun, continued, ended, isOn}
+use Rattle.model.specs.Meters.{where-flagged, isStarted, intervalFrom, begun, continued, ended, cancelled, isOn}
 use Rattle.model.specs.Choice.{grantable, leastUntil, grantUntil, moreUntil}
 use Rattle.model.proofs.Ledger.Facts.{on-test, on-same, clash, cond-on, cond-off, flag-le, upd, upd-same, upd-other}
-use Rattle.model.proofs.Legal.Facts.{sum-upd}
+use Rattle.model.proofs.Legal.Facts.{sum-none, sum-upd}
 use Rattle.model.proofs.Ledger.Invariant.{length-pos, grant-most, caps, caps-le, caps-first, caps-second, caps-third, caps-ge}
 use Rattle.model.proofs.Ledger.Invariant.{grant-count, grant-timed, grant-start, grant-end, grant-from, grant-seconds, grant-room}
 use Rattle.model.proofs.Legal.Rules.{MeterOk, UseOk, OpenOk, useIn, secondsIn, usesOf, secondsOf, Sound, marksIn}
 use Rattle.numbers.specs.Bits.{ones, putBit}
-use Rattle.numbers.proofs.BitLaws.{mask-same, mask-put, ones-off, ones-on}
+use Rattle.numbers.proofs.BitLaws.{mask-same, mask-put, ones-off, ones-on, one-le}
 
 -- ## One player's use and one entry's meters change
 
@@ -80,17 +81,18 @@ module _ {T n : ℕ} {lim : ℕ → Limits} {met : ℕ → Meters} {opn : ℕ �
     pub entry : i < n
     pub before : isOn (opn p) ≡ true → opn p .entry ≡ i
     pub after : isOn o′ ≡ true → o′ .entry ≡ i
-    pub stays : Stays (lim i) (met i) m′
+    -- asked for each use of the entry that stays open: a cancel may unstart the interval where there is none
+    pub stays : (q : ℕ) → (q ≡ p → ⊥) → isOn (opn q) ≡ true → opn q .entry ≡ i → Stays (lim i) (met i) m′
     pub shut : isOn o′ ≡ false → o′ ≡ closed
     pub runs : isOn o′ ≡ true → UseOk T n (lim i) m′ o′
     pub meter : (k s : ℕ) → k + one (isOn (opn p)) ≡ usesOf opn i + one (isOn o′) → s + ran (opn p) ≡ secondsOf opn i + ran o′ → MeterOk
         T (lim i) m′ k s (putBit p (isOn o′) (marksIn opn i))
 
   module _ (c : Change) where
-    stays-at : (j : ℕ) → Stays (lim j) (met j) (upd i m′ met j)
-    stays-at j =
+    stays-at : (j : ℕ) → (j ≡ i → Stays (lim i) (met i) m′) → Stays (lim j) (met j) (upd i m′ met j)
+    stays-at j g =
         on-same j i
-        (λ x. rw (x, upd-same i m′ met) (c .stays))
+        (λ x. rw (x, upd-same i m′ met) (g x))
         (λ x. rw (upd-other i m′ met j x) (λ f s. (s, refl)))
 
     opens-at : (q : ℕ) → OpenOk T n lim (upd i m′ met) (upd p o′ opn q)
@@ -105,7 +107,7 @@ module _ {T n : ℕ} {lim : ℕ → Limits} {met : ℕ → Meters} {opn : ℕ �
         (record {
           shut = h .opens q .shut;
           runs = λ on. use-stays T n (lim (opn q .entry)) (met (opn q .entry)) (upd i m′ met (opn q .entry)) (opn q)
-              (stays-at (opn q .entry)) (h .opens q .runs on);
+              (stays-at (opn q .entry) (c .stays q x on)) (h .opens q .runs on);
         }))
 
     -- the marks of entry i follow player p's use, those of the others stay
@@ -189,6 +191,17 @@ module _ {T n : ℕ} {lim : ℕ → Limits} {met : ℕ → Meters} {opn : ℕ �
   use₁ = h .opens p .runs on
 
   -- the meters cover the player's own use
+  pub own-count : flagged 1 (lim i) ≡ true → 1 ≤ met i .count
+  unfolding opens
+  own-count f =
+      omega (
+        arith,
+        sum-upd (useIn i) p closed opn 16 pl,
+        own-use i o (λ q. refl),
+        ap one on,
+        h .meters i (use₁ .entry) .count .covers f,
+      )
+
   pub own-timed : flagged 2 (lim i) ≡ true → 1 ≤ met i .timed
   unfolding opens
   own-timed f =
@@ -225,13 +238,92 @@ module _ {T n : ℕ} {lim : ℕ → Limits} {met : ℕ → Meters} {opn : ℕ �
         entry = use₁ .entry;
         before = λ q. refl;
         after = λ q. clash q refl;
-        stays = λ f s. (s, refl);
+        stays = λ q d z same f s. (s, refl);
         shut = λ q. refl;
         runs = λ q. clash q refl;
         meter = λ k s x y.
             meter-ended p (o .begin) (o .until) e (h .meters i (use₁ .entry)) g k s
             (omega (arith, x, ap one on)) (omega (arith, y, cond-on (isOn o) (o .until - o .begin) 0 on));
       })
+
+-- ## A begin taken back
+
+-- player p's use from b until u had been counted; r is what is known of its begin
+meter-cancelled : {T : ℕ} {l : Limits} {m : Meters} {K S X : ℕ} (p : ℕ) (r : Recent) (b u : ℕ) → MeterOk T l m K S X →
+    (k s : ℕ) → k + 1 ≡ K → s + (u - b) ≡ S → MeterOk T l (cancelled p r b u l m) k s (putBit p false X)
+unfolding cancelled
+meter-cancelled {X = X} p r b u h k s x y = record {
+  count = record {
+    within = λ f. omega (arith, h .count .within f);
+    covers = λ f. rw f (omega (arith, h .count .covers f));
+    unused = λ f. omega (arith, h .count .unused f);
+  };
+  timed = record {
+    within = λ f. omega (arith, h .timed .within f);
+    covers = λ f. rw f (omega (arith, h .timed .covers f));
+    unused = λ f. omega (arith, h .timed .unused f);
+  };
+  seconds = record {
+    within = λ f. omega (arith, h .seconds .within f);
+    covers = λ f. rw f (omega (arith, h .seconds .covers f));
+    unused = λ f. omega (arith, h .seconds .unused f);
+  };
+  mark = on-test (r .started) (λ q. rw q (omega arith)) (λ q. rw q (h .mark));
+  unstarted = λ f. on-test (r .started) (λ q. rw q) (λ q. rw q (h .unstarted f));
+  unset = on-test (r .started) (λ q. rw q (λ e. refl)) (λ q. rw q (h .unset));
+  past = on-test (r .started) (λ q. rw q (omega arith)) (λ q. rw q (h .past));
+  marks = ap (putBit p false) (h .marks);
+  together = λ f. omega (arith, h .together f, ones-off p X);
+}
+
+-- no other player has the entry of player p's use open
+abbrev pub Alone : (ℕ → Open) → ℕ → Type 0
+Alone opn p = (q : ℕ) → (q ≡ p → ⊥) → isOn (opn q) ≡ true → opn q .entry ≡ opn p .entry → ⊥
+
+module _ {T n : ℕ} {lim : ℕ → Limits} {met : ℕ → Meters} {opn : ℕ → Open} (h : Sound T n lim met opn) (p : ℕ) (pl : p < 16)
+    (on : isOn (opn p) ≡ true) where
+  abbrev o₂ : Open
+  o₂ = opn p
+
+  abbrev use₂ : UseOk T n (lim (o₂ .entry)) (met (o₂ .entry)) o₂
+  use₂ = h .opens p .runs on
+
+  -- the interval may be unstarted where the use is the only open one
+  pub cancelled-sound : (r : Recent) → (r .started ≡ true → Alone opn p) → Sound T n lim
+      (upd (o₂ .entry) (cancelled p r (o₂ .begin) (o₂ .until) (lim (o₂ .entry)) (met (o₂ .entry))) met) (upd p closed opn)
+  unfolding cancelled
+  cancelled-sound r alone =
+      changed h p (o₂ .entry) (cancelled p r (o₂ .begin) (o₂ .until) (lim (o₂ .entry)) (met (o₂ .entry))) closed
+      (record {
+        player = pl;
+        entry = use₂ .entry;
+        before = λ q. refl;
+        after = λ q. clash q refl;
+        stays = λ q d z same f s. on-test (r .started) (λ e. absurd (alone e q d z same)) (λ e. rw e (s, refl));
+        shut = λ q. refl;
+        runs = λ q. clash q refl;
+        meter = λ k s x y.
+            meter-cancelled p r (o₂ .begin) (o₂ .until) (h .meters (o₂ .entry) (use₂ .entry)) k s
+            (omega (arith, x, ap one on)) (omega (arith, y, cond-on (isOn o₂) (o₂ .until - o₂ .begin) 0 on));
+      })
+
+-- where an entry has one open use, it is alone
+pub only-alone : (opn : ℕ → Open) (p : ℕ) → p < 16 → isOn (opn p) ≡ true → usesOf opn (opn p .entry) ≡ 1 → (q : ℕ) → q < 16
+    → (q ≡ p → ⊥) → isOn (opn q) ≡ true → opn q .entry ≡ opn p .entry → ⊥
+unfolding opens
+only-alone opn p pl on only q ql d z same =
+    let i : ℕ = opn p .entry in
+    omega (
+      arith,
+      sum-upd (useIn i) p closed opn 16 pl,
+      sum-upd (useIn i) q closed (upd p closed opn) 16 ql,
+      ap (useIn i) (upd-other p closed opn q d),
+      own-use i (opn p) (λ x. refl),
+      own-use i (opn q) (λ x. same),
+      ap one on,
+      ap one z,
+      only,
+    )
 
 -- ## Until
 
@@ -321,7 +413,7 @@ module _ {T n : ℕ} {lim : ℕ → Limits} {met : ℕ → Meters} {opn : ℕ �
         entry = useₚ .entry;
         before = λ q. refl;
         after = λ q. refl;
-        stays = λ f s. (s, refl);
+        stays = λ q d z same f s. (s, refl);
         shut = λ q. clash refl q;
         runs = λ q. record {
           begun = useₚ .begun;
@@ -378,10 +470,6 @@ from-le T m h =
     on-test (isStarted m)
     (λ q. omega (arith, cond-on (isStarted m) (m .first) T q))
     (λ q. omega (arith, cond-off (isStarted m) (m .first) T q))
-
-one-le : (f : Bool) → one f ≤ 1
-one-le true = omega arith
-one-le false = omega arith
 
 one-off : (f : Bool) (v : ℕ) → eqb (one f) 1 ≡ false → where-flagged f v ≡ 0
 one-off true v q = clash refl q
@@ -443,7 +531,7 @@ module _ {T n : ℕ} {lim : ℕ → Limits} {met : ℕ → Meters} {opn : ℕ �
         entry = jn;
         before = λ q. clash q off;
         after = λ q. clash q off;
-        stays = begun-stays T;
+        stays = λ q d z same. begun-stays T;
         shut = h .opens p .shut;
         runs = λ q. clash q off;
         meter = λ k s x y.
@@ -466,7 +554,7 @@ module _ {T n : ℕ} {lim : ℕ → Limits} {met : ℕ → Meters} {opn : ℕ �
           entry = jn;
           before = λ q. clash q off;
           after = λ q. refl;
-          stays = begun-stays w;
+          stays = λ q d z same. begun-stays w;
           shut = λ q. clash refl q;
           runs = λ q. record {
             begun = omega arith;
@@ -484,6 +572,34 @@ module _ {T n : ℕ} {lim : ℕ → Limits} {met : ℕ → Meters} {opn : ℕ �
               (meter-begun p w (h .meters j jn) g (λ f. omega (arith, least-unused T T lⱼ mⱼ f, g .seconds f)) k s
               (omega (arith, x)) (omega (arith, y)));
         })
+
+  -- where the interval had not started, nobody has the entry open, and the interval begins now
+  pub begun-alone : flagged 16 lⱼ ≡ true → isStarted mⱼ ≡ false → (u asset : ℕ)
+      → usesOf (upd p (record { on = 1; entry = j; begin = T; until = u; content = asset }) opn) j ≡ 1
+  unfolding opens
+  begun-alone f s u asset =
+      let o : Open = record { on = 1; entry = j; begin = T; until = u; content = asset } in
+      omega (
+        arith,
+        sum-upd (useIn j) p o opn 16 pl,
+        own-use j (opn p) (λ x. clash x off),
+        ap one off,
+        own-use j o (λ x. refl),
+        sum-none (λ q. useIn j (opn q)) 16 (λ q k. ap one (none-open q)),
+      )
+    where
+      none-open : (q : ℕ) → opens j (opn q) ≡ false
+      none-open q =
+          on-test (isOn (opn q))
+          (λ x.
+          on-same (opn q .entry) j
+          (λ y. clash (eq-eqb _ _ (subst (λ (i : ℕ). flagged 16 (lim i) ≡ true → met i .started ≡ 1) y (h .opens q .runs x .started) f)) s)
+          (λ y. rw (x, ne-eqb (opn q .entry) j y)))
+          (λ x. rw x)
+
+  pub begun-first : flagged 16 lⱼ ≡ true → isStarted mⱼ ≡ false → (u : ℕ) → begun p T u lⱼ mⱼ .first ≡ T
+  unfolding begun
+  begun-first f s u = rw (f, s)
 
   -- a granted use runs for at least one second
   pub begun-live : T < leastUntil T T lⱼ mⱼ

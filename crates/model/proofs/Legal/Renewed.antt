@@ -1,4 +1,4 @@
--- A legal book with its time, meters and players blanked is fresh and legal.
+-- A legal book with its time, meters, players and event taken last blanked is fresh and legal.
 use mathlib.Core.Path.{_≡_, refl, sym, ap, _∙_, subst}
 use Prim.Native.Nat.{ℕ}
 use mathlib.Core.Bool.{Bool, true}
@@ -16,6 +16,7 @@ use Rattle.book.specs.declared.Book.{Book}
 use Rattle.book.specs.Blank.{noMeters, noEntry, noPlayer}
 use Rattle.model.specs.Book.{limitsAt, metersAt, playerAt, assetsIn, entriesIn, inBook, assetLegal, assetsLegal, limitsLegal, marksOf}
 use Rattle.model.specs.Book.{entriesLegal, switchLegal, playerBlank, playerLegal, opens, openUses, openSeconds, Legal, Fresh}
+use Rattle.model.specs.Book.{latestLegal, latestPasses}
 use Rattle.model.specs.Image.{newest, entryWidths, entryValues, playerWidths, playerValues, Typed}
 use Rattle.model.specs.Renewed.{unused, renewed, Renewed}
 use Rattle.model.proofs.Ledger.WellFormed.{all-below}
@@ -73,14 +74,14 @@ module _ (b : Book) where
 
   new-fresh : Legal b → Fresh new
   unfolding renewed
-  new-fresh h = record { time = refl; meters = meters-at; players = player-at }
+  new-fresh h = record { time = refl; meters = meters-at; players = player-at; latest = refl }
 
   blank-passes : playerPasses new noPlayer ≡ true
   unfolding playerLegal playerBlank
   blank-passes = refl
 
   new-stages : Legal b → Stages new
-  unfolding renewed assetsLegal assetLegal assetsIn entriesLegal limitsLegal inBook entriesIn switchLegal
+  unfolding renewed assetsLegal assetLegal assetsIn entriesLegal limitsLegal inBook entriesIn switchLegal latestPasses latestLegal
   new-stages h =
       let s = stages-from b (h .rules) in
       record {
@@ -90,6 +91,7 @@ module _ (b : Book) where
             (λ i k. subst (λ (l : Limits). lawfulIn b l ≡ true) (sym (limits-at i))
             (all-below (λ j. lawfulIn b (limitsAt (b .entries) j)) (entriesIn b) (s .entries) i k));
         players = λ p k. subst (λ (x : Player). playerPasses new x ≡ true) (sym (player-at p)) blank-passes;
+        latest = refl;
         meters = λ i k.
             meter-to new i (rw (meters-at i, no-uses i, no-seconds i, no-marks i) (unused-meters 0 (limitsAt (new .entries) i)));
       }
@@ -114,7 +116,7 @@ module _ (b : Book) where
   new-typed : Typed b → Typed new
   unfolding renewed
   new-typed h = record {
-    header = h .header;
+    header = omega (arith, h .header .0);
     assets = h .assets;
     entries = λ i. subst (λ (x : Entry). Fit (entryWidths newest) (entryValues newest x)) (sym (entry-at i)) (unused-fits _ (h .entries i));
     players = λ p. subst (λ (x : Player). Fit (playerWidths newest) (playerValues x)) (sym (player-at p)) (zeros-fit (playerWidths newest));
@@ -134,6 +136,7 @@ module _ (b : Book) where
       λ k. record {
         time = sym (f .time) k;
         switch = b .switch;
+        latest = sym (f .latest) k;
         assetcount = b .assetcount;
         entrycount = b .entrycount;
         assets = b .assets;

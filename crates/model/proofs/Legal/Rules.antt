@@ -7,7 +7,7 @@ use mathlib.Core.List.{[], _∷_}
 use lib.ListN.{getD, List·getD-eq-default}
 use lib.Dec.{leb, ltb, eqb}
 use native.Mathlib.Omega.{arith}
-use borrow.Author.Tests.{eqb-true, eq-eqb, ltb-true, lt-ltb, leb-true, le-leb, not-false}
+use borrow.Author.Tests.{eqb-true, eq-eqb, ne-eqb, ltb-true, lt-ltb, leb-true, le-leb, not-false}
 use Rattle.numbers.specs.Count.{sum, one}
 use Rattle.numbers.specs.Bits.{ones, maskOf}
 use Rattle.numbers.proofs.TableLaws.{below-or-not}
@@ -17,6 +17,7 @@ use Rattle.book.specs.declared.Meters.{Meters}
 use Rattle.book.specs.declared.Entry.{Entry}
 use Rattle.book.specs.declared.Open.{Open}
 use Rattle.book.specs.declared.Player.{Player}
+use Rattle.book.specs.declared.Latest.{Latest}
 use Rattle.book.specs.declared.Book.{Book}
 use Rattle.book.specs.Blank.{noMeters, noEntry, closed, noPlayer}
 use Rattle.model.specs.Book.{
@@ -55,11 +56,14 @@ use Rattle.model.specs.Book.{
   inBook,
   contentLegal,
   switchLegal,
+  startedLegal,
+  latestLegal,
+  latestPasses,
 }
 pub use Rattle.model.specs.Book.{playerPasses}
 use Rattle.model.specs.Meters.{isOn}
 use Rattle.model.specs.Step.{openAt}
-use Rattle.model.proofs.Ledger.Facts.{on-test, clash, and-left, and-right, and-both, cond-on, cond-off}
+use Rattle.model.proofs.Ledger.Facts.{on-test, clash, and-right, and-both, cond-on, cond-off}
 use Rattle.model.proofs.Ledger.WellFormed.{all-below}
 use Rattle.model.proofs.Legal.Facts.{all-of}
 
@@ -409,6 +413,20 @@ module _ (b : Book) (i : ℕ) where
       (eq-eqb _ _ (h .marks))
       (implied (isGroup lᵢ) _ (λ f. le-leb (ones (mᵢ .marks)) (lᵢ .threshold) (omega (arith, h .together f, ap ones (h .marks))))))
 
+-- ## The event taken last
+
+-- a use that the header says to have started an interval: the tests it has passed
+pub started-tests : (x : Latest) (uses : ℕ) (e : Entry) (y : Player) → latestLegal x uses e y ≡ true → eqb (x .started) 1 ≡ true →
+    (eqb (y .current .on) 1 ≡ true) × Pass (flagged 16 (e .limits) ∷ eqb (y .current .begin) (e .meters .first) ∷ eqb uses 1 ∷ [])
+unfolding latestLegal startedLegal
+started-tests x uses e y h s =
+    let t = row-passed (leb (x .player) 16)
+    ((eqb (x .player) 0 || not (eqb (y .last .number) 0)) ∷ leb (x .started) 1 ∷
+    (eqb (x .started) 0 || (not (eqb (x .player) 0) && startedLegal uses e (y .current))) ∷ []) h in
+    let z : eqb (x .started) 0 ≡ false = ne-eqb (x .started) 0 (λ z. omega (arith, eqb-true (x .started) 1 s)) in
+    let own = and-right (not (eqb (x .player) 0)) _ (otherwise-at (eqb (x .started) 0) _ (t .1 .1 .1 .0) z) in
+    row-passed (eqb (y .current .on) 1) (flagged 16 (e .limits) ∷ eqb (y .current .begin) (e .meters .first) ∷ eqb uses 1 ∷ []) own
+
 -- ## The stages of the reader
 
 pub record Stages (b : Book) : Type 0 where
@@ -416,6 +434,7 @@ pub record Stages (b : Book) : Type 0 where
   pub entries : entriesLegal b ≡ true
   pub switch : switchLegal b ≡ true
   pub players : (p : ℕ) → p < 16 → playerPasses b (playerAt (b .players) p) ≡ true
+  pub latest : latestPasses b ≡ true
   pub meters : (i : ℕ) → i < entriesIn b → metersPass b i ≡ true
 
 pub stages-from : (b : Book) → ruleBroken b ≡ 0 → Stages b
@@ -423,21 +442,23 @@ unfolding ruleBroken playersLegal metersLegal
 stages-from b e =
     let p = passed (not (assetsLegal b)) 23 _ e in
     let q = passed (not (entriesLegal b)) 24 _ (p .1) in
-    let r = passed (not (switchLegal b && playersLegal b)) 25 _ (q .1) in
+    let r = passed (not (switchLegal b && playersLegal b && latestPasses b)) 25 _ (q .1) in
+    let x = row-passed (switchLegal b) (playersLegal b ∷ latestPasses b ∷ []) (not-false _ (r .0)) in
     let s = passed (not (metersLegal b)) 26 _ (r .1) in
     record {
       assets = not-false _ (p .0);
       entries = not-false _ (q .0);
-      switch = and-left (switchLegal b) (playersLegal b) (not-false _ (r .0));
-      players = all-below _ 16 (and-right (switchLegal b) (playersLegal b) (not-false _ (r .0)));
+      switch = x .0;
+      players = all-below _ 16 (x .1 .0);
+      latest = x .1 .1 .0;
       meters = all-below _ (entriesIn b) (not-false _ (s .0));
     }
 
 pub stages-to : (b : Book) → Stages b → ruleBroken b ≡ 0
 unfolding ruleBroken playersLegal metersLegal
 stages-to b h =
-    go (assetsLegal b) (entriesLegal b) (switchLegal b && playersLegal b) (metersLegal b) (h .assets) (h .entries)
-    (and-both (h .switch) (all-of (λ p. playerPasses b (playerAt (b .players) p)) 16 (h .players)))
+    go (assetsLegal b) (entriesLegal b) (switchLegal b && playersLegal b && latestPasses b) (metersLegal b) (h .assets) (h .entries)
+    (and-both (and-both (h .switch) (all-of (λ p. playerPasses b (playerAt (b .players) p)) 16 (h .players))) (h .latest))
     (all-of (metersPass b) (entriesIn b) (h .meters))
   where
     go : (p q r s : Bool) → p ≡ true → q ≡ true → r ≡ true → s ≡ true → _≡_ {A = ℕ}

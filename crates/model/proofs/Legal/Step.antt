@@ -1,6 +1,6 @@
 -- Every event on a legal book leaves a legal book, so saving and reading back between any two events changes nothing.
 use mathlib.Core.Path.{_≡_, refl, sym, ap, _∙_, subst, fun-ext}
-use Prim.Native.Nat.{ℕ, _+_, _≤_, _<_}
+use Prim.Native.Nat.{ℕ, _+_, _-_, _≤_, _<_}
 use mathlib.Core.Bool.{Bool, true, false, not, cond}
 use mathlib.Core.List.{List, [], _∷_, map}
 use mathlib.Core.Option.{Option, none, some}
@@ -8,7 +8,8 @@ use lib.ListN.{length, getD, set, take, length-set, length-map}
 use lib.Seq.{getD-set-same, getD-set-other}
 use lib.Dec.{leb, ltb, eqb}
 use native.Mathlib.Omega.{arith}
-use borrow.Author.Tests.{eqb-true, eq-eqb, ltb-true, ltb-false, lt-ltb, leb-true}
+use borrow.Author.Tests.{eqb-true, eq-eqb, ne-eqb, ltb-true, ltb-false, lt-ltb, leb-true, le-leb}
+use Rattle.numbers.specs.Count.{one}
 use Rattle.numbers.specs.Fields.{bits16, size, Fit}
 use Rattle.numbers.proofs.FieldLaws.{number-fits}
 use Rattle.numbers.proofs.TableLaws.{below-or-not}
@@ -21,10 +22,11 @@ use Rattle.book.specs.declared.Last.{Last}
 use Rattle.book.specs.declared.Open.{Open}
 use Rattle.book.specs.declared.Player.{Player}
 use Rattle.book.specs.declared.Book.{Book}
+use Rattle.book.specs.declared.Recent.{Recent}
 use Rattle.book.specs.declared.Event.{Event}
 use Rattle.book.specs.declared.Kind.the-variants.{Play, Display, Execute, Print, Export}
 use Rattle.book.specs.declared.Request.{Request}
-use Rattle.book.specs.declared.Request.the-variants.{Begin, Continue, Stop}
+use Rattle.book.specs.declared.Request.the-variants.{Begin, Continue, Stop, Cancel}
 use Rattle.book.specs.declared.Decoded.{Decoded}
 use Rattle.book.specs.declared.Decoded.the-variants.{Invalid, Valid}
 use Rattle.book.specs.declared.Gate.{Gate}
@@ -33,20 +35,21 @@ use Rattle.book.specs.Blank.{noEntry, noPlayer, closed}
 use Rattle.book.specs.Changed.{changed}
 use Rattle.model.specs.Book.{limitsAt, metersAt, playerAt, assetsIn, entriesIn, latestTime, inBook, between, assetLegal, assetsLegal}
 use Rattle.model.specs.Book.{limitsLegal, entriesLegal, playerBlank, requestLegal, takenCode, answerLegal, openUses, openSeconds}
-use Rattle.model.specs.Book.{Legal, assetPosition, contentLegal, switchLegal, opens, marksOf}
-use Rattle.model.specs.Image.{newest, entryWidths, entryValues, playerWidths, playerValues, Typed, Bytes}
+use Rattle.model.specs.Book.{Legal, assetPosition, contentLegal, switchLegal, opens, marksOf, flagged, latestPlayer}
+use Rattle.model.specs.Book.{startedLegal, latestLegal, latestPasses}
+use Rattle.model.specs.Image.{newest, headerTail, tailValues, entryWidths, entryValues, playerWidths, playerValues, Typed, Bytes}
 use Rattle.model.specs.Record.{operationNumber, requestAsset, requestKind, recordWidths, recordField, kindOf, requestOf, eventIn}
 use Rattle.model.specs.Record.{decoded}
 use Rattle.model.specs.Gate.{sameRequest, sameNumber, inLine, timely, gate}
 use Rattle.model.specs.Meters.{isOn, expired, shut, settled}
 use Rattle.model.specs.Choice.{catalogOf, asks, usable, holds}
-use Rattle.model.specs.Step.{Done, done, lastAt, openAt, noted, takenStep, stepBy, step, arrive}
+use Rattle.model.specs.Step.{Done, done, lastAt, openAt, justBegun, recentOf, noted, latestBy, takenStep, stepBy, step, arrive}
 use Rattle.model.specs.Report.{Arrival, good, admitted, receive, lent}
 use Rattle.model.specs.History.{answers, final}
 use Rattle.model.specs.Saved.{Survives, Fits, FitsRead, Turn, handedOn, eventOf, savedAnswers, savedFinal, AllFit, Saved}
 use Rattle.model.proofs.Image.RoundTrip.{demand2}
 use Rattle.model.proofs.Ledger.Facts.{on-test, on-same, clash, and-left, and-right, and-both, cond-on, cond-off, upd, upd-same}
-use Rattle.model.proofs.Ledger.Facts.{upd-other}
+use Rattle.model.proofs.Ledger.Facts.{upd-other, one-le}
 use Rattle.model.proofs.Ledger.Invariant.{shutO, grant-most}
 use Rattle.model.proofs.Ledger.Concrete.{store-open, shut-at, shut-open}
 use Rattle.model.proofs.Ledger.WellFormed.{all-below}
@@ -54,8 +57,9 @@ use Rattle.model.proofs.Ledger.Steps.{in-line}
 use Rattle.model.proofs.Legal.Facts.{all-of}
 use Rattle.model.proofs.Legal.Rules.{openPasses, playerPasses, lawfulIn, Counted, MeterOk, OpenOk, Sound, Live, open-to}
 use Rattle.model.proofs.Legal.Rules.{blank-current, unused-from, used-from, player-to, meter-to, Stages, stages-from, stages-to}
-use Rattle.model.proofs.Legal.Rules.{entries-counted, no-player, sound-of, Named, player-named}
+use Rattle.model.proofs.Legal.Rules.{entries-counted, no-player, sound-of, Named, player-named, started-tests, usesOf}
 use Rattle.model.proofs.Demand3.Suitable.{in-book}
+use Rattle.model.proofs.Legal.Meters.{Alone, only-alone}
 use Rattle.model.proofs.Legal.Events.{Effect, stage, turn-part, settled-part, settled-live, AnswerOk, DoneOk, done-ok}
 use Rattle.numbers.proofs.BitLaws.{mask-fits}
 
@@ -104,6 +108,7 @@ request-legal (Begin Print asset) = refl
 request-legal (Begin Export asset) = refl
 request-legal Continue = refl
 request-legal Stop = refl
+request-legal Cancel = refl
 
 -- ## Numbers that fit
 
@@ -135,7 +140,7 @@ code-fits c e =
     (λ q. omega (arith, eqb-true c 0 q))
     (λ q. on-test (between 10 15 c)
     (λ r. omega (arith, leb-true c 15 (and-right (leb 10 c) (leb c 15) r)))
-    (λ r. omega (arith, eqb-true c 43 (rw (q, r) at e))))
+    (λ r. omega (arith, leb-true c 44 (and-right (leb 43 c) (leb c 44) (rw (q, r) at e)))))
 
 entry-fits : (T n : ℕ) (a : Answer) → n ≤ 64 → AnswerOk T n a → a .entry < 256
 entry-fits T n a k h =
@@ -147,6 +152,7 @@ operation-fits : (r : Request) → operationNumber r < 256
 operation-fits (Begin kind asset) = omega arith
 operation-fits Continue = omega arith
 operation-fits Stop = omega arith
+operation-fits Cancel = omega arith
 
 kind-fits : (r : Request) → requestKind r < 256
 kind-fits (Begin Play asset) = omega arith
@@ -156,6 +162,7 @@ kind-fits (Begin Print asset) = omega arith
 kind-fits (Begin Export asset) = omega arith
 kind-fits Continue = omega arith
 kind-fits Stop = omega arith
+kind-fits Cancel = omega arith
 
 record OpenFits (o : Open) : Type 0 where
   on : o .on < 256
@@ -237,6 +244,11 @@ open-fits T n lim met o k h w c =
     (λ q. subst OpenFits (sym (w .shut q))
     (record { on = omega arith; entry = omega arith; begin = omega arith; until = omega arith; content = omega arith }))
 
+-- a use that settling leaves open is unchanged
+kept-on : (T : ℕ) (o : Open) → isOn (shutO T o) ≡ true → shutO T o ≡ o
+unfolding expired
+kept-on T o = on-test (expired T o) (λ x. rw x (λ on. clash on refl)) (λ x. rw x (λ on. refl))
+
 module _ (b : Book) (e : Event) (h : Legal b) (t : Passed b e) where
   abbrev T : ℕ
   T = e .time
@@ -247,14 +259,18 @@ module _ (b : Book) (e : Event) (h : Legal b) (t : Passed b e) where
   abbrev es : List Entry
   es = settled T (b .players) (b .entries)
 
+  -- what is known of the event taken last
+  abbrev recent : Recent
+  recent = recentOf (b .latest) (e .player) (lastAt (b .players) (e .player)) (openAt ps (e .player))
+
   abbrev did : Done
-  did = done (e .request) (catalogOf b) es (openAt ps (e .player)) (asks b e)
+  did = done (e .request) (catalogOf b) es (openAt ps (e .player)) (asks b e) recent
 
   abbrev asker : Player
   asker = record { last = noted e (did .answer); current = did .current }
 
   abbrev new : Book
-  new = changed b T (did .entries) (set ps (e .player) asker)
+  new = changed b T (latestBy e (did .started)) (did .entries) (set ps (e .player) asker)
 
   room : entriesIn b ≤ 64
   unfolding entriesIn
@@ -288,6 +304,33 @@ module _ (b : Book) (e : Event) (h : Legal b) (t : Passed b e) where
       (λ x. rw x (λ on. clash on refl))
       (λ x. rw x (λ on. rw (before .limits (openAt (b .players) p .entry)) (old-named p on))))
 
+  still-on : (p : ℕ) → isOn (openAt ps p) ≡ true → openAt ps p ≡ openAt (b .players) p
+  still-on p on =
+      let x = shut-open T (b .players) p in
+      x ∙ kept-on T (openAt (b .players) p) (ap isOn (sym x) ∙ on)
+
+  -- rule 26 of the book before: the use that its header says to have started an interval is its entry's only open one
+  only-then : recent .begun ≡ true → recent .started ≡ true →
+      usesOf (openAt (b .players)) (openAt (b .players) (e .player) .entry) ≡ 1
+  unfolding justBegun latestPasses openUses
+  only-then m w =
+      let k = eqb-true (b .latest .player) (e .player + 1)
+      (row-passed (eqb (b .latest .player) (e .player + 1)) (_ ∷ _ ∷ _ ∷ _ ∷ []) m .0) in
+      let z : b .latest .player - 1 ≡ e .player = omega (arith, k) in
+      let u = started-tests (b .latest) _ _ (latestPlayer b) (stages-from b (h .rules) .latest) w in
+      eqb-true (usesOf (openAt (b .players)) (openAt (b .players) (e .player) .entry)) 1
+      (subst (λ (p : ℕ). eqb (usesOf (openAt (b .players)) (openAt (b .players) p .entry)) 1 ≡ true) z (u .1 .1 .1 .0))
+
+  -- and so it is after settling
+  alone : isOn (openAt ps (e .player)) ≡ true → recent .begun ≡ true → recent .started ≡ true → Alone (openAt ps) (e .player)
+  alone on m w q d oq same =
+      let x = still-on (e .player) on in
+      let y = still-on q oq in
+      below-or-not q 16
+      (λ ql. only-alone (openAt (b .players)) (e .player) (t .player) (ap isOn (sym x) ∙ on) (only-then m w) q ql d (ap isOn (sym y) ∙ oq)
+      (ap (λ (o : Open). o .entry) (sym y) ∙ same ∙ ap (λ (o : Open). o .entry) x))
+      (λ ql. clash (ap isOn (sym y) ∙ oq) (ap (λ (z : Player). isOn (z .current)) (no-player b h q ql)))
+
   did-ok : DoneOk (inBook b) T (entriesIn b) (e .player) (limitsAt es) (openAt ps) did
   unfolding catalogOf entriesLegal usable holds inBook
   did-ok =
@@ -295,7 +338,7 @@ module _ (b : Book) (e : Event) (h : Legal b) (t : Passed b e) where
       settled-sound
       (settled-live T (b .players)) (t .player)
       (inBook b) settled-named
-      (catalogOf b) refl (λ asset u. and-left (holds (catalogOf b) asset) _ u) (e .request)
+      (catalogOf b) refl (λ asset u. and-left (holds (catalogOf b) asset) _ u) (e .request) recent alone
 
   limits-kept : (i : ℕ) → limitsAt (new .entries) i ≡ limitsAt (b .entries) i
   limits-kept i = did-ok .part .limits i ∙ before .limits i
@@ -378,6 +421,35 @@ module _ (b : Book) (e : Event) (h : Legal b) (t : Passed b e) where
       (λ x. subst (λ (y : Player). playerPasses new y ≡ true) (sym (own-record p x)) own-legal)
       (λ x. subst (λ (y : Player). playerPasses new y ≡ true) (sym (other-record p x)) (other-legal p k x))
 
+  -- ## The event taken last
+
+  latest-is : latestPlayer new ≡ asker
+  latest-is = let z : e .player + 1 - 1 ≡ e .player = omega arith in own-record (e .player + 1 - 1) z
+
+  -- what rule 26 asks of a use that started an interval
+  started-legal : did .started ≡ true → startedLegal (openUses (new .players) (did .current .entry)) (getD (new .entries)
+      (did .current .entry) noEntry) (did .current) ≡ true
+  unfolding startedLegal openUses
+  started-legal q =
+      let m = did-ok .starts q in
+      and-both (and-both (and-both
+      (m .on)
+      (ap (flagged 16) (did-ok .part .limits (did .current .entry)) ∙ m .interval))
+      (eq-eqb _ _ (m .first)))
+      (eq-eqb _ _ (ap (λ (g : ℕ → Open). usesOf g (did .current .entry)) (fun-ext opens-kept) ∙ m .only))
+
+  latest-legal : latestPasses new ≡ true
+  unfolding latestPasses latestLegal
+  latest-legal =
+      let z : eqb (e .player + 1) 0 ≡ false = ne-eqb (e .player + 1) 0 (λ z. omega arith) in
+      let n : eqb (e .number) 0 ≡ false = ne-eqb (e .number) 0 (λ z. omega (arith, t .number)) in
+      rw latest-is
+      (and-both (and-both (and-both
+      (le-leb (e .player + 1) 16 (omega (arith, t .player)))
+      (rw (z, n)))
+      (le-leb (one (did .started)) 1 (one-le (did .started))))
+      (on-test (did .started) (λ q. rw (q, z) (started-legal q)) (λ q. rw q)))
+
   -- ## The stages
 
   new-stages : Stages new
@@ -391,6 +463,7 @@ module _ (b : Book) (e : Event) (h : Legal b) (t : Passed b e) where
             (λ i k. subst (λ (l : Limits). lawfulIn b l ≡ true) (sym (limits-kept i))
             (all-below (λ j. lawfulIn b (limitsAt (b .entries) j)) (entriesIn b) (s .entries) i k));
         players = players-legal;
+        latest = latest-legal;
         meters = λ i k. meter-to new i (new-sound .meters i k);
       }
 
@@ -454,8 +527,11 @@ module _ (b : Book) (e : Event) (h : Legal b) (t : Passed b e) where
           until = omega (arith, did-ok .answer .near, t .early);
         }
 
+    header-typed : Fit (headerTail newest) (tailValues new)
+    header-typed = omega (arith, y .header .0, t .player, one-le (did .started))
+
     new-typed : Typed new
-    new-typed = record { header = y .header; assets = y .assets; entries = entries-typed; players = players-typed }
+    new-typed = record { header = header-typed; assets = y .assets; entries = entries-typed; players = players-typed }
 
 -- ## The claims
 
@@ -511,14 +587,16 @@ decoded-fits s b =
     (λ q. rw q tt)
     (λ q. rw q
     (on-test (requestLegal (recordField 2 s) (recordField 3 s) (recordField 4 s))
-    (λ r. rw r (asset-fits (eqb (recordField 2 s) 1) (eqb (recordField 2 s) 2)))
+    (λ r. rw r (asset-fits (eqb (recordField 2 s) 1) (eqb (recordField 2 s) 2) (eqb (recordField 2 s) 3)))
     (λ r. rw r tt)))))
     (λ p. rw p tt)
   where
-    asset-fits : (x z : Bool) → requestAsset (cond x (Begin (kindOf (recordField 4 s)) (recordField 3 s)) (cond z Continue Stop)) < 65536
-    asset-fits true z = number-fits bits16 10 s b
-    asset-fits false true = omega arith
-    asset-fits false false = omega arith
+    asset-fits : (x z w : Bool)
+        → requestAsset (cond x (Begin (kindOf (recordField 4 s)) (recordField 3 s)) (cond z Continue (cond w Stop Cancel))) < 65536
+    asset-fits true z w = number-fits bits16 10 s b
+    asset-fits false true w = omega arith
+    asset-fits false false true = omega arith
+    asset-fits false false false = omega arith
 
 survives : (b : Book) → Legal b → Typed b → Survives b
 survives b h y = record { accepted = demand2 .readsBack b b h y .0; same = λ held. demand2 .readsBack held b h y .1 }

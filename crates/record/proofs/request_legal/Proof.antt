@@ -1,4 +1,4 @@
--- `record::request_legal` meets its contract: a begin is judged by its kind, a continue or a stop by two zeros.
+-- `record::request_legal` meets its contract: a begin is judged by its kind, any other request by two zeros.
 use mathlib.Core.Path.{refl, sym}
 use mathlib.Core.Bool.{or-false}
 use borrow.Author.Tests.{ne-eqb}

@@ -21,7 +21,12 @@ returns-2 c =
 returns-3 : tie.Need-returns-3
 unfolding requestOf
 returns-3 c =
-    simp (ne-eqb _ _ (c .match .rest .0 .1), ne-eqb _ _ (c .match .rest .1))
+    rw (c .match .keys3)
+
+returns-4 : tie.Need-returns-4
+unfolding requestOf
+returns-4 c =
+    simp (ne-eqb _ _ (c .match .rest .0 .0 .1), ne-eqb _ _ (c .match .rest .0 .1), ne-eqb _ _ (c .match .rest .1))
 
 pub request-of-spec : {M : Type 1} → statement M
-request-of-spec = tie.close (tie.spec kind-of-requires returns returns-2 returns-3)
+request-of-spec = tie.close (tie.spec kind-of-requires returns returns-2 returns-3 returns-4)

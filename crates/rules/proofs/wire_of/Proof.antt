@@ -15,6 +15,9 @@ enum-told c = search needs
 enum-told-2 : tie.Need-enum-told-2
 enum-told-2 c = search needs
 
+enum-told-3 : tie.Need-enum-told-3
+enum-told-3 c = search needs
+
 returns : tie.Need-returns
 returns c = rw (c .before .before .q .given .1, c .kind-number .ensures)
 
@@ -24,7 +27,10 @@ returns-2 c = rw (c .enum-told .given .1)
 returns-3 : tie.Need-returns-3
 returns-3 c = rw (c .enum-told2 .given .1)
 
+returns-4 : tie.Need-returns-4
+returns-4 c = rw (c .enum-told3 .given .1)
+
 pub wire-of-spec : {M : Type 1} → statement M
 wire-of-spec =
     tie.close
-    (tie.spec enum-known-q kind-number-requires enum-told enum-told-2 returns returns-2 returns-3)
+    (tie.spec enum-known-q kind-number-requires enum-told enum-told-2 enum-told-3 returns returns-2 returns-3 returns-4)

@@ -25,6 +25,12 @@ enum-told-2 c = search needs
 stop-requires : tie.Need-stop-requires
 stop-requires c κs = search needs
 
+enum-told-3 : tie.Need-enum-told-3
+enum-told-3 c = search needs
+
+cancel-requires : tie.Need-cancel-requires
+cancel-requires c κs = search needs
+
 returns : tie.Need-returns
 unfolding done
 returns c =
@@ -40,6 +46,11 @@ unfolding done
 returns-3 c =
     rw (c .before .enum-told2 .given .1) (c .stop .ensures)
 
+returns-4 : tie.Need-returns-4
+unfolding done
+returns-4 c =
+    rw (c .before .enum-told3 .given .1) (c .cancel .ensures)
+
 pub operate-spec : {M : Type 1} → statement M
 operate-spec =
     tie.close
@@ -51,6 +62,9 @@ operate-spec =
     go-on-requires
     enum-told-2
     stop-requires
+    enum-told-3
+    cancel-requires
     returns
     returns-2
-    returns-3)
+    returns-3
+    returns-4)

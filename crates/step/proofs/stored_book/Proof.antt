@@ -8,6 +8,8 @@ use lib.Seq.{set-out}
 use native.Mathlib.Omega.{arith}
 use Rattle.book.specs.declared.Entry.{Entry}
 use Rattle.book.specs.declared.Last.{Last}
+use Rattle.book.specs.declared.Latest.{Latest}
+use Rattle.model.specs.Step.{noted}
 use Rattle.uses.specs.Uses.{placed, stored}
 use Rattle.step.specs.Settle.{with}
 use Rattle.numbers.proofs.Loops.{length-mapped}
@@ -40,22 +42,27 @@ mul-p c = search needs
 element-set-from-p : tie.Need-element-set-from-p
 element-set-from-p c = search needs
 
+latest-by-requires : tie.Need-latest-by-requires
+latest-by-requires c κs = search needs
+
 entries-64 : (c : tie.Start) → length (c .args .b .entries) ≡ 64
 entries-64 c = search length-mapped
 
 returns : tie.Need-returns
 unfolding storedBook placed stored
 returns c =
-    let a = c .before .before .before .before .before .before .args in
+    let start = c .before .before .before .before .before .before .before in
+    let a = start .args in
     let es = a .b .entries in
     let part = a .a .part in
-    let m : c .before .before .before .before .if1 .n ≡ with (a .b) (stored (a .a .at) (part .meters) es) (a .b .players) = ⊎-elim
+    let found = with (a .b) (stored (a .a .at) (part .meters) es) (a .b .players) in
+    let m : c .before .before .before .before .before .if1 .n ≡ found = ⊎-elim
     (λ w. w .4) (λ w. w .1 ∙ ap (λ (x : List Entry). with (a .b) x (a .b .players))
-    (sym (set-out es (a .a .at) _ (omega (arith, w .0 .left, entries-64 (c .before .before .before .before .before .before))))))
-    (c .before .before .before .before .if1 .came) in
-    ap (finished (a .e) (c .noted-last .result) (part .current)) m ∙ ap
-    (λ (l : Last). finished (a .e) l (part .current) (with (a .b) (stored (a .a .at) (part .meters) es) (a .b .players)))
-    (c .noted-last .ensures)
+    (sym (set-out es (a .a .at) _ (omega (arith, w .0 .left, entries-64 start)))))
+    (c .before .before .before .before .before .if1 .came) in
+    ap (finished (a .e) (c .before .noted-last .result) (part .current) (c .latest-by .result)) m
+    ∙ ap (λ (l : Last). finished (a .e) l (part .current) (c .latest-by .result) found) (c .before .noted-last .ensures)
+    ∙ ap (λ (x : Latest). finished (a .e) (noted (a .e) (part .answer)) (part .current) x found) (c .latest-by .ensures)
 
 pub stored-book-spec : {M : Type 1} → statement M
 stored-book-spec =
@@ -69,4 +76,5 @@ stored-book-spec =
     noted-last-requires
     mul-p
     element-set-from-p
+    latest-by-requires
     returns)

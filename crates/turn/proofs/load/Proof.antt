@@ -33,7 +33,7 @@ returns c f begins =
     let least : c .before .min-size .result ≡ min (a .n) (length image) = omega arith in
     let there : take (c .before .min-size .result) image ≡ take (length image) f =
     ap (λ (k : ℕ). take k image) least ∙ least-take (a .n) image ∙ sym begins in
-    let large : 5392 ≤ length image = omega arith in (
+    let large : 5400 ≤ length image = omega arith in (
       c .read-first .ensures .0 ∙ ap readCode there ∙ cut-code (length image) large f,
       c .read-first .ensures .1 ∙ ap (readBook noBook) there ∙ cut-book (length image) large f noBook,
     )

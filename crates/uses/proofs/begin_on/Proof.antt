@@ -65,17 +65,20 @@ momentary-requires c κs = search needs
 pick-open-requires : tie.Need-pick-open-requires
 pick-open-requires c κs = search needs
 
+starts-interval-requires : tie.Need-starts-interval-requires
+starts-interval-requires c κs = search needs
+
 returns-3 : tie.Need-returns-3
 unfolding beginOn
 returns-3 c = rw (
-  sym (c .before .before .before .before .before .before .grantable .ensures) ∙ not-false _
-      (c .before .before .before .before .before .if1 .left),
-  le-leb _ _ (c .before .before .before .before .if2 .left),
-  c .pick-open
-      .ensures,
-  c .before .momentary .ensures,
-  c .before .before .begun-meters .ensures,
-  c .before .before .before .grant-until .ensures,
+  sym (c .before .before .before .before .before .before .before .grantable .ensures) ∙ not-false _
+      (c .before .before .before .before .before .before .if1 .left),
+  le-leb _ _ (c .before .before .before .before .before .if2 .left),
+  c .starts-interval .ensures,
+  c .before .pick-open .ensures,
+  c .before .before .momentary .ensures,
+  c .before .before .before .begun-meters .ensures,
+  c .before .before .before .before .grant-until .ensures,
 )
 
 pub begin-on-spec : {M : Type 1} → statement M
@@ -92,4 +95,5 @@ begin-on-spec =
     begun-meters-requires
     momentary-requires
     pick-open-requires
+    starts-interval-requires
     returns-3)

@@ -4,7 +4,7 @@ use mathlib.Core.Path.{_≡_, refl}
 use mathlib.Core.List.{List, [], _∷_, _++_}
 use lib.ListN.{replicate}
 use Rattle.book.specs.declared.Book.{Book}
-use Rattle.book.specs.Blank.{noEntry, noPlayer}
+use Rattle.book.specs.Blank.{noEntry, noPlayer, noLatest}
 use Rattle.numbers.specs.Count.{listed}
 use Rattle.xml_model.specs.Bytes.{bytes}
 use Rattle.xml_model.specs.Tags.{unitAt}
@@ -205,6 +205,7 @@ unfoldable pub book : ℕ → ℕ → Book
 book n m = record {
   time = 0;
   switch = 0;
+  latest = noLatest;
   assetcount = n;
   entrycount = m;
   assets = listed (λ i. record { number = suc i; inherit = 0; key = 0 }) 64;

@@ -1,9 +1,9 @@
--- `image_pieces::opens_entry` meets its contract: its test is the definition's.
+-- `rules::opens_entry` meets its contract: its test is the definition's.
 use mathlib.Core.Path.{refl}
 use Rattle.model.specs.Book.{opens}
 use borrow.Author.Needs.{needs}
-use Rattle.image_pieces.proofs.opens_entry.Statement.{statement}
-use Rattle.image_pieces.proofs.opens_entry.Tie as tie
+use Rattle.rules.proofs.opens_entry.Statement.{statement}
+use Rattle.rules.proofs.opens_entry.Tie as tie
 
 cast-entry : tie.Need-cast-entry
 cast-entry c = search needs

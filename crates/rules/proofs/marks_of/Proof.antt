@@ -1,4 +1,4 @@
--- `image_pieces::marks_of` meets its contract. The invariant: `marks` has the marks of the first p players, `weight` is that of the next.
+-- `rules::marks_of` meets its contract. The invariant: `marks` has the marks of the first p players, `weight` is that of the next.
 use mathlib.Core.Path.{_≡_, refl, sym, ap, ap₂, _∙_}
 use mathlib.Core.Bool.{Bool, cond}
 use mathlib.Core.List.{List}
@@ -13,8 +13,8 @@ use Rattle.numbers.proofs.Loops.{sum-turn}
 use Rattle.numbers.proofs.BitLaws.{mask-fits, cond-most, weight-most}
 use Rattle.book.specs.declared.Player.{Player}
 use Rattle.model.specs.Book.{playerAt, opens, marksOf}
-use Rattle.image_pieces.proofs.marks_of.Statement.{statement}
-use Rattle.image_pieces.proofs.marks_of.Tie as tie
+use Rattle.rules.proofs.marks_of.Statement.{statement}
+use Rattle.rules.proofs.marks_of.Tie as tie
 
 abbrev opened : ℕ → List Player → ℕ → Bool
 opened i ps k = opens i (playerAt ps k .current)
