@@ -21,64 +21,18 @@ import tempfile
 import time
 from pathlib import Path
 
-ROOT = Path(__file__).resolve().parent.parent
-TOOL = ROOT / "tools" / "book.py"
-sys.path.insert(0, str(ROOT / "tools"))
-sys.path.insert(0, str(ROOT / "oracle"))
+from support import checks
+from support.checks import AFTERNOON, METERED, OBJECTS, ROOT, TOOL, Done, call, check, check_all, refused
+
 import days
 import rights
 import texts as stored
 import xml_rights
-from books import imported, library, records, report, state, texts, why, words
+from books import answers, imported, library, records, report, state, texts, why, words
 from ledger import Ledger
 from rights import LATEST, Asset, Book, Entry, Event
 
-AFTERNOON = ROOT / "examples" / "afternoon"
-METERED = ROOT / "examples" / "metered"
-OBJECTS = ROOT / "examples" / "rights"
 RUN = ROOT / "target" / "bin" / "run"
-passed = failed = 0
-
-
-def check_all(name, parts):
-    """One test of many parts, each with whether it holds and what it is about."""
-    wrong = [detail for ok, detail in parts if not ok]
-    check(name, not wrong, "; ".join(map(str, wrong[:3])))
-
-
-def check(name, ok, detail=""):
-    global passed, failed
-    if ok:
-        passed += 1
-    else:
-        failed += 1
-        print(f"FAILED: {name}\n    {detail}" if detail else f"FAILED: {name}")
-
-
-class Done:
-    """What a call of book.py did."""
-
-    def __init__(self, done):
-        self.status, self.out, self.err = done.returncode, done.stdout, done.stderr.decode(errors="replace")
-
-    def __repr__(self):
-        return f"status {self.status}, out {self.out[:300]!r}, err {self.err[:600]!r}"
-
-
-def call(*args, stdin=b"", tool=TOOL, **how):
-    command = [sys.executable, str(tool), *map(str, args)]
-    try:
-        return Done(subprocess.run(command, input=stdin, capture_output=True, timeout=60, **how))
-    except subprocess.TimeoutExpired:
-        return Done(subprocess.CompletedProcess(command, None, b"", b"not ended after 60 seconds"))
-
-
-def refused(name, fragment, *args, **how):
-    """The call ends with status 2, prints nothing on standard output, and gives this message, plainly."""
-    done = call(*args, **how)
-    plain = "Traceback" not in done.err and len(done.err) < 600 and 0 < done.err.count("\n") <= 3
-    check(name, done.status == 2 and done.out == b"" and fragment in done.err and plain, f"wanted `{fragment}`, got {done}")
-    return done
 
 
 # ---- Messages
@@ -512,8 +466,10 @@ def test_files(folder):
     other.write_text("asset 5 key\n")
     image.chmod(0o640)
     limit = {"preexec_fn": lambda: resource.setrlimit(resource.RLIMIT_FSIZE, (100, 100))}
-    for name, args in (("make", ["make", other, image]), ("events", ["events", events, records_file]),
-                       ("import", ["import", folder / "k.xml", image])):
+    more = folder / "more.events"
+    more.write_text(events.read_text() + "9.1 stop 1200\n")
+    for name, args in (("make", ["make", other, image]), ("events", ["events", more, records_file, "--over"]),
+                       ("import", ["import", folder / "k.xml", image, "--over"])):
         refused(f"{name}: the disk is full", "the file that was there is as it was", *args, **limit)
     new = folder / "n.rbk"
     refused("after: the disk is full", "the file would be larger than allowed", "after", image, records_file, new, **limit)
@@ -559,7 +515,8 @@ def test_streams(folder):
     long.write_bytes((AFTERNOON / "events.bin").read_bytes() * 2000)
     shell = f"{sys.executable} {TOOL} explain {long} /dev/null | head -1"
     done = subprocess.run(shell, shell=True, capture_output=True, text=True)
-    check("a long pipe that is closed early", done.stderr == "" and done.stdout.count("\n") == 1, done)
+    check("a long pipe that is closed early", done.stderr.startswith("note: 44000 requests and 0 answers: ")
+          and done.stderr.count("\n") == done.stdout.count("\n") == 1, done)
 
 
 # ---- Random books
@@ -824,6 +781,7 @@ def test_widen(folder):
     for seed in range(20):
         events = days.make_day(seed, 60, "crowd")[1]
         old.write_bytes(shortened(events))
+        new.unlink(missing_ok=True)
         done = call("widen", old, new)
         wanted = [rights.RECORD.read(record) for record in rights.records_in(events) if len(record) == rights.RECORD.size]
         wanted = [dataclasses.replace(event, number=event.number % 2**32) for event in wanted]
@@ -833,13 +791,14 @@ def test_widen(folder):
     old.write_bytes(shortened(afternoon))
     check("widen: the afternoon", call("widen", old, "-").out == afternoon == call("widen", "-", "-", stdin=shortened(afternoon)).out)
     check("widen: nothing", (lambda done: (done.status, done.out))(call("widen", "/dev/null", "-")) == (0, b""))
-    for args in (["explain", old, "/dev/null"], ["report", AFTERNOON / "rights.rbk", old],
+    for args in (["explain", old, "-"], ["report", AFTERNOON / "rights.rbk", old],
                  ["after", AFTERNOON / "rights.rbk", old, folder / "next.rbk"]):
+        noted = f"{old} has 286 bytes, a whole number of records of 13 bytes"
         done = call(*args)
-        check(f"{args[0]}: a note on records of 13 bytes", done.status == 0 and done.err.count("\n") == 1
-              and f"{old} has 286 bytes, a whole number of records of 13 bytes" in done.err, done)
-        done = call(*(AFTERNOON / "events.bin" if word == old else word for word in args))
-        check(f"{args[0]}: no note on records of 17 bytes", done.status == 0 and done.err == "", done)
+        check(f"{args[0]}: a note on records of 13 bytes", done.err.startswith("note: ") and noted in done.err, done)
+        (folder / "next.rbk").unlink(missing_ok=True)
+        done = call(*(AFTERNOON / "events.bin" if word == old else word for word in args), stdin=(AFTERNOON / "expected.txt").read_bytes())
+        check(f"{args[0]}: no note on records of 17 bytes", done.status == 0 and "note: " not in done.err, done)
     refused("widen: records of 17 bytes", "its 374 bytes are no whole number of records of 13 bytes, but of 17: nothing to do",
             "widen", AFTERNOON / "events.bin", new)
     old.write_bytes(bytes(30))
@@ -1207,7 +1166,7 @@ Metering: off
                          ("latest player 9, started an interval", "9, started an interval")):
         path.write_text(lasts.replace("latest player 15", line).replace("entry 8:", "entry 8: threshold 1,").replace(
             "interval 100, first 900", "interval 200, first 990") + "player 9: number 7, begin 1 play, granted 8 1050, open 8 990 1050\n")
-        call("make", path, image)
+        call("make", path, image, "--over")
         out = call("show", image).out.decode()
         check(f"show: latest player, {wanted}", out.endswith(f"\nLatest player: {wanted}\n"), out)
         may = [line for line in call("left", image, "--at", 1000).out.decode().splitlines() if "may still take back" in line]
@@ -1215,7 +1174,7 @@ Metering: off
         check(f"left: latest player, {wanted}, too late", b"may still" not in call("left", image, "--at", 1050).out)
     path.write_text(lasts)
     path.write_text(path.read_text() + "metering on\n")
-    call("make", path, image)
+    call("make", path, image, "--over")
     out = call("show", image).out.decode()
     check("show: metering on", "\nMetering: on\n" in out and "metering is off (" not in out, out)
     check("left: metering on", b"metering" not in call("left", image, "--at", "1000").out)
@@ -1513,7 +1472,9 @@ def test_report(folder, how_many):
     image, events = METERED / "rights.rbk", METERED / "events.bin"
     for name, options in (("bill.txt", []), ("bill.csv", ["--csv"])):
         done = call("report", image, events, *options)
-        check(f"report: {name}", done.status == 0 and done.err == "" and done.out == (METERED / name).read_bytes(), done)
+        check(f"report: {name}", done.status == 0 and done.out == (METERED / name).read_bytes(), done)
+        check(f"report: {name}, how many requests", done.err
+              == f"{events}: 14 requests: 13 granted, 0 refused, 0 turned away, 1 sent again\n", done)
     for name in ("book.txt", "events.txt"):
         made = call({"book.txt": "make", "events.txt": "events"}[name], METERED / name, "-")
         check(f"report: the example's {name}", made.out == (METERED / name).with_name(
@@ -1535,7 +1496,7 @@ def test_report(folder, how_many):
         text = "content,times,hours,seconds\n" + "".join(
             f"{content},{times},{seconds // 3600}:{seconds % 3600 // 60:02}:{seconds % 60:02},{seconds}\n"
             for content, times, seconds in wanted)
-        got = "\n".join(report.csv_lines(book, library.reported(path.read_bytes(), stream.read_bytes())[0])) + "\n"
+        got = "\n".join(report.csv_lines(library.played(path, path.read_bytes(), stream.read_bytes()))) + "\n"
         check(f"report of day {seed}", got == text, f"{got} but by the ledger {text}")
         if seed < 5:
             check(f"report of day {seed}, as a command", call("report", path, stream, "--csv").out.decode() == text)
@@ -1616,7 +1577,7 @@ def test_building(folder):
     check("after: built on demand", done.status == 0 and done.out == (AFTERNOON / "expected.txt").read_bytes()
           and done.err.count("building") == 1 and "words" not in done.err, done)
     done = call(*args, tool=tool)
-    check("after: built once", done.status == 0 and done.err == "", done)
+    check("after: built once", done.status == 0 and "building" not in done.err, done)
     one = call("import", OBJECTS / "film.xml", folder / "film.rbk", tool=tool)
     again = call("import", OBJECTS / "film.xml", folder / "film.rbk", tool=tool)
     check("import: its program is built once, on demand", one.status == again.status == 0 and again.err == ""
@@ -1630,7 +1591,8 @@ def test_building(folder):
     done = Done(subprocess.run([root / "examples" / "try"], env=able, capture_output=True))
     check("try: prints the day and nothing else", done.out == (AFTERNOON / "try.txt").read_bytes(), done)
     check("try: a line for each thing that is built", re.fullmatch(
-        "building the run program, about [0-9]+ minutes .*; log in target/try.log\nbuilding the library .*\nbuilding the program .*\n",
+        "building the run program, about [0-9]+ minutes .*; log in target/try.log\nbuilding the library .*\nbuilding the program .*\n"
+        ".*events.bin: 22 requests: .*\n",
         done.err) is not None, done)
     rt.write_text("#!/bin/sh\necho words of the prover\nexit 1\n")
     done = Done(subprocess.run([root / "examples" / "try"], env=able, capture_output=True))
@@ -1891,12 +1853,14 @@ def test_import_places(folder):
 # ---- The rest
 
 def test_explain(folder):
+    """Each request with its answer in words. Where the answers cannot be those to the requests, a note goes before them."""
     done = call("explain", AFTERNOON / "events.bin", AFTERNOON / "expected.txt")
     lines = done.out.decode().splitlines()
-    check("explain: two lines an event", done.status == 0 and len(lines) == 44, done)
+    check("explain: two lines an event", done.status == 0 and done.err == "" and len(lines) == 44, done)
     check("explain: a resend", lines[3] == "         0 0 1060: granted by entry 0 until 1970-01-01 00:17:40 (1060)"
           " (asked again: the same answer as before)", lines[3])
-    for answers, fragment in ((b"20\n", "refused its book with 20: the file's length is wrong"), (b"", "no answer"),
+    doubt = ": are these the answers to these records?\n"
+    for answers, fragment in ((b"", "no answer"),
                               (b"0 0 1060\r\n", "granted by entry 0"), (NINES.encode(), "is not an answer"),
                               (b"0 0 99999999999\n", "is not an answer"), (b"1 2\n", "is not an answer"),
                               (b"0 0 " + NINES.encode(), "is not an answer"),
@@ -1906,8 +1870,18 @@ def test_explain(folder):
                               (b"30 255 0\n", "30 255 0: turned away: the list that was lent for the report does not fit the book"),
                               (b"99 255 0\n", "an unknown answer"), (b"0 0 1\n" * 23, "there is no event for this answer")):
         done = call("explain", AFTERNOON / "events.bin", "-", stdin=answers)
-        plain = done.status == 0 and done.err == ""
-        check(f"explain: answers {answers[:20]}", plain and fragment in done.out.decode(), done)
+        noted = done.status == 2 and done.err.endswith(doubt) and done.err.startswith("note: 22 requests and ")
+        check(f"explain: answers {answers[:20]}", noted and fragment in done.out.decode(), done)
+    done = call("explain", AFTERNOON / "events.bin", "-", stdin=b"20\n")
+    check("explain: a refused book", done.status == 0 and b"refused its book with 20: the file's length is wrong" in done.out, done)
+    told = (AFTERNOON / "expected.txt").read_text().splitlines()
+    for at, line in ((1, "0 0 1065"), (2, "0 0 1106"), (8, "15 255 0"), (7, "0 1 1041"), (9, "14 255 1"), (14, "14 255 0"),
+                     (15, "14 255 0")):
+        other = "\n".join(told[:at] + [line] + told[at + 1:])
+        done = call("explain", AFTERNOON / "events.bin", "-", stdin=other.encode())
+        check(f"explain: answer {at + 1} is another's", done.status == 2 and len(done.out.splitlines()) == 44
+              and done.err == f"note: 1 answer that cannot be the one to the request (the first: {at + 1}){doubt}", done)
+    test_explain_days()
     events = call("events", "-", "-", stdin=b"0.2 cancel 1005\n0.2 cancel 1006\nraw 00 0000000000000003 04 0001 00 000003e8").out
     (folder / "cancel.bin").write_bytes(events)
     done = call("explain", folder / "cancel.bin", "-", stdin=b"0 3 1000\n0 3 1000\n1 255 0\n")
@@ -1920,9 +1894,30 @@ answer as before)
     3  player 0, request 3: cancel, asset 1, kind 0, at 1970-01-01 00:16:40 (1000)
          1 255 0: turned away: not a valid begin, continue, stop or cancel
 """, done.out.decode())
-    for first, again in ((b"30", False), (b"5", False), (b"43", True), (b"44", True), (b"13", True)):
+    for first, again in ((b"30", False), (b"3", False), (b"43", True), (b"12", True), (b"13", True)):
         done = call("explain", AFTERNOON / "events.bin", "-", stdin=first + b" 255 0\n" + first + b" 255 0\n")
         check(f"explain: {first.decode()} and the same again", ("asked again" in done.out.decode()) == again, done)
+
+
+def test_explain_days():
+    """The answers to a day fit it, whatever the day and the book; those to another day of as many requests do not."""
+    fitting, others, told = [], [], []
+    for seed in range(400):
+        kind = random.Random(seed).choice((None, "crowd", "wide", "cabins", "rivals", "groups", "loading", "going on", "old"))
+        image, events, _ = days.make_day(seed, 60, kind)
+        if image is None or rights.read(image)[0] != 0:
+            continue
+        lines = rights.run(image, events).splitlines()
+        fitting.append((answers.mismatch(events, lines) is None, (seed, answers.mismatch(events, lines))))
+        many = len(rights.records_in(events))
+        told += [(seed, many, events, lines)]
+    for seed, many, events, _ in told:
+        other = next((lines for another, count, _, lines in told if another > seed and count == many), None)
+        if other:
+            others.append((answers.mismatch(events, other) is not None, seed))
+    check("explain: there are days, and pairs of days", len(fitting) > 300 and len(others) > 100, (len(fitting), len(others)))
+    check_all("explain: the answers to a day fit it", fitting)
+    check_all("explain: the answers to another day do not", others)
 
 
 def test_help(folder):
@@ -1989,12 +1984,11 @@ def main():
         name = part.__name__.removeprefix("test_")
         if len(sys.argv) > 2 and name not in sys.argv[2:]:
             continue
-        before, began = passed + failed, time.time()
+        before, began = checks.passed + checks.failed, time.time()
         with tempfile.TemporaryDirectory() as folder:
             part(Path(folder), *numbers)
-        print(f"  {name}: {passed + failed - before} in {time.time() - began:.0f} s", flush=True)
-    print(f"{passed} passed, {failed} failed")
-    sys.exit(1 if failed else 0)
+        print(f"  {name}: {checks.passed + checks.failed - before} in {time.time() - began:.0f} s", flush=True)
+    checks.finish()
 
 
 if __name__ == "__main__":

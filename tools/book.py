@@ -1,8 +1,9 @@
 #!/usr/bin/env python3
 """Makes and shows the files that the rights server reads. A helper, not proved.
 
-    tools/book.py left BOOK [--at TIME]           what is left of each entry, now or at a time, a line for each
+    tools/book.py left BOOK                       what is left of each entry, now or with --at TIME, a line for each
     tools/book.py why BOOK PLAYER ASSET KIND      why a begin would be granted or refused, now or with --at TIME
+    tools/book.py close BOOK EVENTS               the end of a day: its bill, the next book in BOOK's place, an archive
     tools/book.py after BOOK EVENTS NEXT          the book after these events, into NEXT; prints their answers
     tools/book.py report BOOK EVENTS [--csv]      what these events used: times, hours and seconds of each content
     tools/book.py diff BOOK BOOK                  what differs between two books; nothing if they are the same
@@ -14,24 +15,38 @@
     tools/book.py events EVENTS.TXT EVENTS        event records from their text
     tools/book.py widen OLD EVENTS                event records of 17 bytes from those of 13, as players sent them before order 4
 
-BOOK is a book image (rights.rbk), EVENTS a file of event records, ANSWERS what the server printed for them. A file
-named - is standard input or output. Nothing is written over an input or over a file of another kind, and a write that
-fails leaves the file that was there.
+BOOK is a book image (rights.rbk), or a file in which a server keeps image and lines together; EVENTS is a file of event records,
+ANSWERS what the server printed for them. A file named - is standard input or output.
 
-The server (target/bin/run) only reads its book. `after` gives the book as it is after a day, from the proved library,
-which it builds if it is missing (that needs rt and a C compiler). `left` and `why` go by this machine's clock; uses
-that have ended by then are counted as ended. A time before the book's time is judged at the book's time. `why` tells
-the answer that a begin would get and, for each entry that is suitable, what stands against it, both from that library.
+Nothing that was there is lost. A write that fails leaves the old file, and an input is never written over. A book replaces an empty file,
+or a book that nobody has used and that has no later time; it replaces no used book, no book of a later time, and no file of another kind.
+Event records never replace a file. With --over, `make`, `import`, `after`, `events` and `widen` replace whatever is there and keep it
+as NAME.old (NAME.old.2 and so on, where that is taken). A file that has the same bytes already stays as it is.
+
+The server (target/bin/run) only reads its book; tools/serve starts it and records its requests. `after` gives the book as it is after a
+day, from the proved library, which it builds if it is missing (that needs rt and a C compiler). `left` and `why` go by this machine's
+clock; uses that have ended by then are counted as ended. A time before the book's time is judged at the book's time. `why` tells
+the answer that a begin would get and, for each entry that is suitable, what stands against it, both from that library. With
+--after EVENTS, `left`, `why` and `show` tell of the book after these events, as of a day that is not over, and write nothing; several
+such files are given in turn, each with --after.
 
 `report` is the bill for royalties of a day: BOOK is the book in the morning. It has the uses of tracked entries that ended in the
 day, if metering is on in the book; one that is open at the end counts in the report of the day in which it ends. Its sums are those
-of the second program (oracle), not proved. `--csv` prints them with commas and no words: content,times,hours,seconds.
+of the proved library. `--csv` prints them with commas and no words: content,times,hours,seconds.
+
+`close` is the evening's command, once the server has ended: BOOK is the book in the morning, EVENTS the day's records. It makes the
+folder closed-DATE beside BOOK, DATE being that of the last request taken, with bill-DATE.txt and .csv, events-DATE.bin, answers-DATE.txt
+and the books before and after (book-DATE.rbk, next-DATE.rbk), puts the next book in BOOK's place, and removes EVENTS, which the folder
+has: all of it or nothing. Records that do not go on from BOOK are refused, with the reason; if BOOK is the right one all the same, give
+--sure. `after`, `report` and `close` say on standard error how many requests were granted, refused and turned away, by code, and how many
+were sent again; where most do not go on from the book, `after` and `report` ask whether it is the right one.
 
 `import` reads an XML rights object as issuers send it (docs/FORMAT.md), with that library too. A text that is not accepted
 writes nothing and is told with its line and column (in bytes), the code and why: `rights.xml: line 12, column 21: 41: the
 count "2000000" is not a number from 0 to 1,000,000`.
 
-Exit status: 0; 1 from `diff` if the books differ; 2 if something is wrong.
+Exit status: 0; 1 from `diff` if the books differ; 2 if something is wrong, or if the answers that `explain` is given cannot be those to
+the events.
 
 The text of a book, one thing a line; `#` starts a comment, commas and colons may be left out:
 
@@ -85,6 +100,7 @@ import os
 import re
 import sys
 
+from books.closing import close
 from books.imported import import_xml
 from books.library import after
 from books.records import events, explain, widen
@@ -95,10 +111,11 @@ from books.why import why
 from books.words import Trouble
 
 COMMANDS = {
-    "left": (left, "BOOK [--at TIME]"), "why": (why, "BOOK PLAYER ASSET KIND [--at TIME]"),
-    "after": (after, "BOOK EVENTS NEXT"), "report": (report, "BOOK EVENTS [--csv]"), "diff": (diff, "BOOK BOOK"), "show": (show, "BOOK"),
-    "explain": (explain, "EVENTS ANSWERS"), "import": (import_xml, "RIGHTS.XML BOOK"), "make": (make, "BOOK.TXT BOOK"),
-    "text": (text, "BOOK"), "events": (events, "EVENTS.TXT EVENTS"), "widen": (widen, "OLD EVENTS")}
+    "left": (left, "BOOK [--at TIME] [--after EVENTS]"), "why": (why, "BOOK PLAYER ASSET KIND [--at TIME] [--after EVENTS]"),
+    "after": (after, "BOOK EVENTS NEXT [--over]"), "report": (report, "BOOK EVENTS [--csv]"), "close": (close, "BOOK EVENTS [--sure]"),
+    "diff": (diff, "BOOK BOOK"), "show": (show, "BOOK [--after EVENTS]"), "explain": (explain, "EVENTS ANSWERS"),
+    "import": (import_xml, "RIGHTS.XML BOOK [--over]"), "make": (make, "BOOK.TXT BOOK [--over]"), "text": (text, "BOOK"),
+    "events": (events, "EVENTS.TXT EVENTS [--over]"), "widen": (widen, "OLD EVENTS [--over]")}
 
 
 def run(words):
@@ -111,15 +128,21 @@ def run(words):
         raise Trouble(f"`{name}` is not a command; the commands are: {', '.join(COMMANDS)} (and --help)")
     command, usage = COMMANDS[name]
     options = {}
-    if name in ("left", "why"):
-        words, options = take_time(words)
-    elif name == "report" and "--csv" in words:
-        words.remove("--csv")
-        options = {"csv": True}
+    while "[--after EVENTS]" in usage and "--after" in words[:-1]:
+        at = words.index("--after")
+        options.setdefault("after", []).append(words[at + 1])
+        words = words[:at] + words[at + 2:]
+    if "[--at TIME]" in usage:
+        words, time = take_time(words)
+        options.update(time)
+    for option in re.findall(r"\[--(\w+)\]", usage):
+        if f"--{option}" in words:
+            words.remove(f"--{option}")
+            options[option] = True
     wanted = usage.split(" [")[0].split()
     if len(words) != len(wanted) or any(word.startswith("--") for word in words):
         raise Trouble(f"usage: book.py {name} {usage} (see --help)")
-    return int(bool(command(*words, **options)))
+    return int(command(*words, **options) or 0)
 
 
 def take_time(words):

@@ -4,7 +4,7 @@
     tools/mutate.py [--jobs N] [--sample K] [--seed S] [--run] [--list] CRATE|FILE ...
 
 A CRATE stands for its code (bodies of the functions in src/*.rt), or, if it has none, for its definitions (right-hand sides in
-specs/*.antt, not in folders below it, and not those that are statements). A FILE is one of the two: crates/model/specs/Events.antt.
+specs/*.antt, not in folders below it, and not those that are statements). A FILE is one of the two: crates/model/specs/Gate.antt.
 Contracts, types, comments and proofs are never edited.
 
 The edits come from two tables of regular expressions, CODE and DEFINITIONS. --sample draws K of them for each name given, kinds of

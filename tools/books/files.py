@@ -1,15 +1,20 @@
 """Reading and writing files. A file named - is standard input or output.
 
-A file is written beside its target, synced and renamed, so that a write that fails leaves what was there. Nothing is
-written over an input of the same command, or over a file of another kind.
+A file is written beside its target, synced and renamed, so that a write that fails leaves what was there. What may be replaced is
+judged in kept.
 """
 
 import errno
+import fcntl
+import itertools
 import os
+import shutil
 import stat
 import sys
 import tempfile
+from contextlib import contextmanager
 
+from . import saved
 from .words import Trouble
 
 IMAGE_MOST = 8192           # more than any image has: a longer file is refused for its length anyway
@@ -17,7 +22,7 @@ IMAGE_MOST = 8192           # more than any image has: a longer file is refused 
 
 def reason(problem):
     known = {errno.ENOENT: "there is no such file", errno.EISDIR: "this is a folder, not a file",
-             errno.ENOTDIR: "there is no such folder", errno.ENOSPC: "the disk is full",
+             errno.ENOTDIR: "there is no such folder", errno.ENOSPC: "the disk is full", errno.EEXIST: "a file of that name is there",
              errno.EFBIG: "the file would be larger than allowed here", errno.EACCES: "no permission"}
     if not isinstance(problem, OSError):        # a NUL in the name
         return "this is not a file name"
@@ -40,12 +45,16 @@ def kind_of(data):
         return "empty"
     if data.startswith(b"RBK"):
         return "a book image"
+    if data.startswith(saved.MARK):
+        return "a saved book with its lines"
     controls = bytes(set(range(32)) - set(b"\t\n\r\f"))
     return "bytes" if any(byte in controls for byte in data) else "text"
 
 
 def read_image(path):
-    return read_bytes(path, IMAGE_MOST)
+    """The image in a file, or in the file that a server keeps image and lines in (docs/FORMAT.md)."""
+    data = read_bytes(path, IMAGE_MOST)
+    return saved.image_of(path, data) if data.startswith(saved.MARK) else data
 
 
 def read_text(path):
@@ -79,56 +88,114 @@ def keep_inputs(output, *inputs):
             raise Trouble(f"{output}: this is the file {path} itself, which would be lost; give another name for the output")
 
 
-def write_bytes(path, data, over):
-    """Writes the file; `over` lists the kinds of files that it may replace, besides an empty one."""
+def write_bytes(path, data, lost, over):
+    """Writes the file. `lost` tells from the first bytes of a file that is there what would be lost with it, or None. Such a file is
+    replaced only with `over`, which keeps it under another name; one that has these very bytes stays."""
     if path == "-":
         sys.stdout.buffer.write(data)
         return
     try:
-        there = what_is_there(path, over)
+        there = what_is_there(path)
         if there and not stat.S_ISREG(there.st_mode):      # a device or a pipe
             with open(path, "wb") as file:
                 file.write(data)
-        else:       # a link stays, and its target is written
-            write_beside(os.path.realpath(path), data, stat.S_IMODE(there.st_mode) if there else 0o666 & ~umask())
+            return
+        place = os.path.realpath(path)                      # a link stays, and its target is written
+        if there:
+            replace(path, place, there, data, lost, over)
+        else:
+            write_beside(place, data, 0o666 & ~umask(), new=True)
     except (OSError, ValueError) as problem:
         why = "there is no such folder" if isinstance(problem, FileNotFoundError) else reason(problem)
         kept = "; the file that was there is as it was" if os.path.lexists(path) else ""
         raise Trouble(f"{path}: not written: {why}{kept}") from None
 
 
-def what_is_there(path, over):
-    """The state of the existing file that may be replaced; None if there is none."""
+def replace(path, place, there, data, lost, over):
+    with open(place, "rb") as file:
+        first = file.read(max(IMAGE_MOST, len(data) + 1))
+    if first == data:
+        return
+    what = lost(first)
+    if what and not over:
+        raise Trouble(f"{path}: {what}; give another name, or --over, which keeps what is there as {os.path.basename(place)}.old")
+    old = keep_old(place) if over else None
+    try:
+        write_beside(place, data, stat.S_IMODE(there.st_mode))
+    except BaseException:
+        if old:
+            os.unlink(old)      # a second name, or a copy, of what is still there
+        raise
+    if old:
+        print(f"{path}: the file that was there is kept as {old}", file=sys.stderr)
+
+
+def keep_old(place):
+    """Gives a file a second name, NAME.old, or where that is taken NAME.old.2 and so on."""
+    old = free_name(f"{place}.old")
+    try:
+        os.link(place, old)
+    except FileExistsError:
+        raise
+    except OSError:                             # a file system without links
+        copy_new(place, old)
+    return old
+
+
+def free_name(name):
+    """The name, or where that is taken the name with .2 behind it, and so on."""
+    return next(each for each in itertools.chain([name], (f"{name}.{count}" for count in itertools.count(2))) if not os.path.lexists(each))
+
+
+def copy_new(source, target):
+    with open(source, "rb") as file, open(target, "xb") as copy:
+        try:
+            shutil.copyfileobj(file, copy)
+            copy.flush()
+            os.fsync(copy.fileno())
+        except BaseException:
+            os.unlink(target)
+            raise
+
+
+def what_is_there(path):
+    """The state of the file, or None if there is none."""
     if path.endswith(os.sep):
         raise Trouble(f"{path}: this names a folder, not a file")
     there = os.stat(path) if os.path.exists(path) else None
     if there and stat.S_ISDIR(there.st_mode):
         raise Trouble(f"{path}: this is a folder, not a file")
-    if there and stat.S_ISREG(there.st_mode):
-        with open(path, "rb") as file:
-            kind = kind_of(file.read(IMAGE_MOST))
-        if kind not in ("empty", *over):
-            kind = "a file of another kind" if kind == "bytes" else kind
-            raise Trouble(f"{path}: {kind} is there already, which is not replaced by {over[0]};"
-                          " give another name for the output, or remove it first")
     return there
 
 
-def write_beside(place, data, mode):
-    """Writes a new file in the same folder, syncs it, and renames it."""
+def write_beside(place, data, mode, new=False):
+    """Writes a new file in the same folder, syncs it, and gives it its name."""
     folder, name = os.path.split(place)
-    handle, beside = tempfile.mkstemp(prefix=f".{name[:100]}.", dir=folder)
+    handle, beside = tempfile.mkstemp(prefix=f".{name[:100]}.", dir=folder or ".")
     try:
         with open(handle, "wb") as file:
             file.write(data)
             file.flush()
             os.fchmod(handle, mode)
             os.fsync(handle)
-        os.replace(beside, place)
+        if not (new and linked(beside, place)):
+            os.replace(beside, place)
     except BaseException:
         os.unlink(beside)
         raise
-    sync_folder(folder)
+    sync_folder(folder or ".")
+
+
+def linked(beside, place):
+    """Gives the file its name unless another file has come to that name; False where the file system has no links."""
+    try:
+        os.link(beside, place)
+    except FileExistsError:
+        raise
+    except OSError:
+        return False
+    os.unlink(beside)
+    return True
 
 
 def umask():
@@ -147,5 +214,24 @@ def sync_folder(folder):
         os.fsync(handle)
     except OSError:
         pass
+    finally:
+        os.close(handle)
+
+
+@contextmanager
+def alone_in(folder):
+    """Keeps other servers, and `close`, out of a folder. The system gives it up when this process ends, however it ends."""
+    try:
+        handle = os.open(folder, os.O_RDONLY | os.O_DIRECTORY)
+    except OSError as problem:
+        raise Trouble(f"{folder}: {'there is no such folder' if problem.errno == errno.ENOENT else reason(problem)}") from None
+    try:
+        try:
+            fcntl.flock(handle, fcntl.LOCK_EX | fcntl.LOCK_NB)
+        except BlockingIOError:
+            raise Trouble(f"{folder}: a server is running in this folder, or a day is being closed there; end that first") from None
+        except OSError:
+            print(f"note: {folder} cannot be locked on this file system; take care that no second server is started in it", file=sys.stderr)
+        yield
     finally:
         os.close(handle)

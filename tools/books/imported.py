@@ -7,7 +7,8 @@ program's, where it refuses with the same code.
 import rights
 import xml_rights
 
-from .files import keep_inputs, kind_of, read_bytes, write_bytes
+from .files import keep_inputs, kind_of, read_bytes
+from .kept import write_book
 from .library import read_xml
 from .state import asset_words, limit_words, never_words, of_no_use, zeros
 from .words import Trouble, kind_name
@@ -22,7 +23,7 @@ MEANINGS = {
 }
 
 
-def import_xml(path, following):
+def import_xml(path, following, over=False):
     if following == "-":
         raise Trouble("the book needs the name of a file: standard output is for what it has")
     keep_inputs(following, path)
@@ -33,7 +34,7 @@ def import_xml(path, following):
     told = xml_rights.judge(text)
     if code != 0:
         raise Trouble(refusal(path, text, code, told))
-    write_bytes(following, image, ["a book image"])
+    write_book(following, image, over)
     for line in made_lines(rights.read(image)[1], elements, told.object):
         print(line)
 

@@ -7,17 +7,19 @@ than their sources; the messages of the prover and the compiler go into target/t
 
 import os
 import shutil
-import stat
 import subprocess
 import sys
 import tempfile
+from dataclasses import dataclass
 from pathlib import Path
 
 import rights
 
 from . import ROOT
-from .files import keep_inputs, read_image, reason, write_bytes
-from .records import check_records
+from .answers import Tally
+from .files import keep_inputs, read_image, reason
+from .kept import write_book
+from .records import read_records
 from .texts import REFUSED, refusal
 from .words import Trouble
 
@@ -27,69 +29,96 @@ MADE = ROOT / "target" / "tools"
 LOG = MADE / "after.log"
 
 
-def after(book, events, following):
+@dataclass
+class Day:
+    """Records on a book, and what the library made of them."""
+    before: bytes           # the image of the book
+    records: bytes
+    answers: bytes          # a line for each record
+    image: bytes            # of the book after them
+    lines: list             # of the report, begun with zeros
+
+    def books(self):
+        """Before and after."""
+        return rights.read(self.before)[1], rights.read(self.image)[1]
+
+    def tally(self):
+        return Tally(self.books()[0], self.records, self.answers)
+
+
+def played(path, image, records):
+    """By the library: these records answered from the book in this image, whose file is named in a refusal."""
+    build("after")
+    try:
+        with tempfile.TemporaryDirectory(ignore_cleanup_errors=True) as folder:
+            return played_in(Path(folder), path, image, records)
+    except OSError as problem:
+        raise Trouble(f"{problem.filename or 'a file for the answers'}: {reason(problem)}") from None
+
+
+def played_in(work, path, image, records):
+    (work / "book").write_bytes(image)
+    with open(work / "answers", "wb") as answers:
+        done = subprocess.run([MADE / "after", work / "book", work / "next", work / "report"], input=records, stdout=answers,
+                              stderr=subprocess.PIPE)
+    if done.returncode in REFUSED:
+        raise Trouble(refusal(path, image, done.returncode))
+    succeeded(done)
+    lines = [rights.Line(*map(int, line.split())) for line in (work / "report").read_text().splitlines()]
+    return Day(image, records, (work / "answers").read_bytes(), (work / "next").read_bytes(), lines)
+
+
+def succeeded(done):
+    if done.returncode != 0:
+        said = done.stderr.decode(errors="replace").strip()
+        raise Trouble(said or f"{done.args[0]} ended with status {done.returncode}")
+
+
+def after(book, events, following, over=False):
     if following == "-":
         raise Trouble("the next book needs the name of a file: standard output is for the answers")
     if book == events == "-":
         raise Trouble("only one of the two files can be standard input")
     keep_inputs(following, book, events)
-    with open_records(events) as stream, tempfile.TemporaryDirectory() as folder:
-        build("after")
-        image, work = read_image(book), Path(folder)
-        done = answer(image, stream, work)
-        if done.returncode in REFUSED:
-            raise Trouble(refusal(book, image, done.returncode))
-        if done.returncode != 0:
-            said = done.stderr.decode(errors="replace").strip()
-            raise Trouble(f"{events}: {said or f'{MADE}/after ended with status {done.returncode}'}")
-        write_bytes(following, (work / "next").read_bytes(), ["a book image"])
-        with open(work / "answers", "rb") as answers:       # answers go out only once the book is saved
-            shutil.copyfileobj(answers, sys.stdout.buffer)
+    records = read_records(events)
+    day = played(book, read_image(book), records)
+    write_book(following, day.image, over)
+    sys.stdout.buffer.write(day.answers)        # only once the book is saved
+    say_tally(events, day)
 
 
-def answer(image, stream, work):
-    """Runs the program `after`, with its files in the folder `work`."""
-    try:
-        (work / "book").write_bytes(image)
-        with open(work / "answers", "wb") as answers:
-            return subprocess.run([MADE / "after", work / "book", work / "next", work / "report"], stdin=stream, stdout=answers,
-                                  stderr=subprocess.PIPE)
-    except OSError as problem:
-        raise Trouble(f"{problem.filename or work}: {reason(problem)}") from None
+def image_after(path, events):
+    """The image in a file; with files of events the image after these, in turn."""
+    if [path, *events].count("-") > 1:
+        raise Trouble("only one of the files can be standard input")
+    image = read_image(path)
+    for each in events:
+        day = played(path, image, read_records(each))
+        say_tally(each, day)
+        image = day.image
+    return image
+
+
+def say_tally(events, day):
+    """On standard error: how the requests were answered, and a question where most of them do not go on from the book."""
+    sys.stdout.flush()
+    tally = day.tally()
+    print(f"{events}: {tally.words()}", file=sys.stderr)
+    if tally.doubt():
+        print(tally.doubt(), file=sys.stderr)
 
 
 def judged(image, record, player, t):
     """By the library: the answer to one record (code, entry, until), and for each entry of the book which grounds stand
     against it for that player at t, in the order of rights.h. The image must be one that the server accepts."""
-    with tempfile.TemporaryDirectory() as folder, tempfile.TemporaryFile() as stream:
-        build("after", "why")
-        work = Path(folder)
-        stream.write(record)
-        stream.seek(0)
-        done = answer(image, stream, work)
-        listed = subprocess.run([MADE / "why", work / "book", str(player), str(t)], capture_output=True)
-        for ended in (done, listed):
-            if ended.returncode != 0:
-                said = ended.stderr.decode(errors="replace").strip()
-                raise Trouble(said or f"{ended.args[0]} ended with status {ended.returncode}")
-        told = tuple(map(int, (work / "answers").read_text().split()))
-        return told, [[word == "1" for word in line.split()] for line in listed.stdout.decode().splitlines()]
-
-
-def reported(image, records):
-    """By the library: the lines of the report after these records, handed on from zeros, and the book after them. The image must be one
-    that is accepted."""
-    with tempfile.TemporaryDirectory() as folder, tempfile.TemporaryFile() as stream:
-        build("after")
-        work = Path(folder)
-        stream.write(records)
-        stream.seek(0)
-        done = answer(image, stream, work)
-        if done.returncode != 0:
-            said = done.stderr.decode(errors="replace").strip()
-            raise Trouble(said or f"{MADE}/after ended with status {done.returncode}")
-        lines = [rights.Line(*map(int, line.split())) for line in (work / "report").read_text().splitlines()]
-        return lines, rights.read((work / "next").read_bytes())[1]
+    day = played("", image, record)
+    with tempfile.NamedTemporaryFile() as book:
+        build("why")
+        book.write(image)
+        book.flush()
+        listed = subprocess.run([MADE / "why", book.name, str(player), str(t)], capture_output=True)
+    succeeded(listed)
+    return tuple(map(int, day.answers.split())), [[word == "1" for word in line.split()] for line in listed.stdout.decode().splitlines()]
 
 
 def read_xml(text):
@@ -98,24 +127,10 @@ def read_xml(text):
     done = subprocess.run([MADE / "read_texts"], input=len(text).to_bytes(4, "big") + text, capture_output=True)
     head, image = done.stdout[:12], done.stdout[12:]
     code, elements, length = (int.from_bytes(head[at:at + 4], "big") for at in (0, 4, 8))
-    if done.returncode != 0 or len(head) != 12 or len(image) != length:
-        said = done.stderr.decode(errors="replace").strip()
-        raise Trouble(said or f"{MADE}/read_texts ended with status {done.returncode}")
+    succeeded(done)
+    if len(head) != 12 or len(image) != length:
+        raise Trouble(f"{MADE}/read_texts gave no whole result")
     return code, elements, image
-
-
-def open_records(path):
-    """The file of events, opened; one that is plainly not a file of records is refused."""
-    if path == "-":
-        return open(sys.stdin.fileno(), "rb", buffering=0, closefd=False)
-    try:
-        stream = open(path, "rb", buffering=0)
-    except (OSError, ValueError) as problem:
-        raise Trouble(f"{path}: {reason(problem)}") from None
-    there = os.fstat(stream.fileno())
-    if stat.S_ISREG(there.st_mode):
-        check_records(path, os.pread(stream.fileno(), 4096, 0), there.st_size)
-    return stream
 
 
 # ---- Building

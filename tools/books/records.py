@@ -8,7 +8,9 @@ from itertools import zip_longest
 import rights
 from rights import Event
 
-from .files import keep_inputs, read_bytes, read_text, write_bytes
+from .answers import mismatch, parsed
+from .files import keep_inputs, read_bytes, read_text
+from .kept import write_records
 from .texts import REFUSED
 from .words import KINDS, OPERATIONS, TOP, Mistake, Trouble, kind_name, lines_of, number, number_text, request_number, short, when
 
@@ -75,38 +77,40 @@ class EventText:
         self.records.append(record)
 
 
-def events(text, records):
+def events(text, records, over=False):
     keep_inputs(records, text)
     maker = EventText()
     lines_of(text, read_text(text), maker.line)
-    write_bytes(records, b"".join(maker.records), ["event records", "bytes"])
+    write_records(records, b"".join(maker.records), over)
 
 
-def widen(short_records, records):
+def widen(short_records, records, over=False):
     """The same events with boot number 0 before their counters."""
     keep_inputs(records, short_records)
     data = read_bytes(short_records)
     refuse_others(short_records, data)
-    over = len(data) % SHORT
-    if over:
+    rest = len(data) % SHORT
+    if rest:
         why = (f"but of {SIZE}: nothing to do" if len(data) % SIZE == 0 else
-               f"{over} are over; a last record that was cut short changes nothing and can be left out")
+               f"{rest} are over; a last record that was cut short changes nothing and can be left out")
         raise Trouble(f"{short_records}: its {len(data)} bytes are no whole number of records of {SHORT} bytes, {why}")
     each = (data[at:at + SHORT] for at in range(0, len(data), SHORT))
-    write_bytes(records, b"".join(record[:1] + bytes(SIZE - SHORT) + record[1:] for record in each), ["event records", "bytes"])
+    write_records(records, b"".join(record[:1] + bytes(SIZE - SHORT) + record[1:] for record in each), over)
 
 
-def check_records(path, data, length):
-    """Refuses what is plainly not a file of event records, by its first bytes. Any other bytes are records, and are answered; a
-    note says so if they look like the shorter ones."""
+def read_records(path):
+    """The bytes of a file of event records. What is plainly none, by its first bytes, is refused. Any other bytes are records, and are
+    answered; a note says so if they look like the shorter ones."""
+    data = read_bytes(path)
     refuse_others(path, data)
-    if length % SHORT == 0 and length % SIZE:
-        print(f"note: {path} has {length} bytes, a whole number of records of {SHORT} bytes, as before order 4, and not of {SIZE};"
+    if len(data) % SHORT == 0 and len(data) % SIZE:
+        print(f"note: {path} has {len(data)} bytes, a whole number of records of {SHORT} bytes, as before order 4, and not of {SIZE};"
               " `book.py widen` makes the longer ones", file=sys.stderr)
+    return data
 
 
 def refuse_others(path, data):
-    kind = "a book image" if data.startswith(b"RBK\0") else "a text" if TEXT.search(data[:4096]) else None
+    kind = "a book image" if data.startswith((b"RBK\0", b"RBS\0")) else "a text" if TEXT.search(data[:4096]) else None
     if kind:
         raise Trouble(f"{path}: this is {kind}, not a file of event records (`book.py events` makes one from its text)")
 
@@ -116,17 +120,20 @@ def refuse_others(path, data):
 def explain(records, answers):
     if records == answers == "-":
         raise Trouble("only one of the two files can be standard input")
-    data = read_bytes(records)
-    check_records(records, data, len(data))
+    data = read_records(records)
     told = read_text(answers).splitlines()
     if len(told) == 1 and re.fullmatch("2[0-7]", told[0].strip()):
         code = int(told[0])
         print(f"The server refused its book with {code}: {REFUSED[code]}. No event was answered.")
-        return
+        return 0
+    doubt = mismatch(data, told)
+    if doubt:
+        print(f"note: {doubt}: are these the answers to these records?", file=sys.stderr, flush=True)
     latest = {}
     for place, (record, line) in enumerate(zip_longest(rights.records_in(data), told), 1):
         print(f"{place:>5}  {record_words(record or b'')}")
         print(f"         {line_words(line and line.strip(), record or b'', latest)}")
+    return 2 if doubt else 0
 
 
 def record_words(record):
@@ -165,10 +172,10 @@ def answer_words(operation, kind, code, entry, until):
 def line_words(line, record, latest):
     if line is None:
         return "no answer"
-    found = re.fullmatch("([0-9]{1,3}) ([0-9]{1,3}) ([0-9]{1,10})", line)
-    if not found or int(found[3]) > TOP:
+    answer = parsed(line)
+    if answer is None:
         return f"`{short(line)}` is not an answer (code, entry, until)"
-    code, entry, until = map(int, found.groups())
+    code, entry, until = answer
     if len(record) != SIZE:
         return f"{line}: {MEANINGS.get(code, 'an unknown answer')}"
     event = event_of(record)

@@ -1,11 +1,8 @@
 """The usage of each content over a day (`report`), as a bill for whoever is owed royalties."""
 
-import rights
-
-from .files import read_bytes, read_image
-from .library import reported
-from .records import check_records
-from .texts import refusal
+from .files import read_image
+from .library import played, say_tally
+from .records import read_records
 from .words import Trouble, when
 
 
@@ -13,19 +10,16 @@ def report(path, events, csv=False):
     if path == events == "-":
         raise Trouble("only one of the two files can be standard input")
     image = read_image(path)
-    code, book = rights.read(image)
-    if code != 0:
-        raise Trouble(refusal(path, image, code))
-    records = read_bytes(events)
-    check_records(events, records, len(records))
-    lines, after = reported(image, records)
-    for line in csv_lines(book, lines) if csv else bill(book, after, lines):
+    day = played(path, image, read_records(events))
+    for line in csv_lines(day) if csv else bill(day):
         print(line)
+    say_tally(events, day)
 
 
-def contents(book, lines):
+def contents(day):
     """The lines of the report that an issuer asks about: those of assets with a key, and others that have something."""
-    return [line for line in lines if line.times or line.seconds or book.asset(line.content).key]
+    book, _ = day.books()
+    return [line for line in day.lines if line.times or line.seconds or book.asset(line.content).key]
 
 
 def clock(seconds):
@@ -33,17 +27,18 @@ def clock(seconds):
     return f"{seconds // 3600}:{seconds // 60 % 60:02}:{seconds % 60:02}"
 
 
-def csv_lines(book, lines):
+def csv_lines(day):
     yield "content,times,hours,seconds"
-    for line in contents(book, lines):
+    for line in contents(day):
         yield f"{line.content},{line.times},{clock(line.seconds)},{line.seconds}"
 
 
-def bill(book, after, lines):
+def bill(day):
+    book, after = day.books()
     yield f"Usage from {when(book.time)} to {when(after.time)}, UTC"
     yield ""
     yield row("content", "times", "hours", "seconds")
-    listed = contents(book, lines)
+    listed = contents(day)
     for line in listed:
         yield row(line.content, line.times, clock(line.seconds), line.seconds)
     times, seconds = sum(line.times for line in listed), sum(line.seconds for line in listed)

@@ -5,8 +5,9 @@ import time
 
 import rights
 
+from .library import image_after
 from .records import answer_words, request_words
-from .texts import FLAGS, asset_text, entry_text, latest_text, load
+from .texts import FLAGS, accepted, asset_text, entry_text, latest_text, load
 from .words import Mistake, Trouble, Words, date, kind_name, number_text, span, when
 
 FULL = "as many players have it open as may"
@@ -170,8 +171,8 @@ def asset_words(book, asset):
 
 # ---- show
 
-def show(image):
-    book = load(image)
+def show(image, after=()):
+    book = accepted(image, image_after(image, after))
     print(f"The book's time: {when(book.time)}, UTC")
     print(f"Metering: {'on' if book.switch else 'off'}\n")
     print(f"Assets: {len(book.assets)}")
@@ -202,9 +203,9 @@ def player_lines(index, player):
 
 # ---- left
 
-def left(image, at=None):
+def left(image, at=None, after=()):
     asked = int(time.time()) if at is None else told_time(at)
-    book = load(image)
+    book = accepted(image, image_after(image, after))
     t = max(asked, book.time)
     clock = "this machine's clock" if at is None else "as asked"
     print(f"At {when(t)}, UTC, " + (clock if t == asked else

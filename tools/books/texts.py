@@ -3,7 +3,8 @@
 import rights
 from rights import Asset, Book, Entry, Player
 
-from .files import keep_inputs, kind_of, read_image, read_text, write_bytes
+from .files import keep_inputs, kind_of, read_image, read_text
+from .kept import write_book
 from .words import (KINDS, OPERATIONS, TOP, Mistake, Trouble, at_line, is_number, kind_name, lines_of, number_text, request_number, short,
                     time_text)
 
@@ -291,19 +292,23 @@ def book_of_text(path):
     return book
 
 
-def make(path, image):
+def make(path, image, over=False):
     keep_inputs(image, path)
     data = rights.write(book_of_text(path))
     code, _ = rights.read(data)
     if code != 0:
         raise Trouble(f"{path}: the server would refuse this book with {code}: {REFUSED[code]}")
-    write_bytes(image, data, ["a book image"])
+    write_book(image, data, over)
 
 
 # ---- To text
 
 def load(path):
-    data = read_image(path)
+    return accepted(path, read_image(path))
+
+
+def accepted(path, data):
+    """The book in this image, which is that of this file."""
     code, book = rights.read(data)
     if code != 0:
         raise Trouble(refusal(path, data, code))

@@ -5,21 +5,18 @@ import time
 import rights
 from rights import Event
 
-from .files import read_image
-from .library import judged
+from .library import image_after, judged
 from .records import answer_words
 from .state import cancel_words, group_words, settled, stop_words, told_time
-from .texts import refusal
+from .texts import accepted
 from .words import KINDS, Mistake, Trouble, Words, date, kind_name, number, number_text, when
 
 
-def why(path, player, asset, kind, at=None):
+def why(path, player, asset, kind, at=None, after=()):
     asked = int(time.time()) if at is None else told_time(at)
     player, asset, kind = told_request(player, asset, kind)
-    image = read_image(path)
-    code, book = rights.read(image)
-    if code != 0:
-        raise Trouble(refusal(path, image, code))
+    image = image_after(path, after)
+    book = accepted(path, image)
     t = max(asked, book.time)
     clock = "this machine's clock" if at is None else "as asked"
     late = "" if t == asked else f", the book's time (at {when(asked)}, {clock}, it would be turned away with 5)"
