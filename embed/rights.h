@@ -4,9 +4,10 @@
  * lends them for the length of a call, and saves them when it likes. The calls that answer put the next image in place of the
  * one before. It may be longer, if that was written by an older server, so the buffer's room is passed apart from the image's length.
  * They are lent the list of lines of the usage report too, which the caller keeps, hands on from call to call, and bills from.
+ * Image and lines are saved together, in one file: embed/example.c does it.
  * What the functions return and leave in the buffers is proved for every input; this header is not checked against that
- * proof, so it changes only with crates/embed/src/lib.rt. docs/EMBEDDING.md shows how to use it, docs/FORMAT.md has the
- * bytes of records and images.
+ * proof, so its declarations change only with crates/embed/src/lib.rt. docs/EMBEDDING.md shows how to use it, docs/FORMAT.md has the
+ * bytes of records, images and saved files.
  *
  * What the caller must ensure in every call:
  *  - each pointer points to as many elements as the room or length passed after it says (one if there is none),
@@ -14,9 +15,15 @@
  *  - the buffers of one call do not overlap, and nothing else reads or writes them until it returns;
  *  - the stack has RIGHTS_STACK bytes left, for rights_from_xml RIGHTS_XML_STACK.
  * Calls on different buffers may run at the same time. The functions allocate nothing and call nothing but memcpy,
- * memmove and memset. */
+ * memmove and memset.
+ *
+ * The header needs C99 or later, or C++11 or later, and no other header before it. */
 #ifndef RIGHTS_H
 #define RIGHTS_H
+
+#if !defined __cplusplus && (!defined __STDC_VERSION__ || __STDC_VERSION__ < 199901L)
+#error "rights.h needs C99 or later"
+#endif
 
 #include <stddef.h>
 #include <stdint.h>
@@ -102,11 +109,18 @@ enum {
     RIGHTS_RECORD_TIME = 13      /* 4 bytes */
 };
 
+/* A cast for the macros below, in the form that the language wants: C++ compilers can warn of the other one. */
+#ifdef __cplusplus
+#define RIGHTS_CAST(type, value) static_cast<type>(value)
+#else
+#define RIGHTS_CAST(type, value) ((type)(value))
+#endif
+
 /* The number of an event: the boot number in its upper 32 bits, 0 for a player that has none, and the counter in its lower ones. */
-#define RIGHTS_NUMBER(boot, counter) ((uint64_t)(boot) << 32 | (uint32_t)(counter))
+#define RIGHTS_NUMBER(boot, counter) (RIGHTS_CAST(uint64_t, boot) << 32 | RIGHTS_CAST(uint32_t, counter))
 
 /* The bytes that out needs for that many bytes of records. A last record that is cut short counts as one. */
-#define RIGHTS_ROOM(records_length) (((size_t)(records_length) + RIGHTS_RECORD - 1) / RIGHTS_RECORD * RIGHTS_LINE)
+#define RIGHTS_ROOM(records_length) ((RIGHTS_CAST(size_t, records_length) + RIGHTS_RECORD - 1) / RIGHTS_RECORD * RIGHTS_LINE)
 
 /* A line of the usage report: how often and for how many seconds a content, the number of an asset, was used.
  *
@@ -239,8 +253,9 @@ uint8_t rights_entry(const uint8_t *image, size_t image_length, uint32_t positio
 
 /* What is left of the entry at a position, as an event at that time would find it: uses that are over by then have
  * ended, and any timed count that this gives back is back. A time before the book's counts as the book's, so 0 asks for
- * what is left in the image as it is. Grantable is 1 if the entry's own limits, its threshold and the book's switch allow a grant at that
- * time; whether an asset can use the entry is not judged. */
+ * what is left in the image as it is. A time after 4,000,000,000 is judged like any other, though an event then gets 5. Grantable is 1 if
+ * the entry's own limits, its threshold and the book's switch allow a grant at that time; whether an asset can use the entry is not
+ * judged. */
 enum {
     RIGHTS_LEFT_GRANTABLE,
     RIGHTS_LEFT_COUNT,
@@ -257,8 +272,10 @@ uint8_t rights_left(const uint8_t *image, size_t image_length, uint32_t position
 
 /* What stands against granting the entry at a position to a player, as a begin at that time would find it (see rights_left for
  * the time): 1 for each ground that stands, otherwise 0. The entry is grantable if all are 0. Whether it is suitable, and
- * whether the player may begin at all, is not judged. A count, a timed count or an accumulated of 0 is spent from the start; an
- * interval of 0 has a ground of its own, and is over too if it has started. */
+ * whether the player may begin at all, is not judged: any player number is taken, and a time after 4,000,000,000 too, though an
+ * event of player 16 or more gets 2, and one at such a time 5. No ground reads the player today, so all players get the same; pass the
+ * one that asks, as a later ground may read it. A count, a timed count or an accumulated of 0 is spent from the start; an interval of 0
+ * has a ground of its own, and is over too if it has started. */
 enum {
     RIGHTS_GROUNDS_COUNT_SPENT,
     RIGHTS_GROUNDS_TIMED_SPENT,

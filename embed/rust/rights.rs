@@ -5,8 +5,17 @@
 //! The declarations below are not checked against that proof, so they change only with `crates/embed/src/lib.rt`.
 //!
 //! A call needs at most `STACK` bytes of stack, `from_xml` and `fresh_book` at most `XML_STACK`. `docs/FORMAT.md` has the bytes of
-//! records and images, and the form of XML rights objects.
+//! records, images and saved files, and the form of XML rights objects.
+//!
+//! `save` and `load` keep image and lines together in one file. They are no part of the library, and nothing is proved of them.
+//!
+//! Needs Rust 1.82 or later (`unsafe extern`), in edition 2021 or 2024.
 #![allow(dead_code)] // a server need not use all of this
+
+use std::ffi::OsString;
+use std::fs::{self, File};
+use std::io::{self, ErrorKind, Write};
+use std::path::Path;
 
 /// Bytes of an event record.
 pub const RECORD: usize = 17;
@@ -182,7 +191,7 @@ mod library {
 
     // A slice is passed as its pointer and its length.
     #[link(name = "embed", kind = "static")]
-    extern "C" {
+    unsafe extern "C" {
         pub fn rights_check(image: *const u8, image_length: usize) -> u8;
         pub fn rights_answer(
             image: *mut u8,
@@ -461,7 +470,8 @@ pub fn entry(image: &[u8], position: u32) -> Result<Entry, Refused> {
 }
 
 /// What is left of the entry at a position, as an event at that time would find it. A time before the book's counts as
-/// the book's, so 0 asks for what is left in the image as it is.
+/// the book's, so 0 asks for what is left in the image as it is. A time after 4,000,000,000 is judged like any other, though an event
+/// then gets 5.
 pub fn left(image: &[u8], position: u32, time: u32) -> Result<Left, Refused> {
     let mut out = [0; 4];
     let code = unsafe { library::rights_left(image.as_ptr(), image.len(), position, time, out.as_mut_ptr(), out.len()) };
@@ -470,7 +480,9 @@ pub fn left(image: &[u8], position: u32, time: u32) -> Result<Left, Refused> {
 }
 
 /// What stands against granting the entry at a position to a player, as a begin at that time would find it; for the time see
-/// `left`. Whether the entry is suitable, and whether the player may begin at all, is not judged.
+/// `left`. Whether the entry is suitable, and whether the player may begin at all, is not judged: any player number is taken, and a time
+/// after 4,000,000,000 too, though an event of player 16 or more gets 2, and one at such a time 5. No ground reads the player today, so
+/// all players get the same; pass the one that asks, as a later ground may read it.
 pub fn grounds(image: &[u8], position: u32, player: u8, time: u32) -> Result<Grounds, Refused> {
     let mut out = [0; 9];
     let code = unsafe {
@@ -510,4 +522,162 @@ pub fn player(image: &[u8], player: u32) -> Result<Player, Refused> {
         open_until,
         content,
     })
+}
+
+// ---- A saved file: image and lines together, with a check sum (docs/FORMAT.md)
+
+/// The first bytes of a saved file.
+const MARK: &[u8] = b"RBS";
+/// The version that is written and read.
+const VERSION: u16 = 1;
+/// Bytes before the image, of a line, and of the sum.
+const HEAD: usize = 13;
+const SAVED_LINE: usize = 24;
+const SUM: usize = 4;
+
+/// What is wrong with bytes that should be a saved file. They are judged in this order.
+#[derive(Clone, Copy, Debug, PartialEq, Eq)]
+pub enum Damaged {
+    /// They do not begin with `RBS`: it is no saved file, or its first bytes are damaged.
+    Mark,
+    /// The version is not 1.
+    Version,
+    /// They are cut short, more than the head tells, or the head tells of more than `LONGEST_IMAGE` bytes or `LINES` lines.
+    Length,
+    /// The check sum is not that of the bytes before it.
+    Sum,
+}
+
+impl std::fmt::Display for Damaged {
+    fn fmt(&self, f: &mut std::fmt::Formatter) -> std::fmt::Result {
+        f.write_str(match self {
+            Damaged::Mark => "this is no saved file",
+            Damaged::Version => "the saved file is damaged, or of a later version than 1",
+            Damaged::Length => "the saved file is damaged: its length is not the one that it tells",
+            Damaged::Sum => "the saved file is damaged: its check sum is wrong",
+        })
+    }
+}
+
+impl std::error::Error for Damaged {}
+
+/// CRC-32, the one of Ethernet and zlib.
+fn sum_of(bytes: &[u8]) -> u32 {
+    let shifted = |sum: u32| sum >> 1 ^ if sum & 1 == 1 { 0xedb8_8320 } else { 0 };
+    !bytes.iter().fold(u32::MAX, |sum, &byte| (0..8).fold(sum ^ byte as u32, |sum, _| shifted(sum)))
+}
+
+/// The number in these bytes, at most eight.
+fn number_in(bytes: &[u8]) -> u64 {
+    bytes.iter().fold(0, |number, &byte| number << 8 | byte as u64)
+}
+
+/// The bytes of a saved file. `restored` refuses them if the image has more than `LONGEST_IMAGE` bytes or there are more than `LINES`
+/// lines, which no call of the library leaves.
+pub fn saved(image: &[u8], lines: &[Line]) -> Vec<u8> {
+    let mut bytes = MARK.to_vec();
+    bytes.extend(VERSION.to_be_bytes());
+    bytes.extend((image.len() as u32).to_be_bytes());
+    bytes.extend((lines.len() as u32).to_be_bytes());
+    bytes.extend(image);
+    for line in lines {
+        for number in [line.content, line.times, line.seconds] {
+            bytes.extend(number.to_be_bytes());
+        }
+    }
+    bytes.extend(sum_of(&bytes).to_be_bytes());
+    bytes
+}
+
+/// The image and the lines in the bytes of a saved file. Whether the book is legal, and the lines fit it, is for the library to judge:
+/// `load` asks it.
+pub fn restored(bytes: &[u8]) -> Result<(Vec<u8>, Vec<Line>), Damaged> {
+    if !bytes.starts_with(MARK) {
+        return Err(Damaged::Mark);
+    }
+    if bytes.len() < HEAD + SUM {
+        return Err(Damaged::Length);
+    }
+    if number_in(&bytes[3..5]) != VERSION as u64 {
+        return Err(Damaged::Version);
+    }
+    let (image, count) = (number_in(&bytes[5..9]) as usize, number_in(&bytes[9..HEAD]) as usize);
+    // each is judged before they are added, so no sum of them wraps
+    if image > LONGEST_IMAGE || count > LINES || bytes.len() != HEAD + image + SAVED_LINE * count + SUM {
+        return Err(Damaged::Length);
+    }
+    let (bytes, sum) = bytes.split_at(bytes.len() - SUM);
+    if number_in(sum) != sum_of(bytes) as u64 {
+        return Err(Damaged::Sum);
+    }
+    let (image, lines) = bytes[HEAD..].split_at(image);
+    let line = |from: &[u8]| Line {
+        content: number_in(&from[..8]),
+        times: number_in(&from[8..16]),
+        seconds: number_in(&from[16..]),
+    };
+    Ok((image.to_vec(), lines.chunks(SAVED_LINE).map(line).collect()))
+}
+
+/// Writes image and lines to a saved file, so that a kill or a power cut at any moment leaves the old file or the new one, whole: the
+/// bytes go to a file beside, are synced, the file is renamed, and the folder is synced. Call it before the answers leave the server, and
+/// send none if it fails.
+///
+/// Nothing but a saved file or an empty file is replaced: if something else is there, the error is `AlreadyExists`, and it stays. The file
+/// beside is `.NAME.saving`, a name that nobody gives a file of theirs; one that is there is what a killed server left, and is removed.
+/// Two servers must not save under one name.
+pub fn save(path: impl AsRef<Path>, image: &[u8], lines: &[Line]) -> io::Result<()> {
+    let path = path.as_ref();
+    let bytes = saved(image, lines);
+    restored(&bytes).map_err(|why| io::Error::new(ErrorKind::InvalidInput, why))?;
+    let name = path.file_name().ok_or_else(|| io::Error::new(ErrorKind::InvalidInput, "this is no name of a file"))?;
+    let mut hidden = OsString::from(".");
+    hidden.push(name);
+    hidden.push(".saving");
+    let beside = path.with_file_name(hidden);
+    let there = replaceable(path)?;
+    match fs::remove_file(&beside) {
+        Err(why) if why.kind() != ErrorKind::NotFound => return Err(why),
+        _ => (),
+    }
+    let write = || {
+        let mut file = File::create_new(&beside)?;
+        if let Some(about) = there {
+            file.set_permissions(about.permissions())?; // who could not read the old file cannot read the new one
+        }
+        file.write_all(&bytes)?;
+        file.sync_all()?;
+        fs::rename(&beside, path)
+    };
+    write().inspect_err(|_| drop(fs::remove_file(&beside)))?;
+    let folder = path.parent().filter(|folder| !folder.as_os_str().is_empty());
+    File::open(folder.unwrap_or(Path::new(".")))?.sync_all()
+}
+
+/// What is there under a name, if a saved file may replace it.
+fn replaceable(path: &Path) -> io::Result<Option<fs::Metadata>> {
+    let about = match fs::symlink_metadata(path) {
+        Err(why) if why.kind() == ErrorKind::NotFound => return Ok(None),
+        about => about?,
+    };
+    let longest = HEAD + LONGEST_IMAGE + SAVED_LINE * LINES + SUM;
+    let ours = about.is_file() && about.len() <= longest as u64 && (about.len() == 0 || restored(&fs::read(path)?).is_ok());
+    if !ours {
+        return Err(io::Error::new(ErrorKind::AlreadyExists, "what is there is no saved file, and is not replaced"));
+    }
+    Ok(Some(about))
+}
+
+/// Reads the image and the lines of a saved file. The error is `InvalidData` if the file is damaged (a `Damaged` is inside), if the
+/// library refuses the image, or if the lines do not fit its book, so that every event would get 30; `NotFound` if there is none yet.
+pub fn load(path: impl AsRef<Path>) -> io::Result<(Vec<u8>, Vec<Line>)> {
+    let (image, lines) = restored(&fs::read(path)?).map_err(|why| io::Error::new(ErrorKind::InvalidData, why))?;
+    let invalid = |why: String| Err(io::Error::new(ErrorKind::InvalidData, why));
+    // player 255 is turned away with 2, but with 30 if the lines do not fit
+    let nobody = Event { player: 255, number: 0, operation: 0, asset: 0, kind: 0, time: 0 };
+    match answer_event(&mut image.clone(), nobody, &mut lines.clone()) {
+        Ok(Answer { code: 30, .. }) => invalid("the lines of the saved file do not fit its book".into()),
+        Ok(_) => Ok((image, lines)),
+        Err(refused) => invalid(format!("the book of the saved file is refused: {refused:?}")),
+    }
 }

@@ -10,7 +10,7 @@
  *     calls seen-images cases.bin    the same for each stored image; embed/tests/seen.py prints these and the lists from the second program
  *
  * It also checks what every call promises: bytes after the text and after the next image stay, lines after the list stay, a length above
- * the image's room is refused, a refused call changes no byte of any buffer, no line and no length.
+ * the image's room is refused, a refused call changes no byte of any buffer, no line and no length, rights_grounds reads no player.
  * It exits with status 1 at the first violation. */
 #include <stdio.h>
 #include <stdlib.h>
@@ -338,7 +338,7 @@ static void ones(FILE *f)
  * lines, the first 64 of them, and the lines after it if they are others. Bytes that are no record, or more than one, are left out. */
 static struct rights_line read_line(FILE *f)
 {
-    size_t content, times, seconds;
+    size_t content = 0, times = 0, seconds = 0;
     if (!read_length(f, 8, &content) || !read_length(f, 8, &times) || !read_length(f, 8, &seconds))
         fail("a stored file is cut short");
     return (struct rights_line){content, times, seconds};
@@ -426,6 +426,13 @@ static uint8_t look(const char *name, size_t image_length, uint32_t at, uint32_t
             if (numbers[i] != 0xa5a5a5a5u)
                 fail("a number behind those given, or of a refused call, was touched");
     }
+    static const uint8_t players[] = {0, RIGHTS_PLAYERS - 1, RIGHTS_PLAYERS, 255};
+    for (size_t p = 0; name[0] == 'g' && p < sizeof players; p++) {
+        uint32_t others[RIGHTS_GROUNDS_NUMBERS];
+        if (rights_grounds(image, image_length, at, players[p], time, others, needs) != last
+            || (last == RIGHTS_OK && memcmp(others, numbers, sizeof others) != 0))
+            fail("another player gets other grounds");
+    }
     if (memcmp(image, image_before, image_length + BEHIND) != 0)
         fail("a reading call touched the image");
     printf("%s %u", name, at);
@@ -440,7 +447,7 @@ static uint8_t look(const char *name, size_t image_length, uint32_t at, uint32_t
 }
 
 /* Everything that can be asked of an image, including one position past each end. The times are the book's, some around the
- * ends of open uses, and one later than any. */
+ * ends of open uses, the latest that an event may have, and later ones. */
 static void see(size_t image_length)
 {
     uint32_t book[RIGHTS_BOOK_NUMBERS];
@@ -448,7 +455,7 @@ static void see(size_t image_length)
     if (rights_book(image, image_length, book, RIGHTS_BOOK_NUMBERS) != RIGHTS_OK)
         memset(book, 0, sizeof book);
     uint32_t now = book[RIGHTS_BOOK_TIME];
-    const uint32_t times[] = {0, now, now + 1, now + 30, now + 59, now + 60, now + 86400, 4294967295u};
+    const uint32_t times[] = {0, now, now + 1, now + 30, now + 59, now + 60, now + 86400, 4000000000u, 4000000001u, 4294967295u};
     for (uint32_t i = 0; i <= book[RIGHTS_BOOK_ASSETS]; i++)
         look("asset", image_length, i, 0, RIGHTS_ASSET_NUMBERS);
     for (uint32_t i = 0; i <= book[RIGHTS_BOOK_ENTRIES]; i++) {

@@ -8,14 +8,18 @@
 //!     calls images cases.bin    the number of a refusal, or 0 and the image that a call without records leaves
 //!     calls texts cases.bin     the number of a refusal, or 0, the number of elements and the image of the text's book
 //!     calls seen days.bin       what the functions that read an image say, as calls.c prints it
+//!     calls after BOOK EVENTS SAVED    what embed/example.c does, with `load` and `save`
+//!     calls restored CASES FILE        what `load` says of each stored case, in words; FILE is written for it. A case that is no saved
+//!                                      file must not be replaced by `save`
 //!
 //! A refused call has to leave every byte of every buffer unchanged, every line, and the lengths.
 
 #[path = "../rust/rights.rs"]
 mod rights;
 
-use rights::{Event, Line, Refused};
-use std::io::Write;
+use rights::{Damaged, Event, Line, Refused};
+use std::fs;
+use std::io::{Error, ErrorKind, Write};
 
 /// The next part of the file: its length in `width` bytes, big-endian, and then its bytes.
 fn part<'a>(file: &mut &'a [u8], width: usize) -> Option<&'a [u8]> {
@@ -280,7 +284,9 @@ fn entry_numbers(image: &[u8], position: u32) -> Result<Vec<u32>, Refused> {
 }
 
 fn ground_numbers(image: &[u8], position: u32, time: u32) -> Result<Vec<u32>, Refused> {
-    rights::grounds(image, position, (position % 16) as u8, time).map(|g| {
+    let grounds = rights::grounds(image, position, (position % 16) as u8, time);
+    assert!([0, 15, 16, 255].iter().all(|&player| rights::grounds(image, position, player, time) == grounds));
+    grounds.map(|g| {
         vec![
             g.count_spent,
             g.timed_spent,
@@ -323,13 +329,14 @@ fn see(image: &[u8], print: &mut impl Write) {
     for i in 0..=assets {
         seen_line(print, "asset", i, None, rights::asset(image, i).map(|a| vec![a.number, a.inherit, a.key]));
     }
+    let times = [0, now, now + 1, now + 30, now + 59, now + 60, now + 86400, 4_000_000_000, 4_000_000_001, u32::MAX];
     for i in 0..=entries {
         seen_line(print, "entry", i, None, entry_numbers(image, i));
-        for time in [0, now, now + 1, now + 30, now + 59, now + 60, now + 86400, u32::MAX] {
+        for time in times {
             let left = rights::left(image, i, time).map(|l| vec![l.grantable, l.count, l.timed, l.seconds]);
             seen_line(print, "left", i, Some(time), left);
         }
-        for time in [0, now, now + 1, now + 30, now + 59, now + 60, now + 86400, u32::MAX] {
+        for time in times {
             seen_line(print, "grounds", i, Some(time), ground_numbers(image, i, time));
         }
     }
@@ -359,18 +366,66 @@ fn seen(file: &[u8], print: &mut impl Write) {
     }
 }
 
+/// Answers the events from a saved file, or from a book with lines of zeros, and saves before it prints.
+fn after(book: &str, events: &str, saved: &str, print: &mut impl Write) -> Result<(), Error> {
+    let bytes = fs::read(book)?;
+    let (mut image, mut lines) = match rights::restored(&bytes) {
+        Err(Damaged::Mark) => (bytes.clone(), rights::zeros(&bytes).expect("a legal book")),
+        _ => rights::load(book)?,
+    };
+    let text = rights::answers(&mut image, &fs::read(events)?, &mut lines).expect("a legal book");
+    rights::save(saved, &image, &lines)?;
+    print.write_all(&text)
+}
+
+/// What `load` says of a file: what `restored` found, or the library.
+fn said_of(loaded: Result<(Vec<u8>, Vec<Line>), Error>) -> String {
+    match loaded {
+        Ok(_) => "whole".into(),
+        Err(why) => {
+            assert_eq!(why.kind(), ErrorKind::InvalidData);
+            match why.get_ref().and_then(|inner| inner.downcast_ref::<Damaged>()) {
+                Some(damaged) => format!("{damaged:?}").to_lowercase(),
+                None => why.to_string(),
+            }
+        }
+    }
+}
+
+fn restored(cases: &[u8], name: &str, print: &mut impl Write) {
+    let mut rest = cases;
+    while let Some(case) = part(&mut rest, 4) {
+        fs::write(name, case).unwrap();
+        writeln!(print, "{}", said_of(rights::load(name))).unwrap();
+        match rights::restored(case) {
+            Ok((image, lines)) => assert_eq!(rights::saved(&image, &lines), case),
+            Err(_) if case.is_empty() => (),
+            Err(_) => assert_eq!(rights::save(name, b"", &[]).unwrap_err().kind(), ErrorKind::AlreadyExists),
+        }
+        assert_eq!(fs::read(name).unwrap(), case);
+    }
+    fs::remove_file(name).unwrap();
+}
+
 fn main() {
     let words: Vec<String> = std::env::args().collect();
-    let file = std::fs::read(words.last().unwrap()).expect("a stored file");
     let mut print = std::io::BufWriter::new(std::io::stdout().lock());
+    let file = |at: usize| fs::read(&words[at]).expect("a stored file");
     match words[1].as_str() {
-        "days" => days(&file, words[2].parse().unwrap(), &mut print),
-        "ones" => ones(&file, &mut print),
-        "lists" => lists(&file, &mut print),
-        "images" => images(&file, &mut print),
-        "texts" => texts(&file, &mut print),
-        "seen" => seen(&file, &mut print),
-        _ => panic!("usage: calls days N FILE, calls ones|lists|images|texts|seen FILE"),
+        "days" => days(&file(3), words[2].parse().unwrap(), &mut print),
+        "ones" => ones(&file(2), &mut print),
+        "lists" => lists(&file(2), &mut print),
+        "images" => images(&file(2), &mut print),
+        "texts" => texts(&file(2), &mut print),
+        "seen" => seen(&file(2), &mut print),
+        "restored" => restored(&file(2), &words[3], &mut print),
+        "after" => {
+            if let Err(why) = after(&words[2], &words[3], &words[4], &mut print) {
+                eprintln!("calls: {}: {why}", words[4]);
+                std::process::exit(1);
+            }
+        }
+        _ => panic!("usage: calls days N FILE, ones|lists|images|texts|seen FILE, restored CASES FILE, after BOOK EVENTS SAVED"),
     }
     print.flush().unwrap();
 }

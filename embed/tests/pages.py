@@ -1,10 +1,13 @@
-"""Checks docs/FORMAT.md and embed/rights.h against the second program (oracle/rights.py, xml_rights.py): each table of fields with its
-offsets and widths, the lengths, the XML elements in their order, and the numbers that the header names. Prints nothing if everything
-agrees."""
+"""Checks docs/FORMAT.md and embed/rights.h against the second program (oracle/rights.py, xml_rights.py) and the saved files of saved.py:
+each table of fields with its offsets and widths, the lengths, the XML elements in their order, and the numbers that the header names;
+and the numbers of docs/EMBEDDING.md that are not the library's. Prints nothing if everything agrees."""
 
 import re
 import sys
+import zlib
 from pathlib import Path
+
+import saved
 
 ROOT = Path(__file__).resolve().parents[2]
 sys.path.insert(0, str(ROOT / "oracle"))
@@ -59,6 +62,18 @@ def page_tables(page):
         must(found == expected, f"the fields of {title}: {found}")
 
 
+def section(page, title):
+    """What stands under a heading, up to the next one of its depth."""
+    part = re.search(rf"^## {title}\n(.*?)(?=^## |\Z)", page, re.M | re.S)
+    must(part, f"no section {title}")
+    return part[1]
+
+
+def shown_lines(text):
+    """The bytes of each line that begins with bytes in hex."""
+    return [bytes.fromhex(line) for line in re.findall(r"^    ((?:[0-9a-f]{2} +)+)", text, re.M)]
+
+
 def page_ranges(page):
     """The reader accepts what the page's ranges begin and end with, and nothing next to it."""
     book = rights.Book(assets=[rights.Asset(1, 0, 1)])
@@ -78,9 +93,43 @@ def page_example(page):
     event = rights.Event(0, 1, rights.BEGIN, 1, rights.PLAY, 1000)
     must(bytes.fromhex(record[1].replace(" ", "")) == rights.encode(event), "the example of a record")
     image = (ROOT / "examples/afternoon/rights.rbk").read_bytes()
-    lines = re.findall(r"^    ((?:[0-9a-f]{2} +)+)(?:\.\.)? *[a-z]", page, re.M)
-    shown = bytes.fromhex("".join(lines).replace(" ", ""))
-    must(len(lines) == 7 and image.startswith(shown), "the example of an image")
+    lines = shown_lines(section(page, "An example"))
+    must(len(lines) == 7 and image.startswith(b"".join(lines)), "the example of an image")
+
+
+def page_saved(page):
+    """The table of a saved file, whose offsets and widths are sums of numbers, I and 24 L; the sum's example; a saved day."""
+    part = section(page, "A saved file: image and lines together")
+    rows = re.findall(r"^\| ([0-9IL +]+) \| ([0-9IL ]+) \| (\w+) \|", part, re.M)
+    must([(name, width) for _, width, name in rows] == saved.FIELDS, f"the fields of a saved file: {rows}")
+    day = ROOT / "examples/metered"
+    made = saved.after((day / "rights.rbk").read_bytes(), (day / "events.bin").read_bytes())
+    _, image, lines = saved.read(made)
+    listed = made[saved.HEAD + len(image):-saved.SUM]
+    held = [b"RBS", saved.VERSION.to_bytes(2, "big"), len(image).to_bytes(4, "big"), len(lines).to_bytes(4, "big"), image, listed,
+            zlib.crc32(made[:-saved.SUM]).to_bytes(4, "big")]
+
+    def count(words):
+        return sum(int(word.replace("24 L", str(24 * len(lines))).replace("I", str(len(image)))) for word in words.split(" + "))
+
+    end = 0
+    for (offset, width, name), field in zip(rows, held):
+        must(count(offset) == end and made[end:end + count(width)] == field, f"{name} of a saved file")
+        end += count(width)
+    must(end == len(made) == count(re.search(r"it is (17 \+ I \+ 24 L) bytes long", part)[1]), "the length of a saved file")
+    longest = saved.HEAD + saved.LONGEST_IMAGE + saved.LINE * saved.MOST_LINES + saved.SUM
+    must(f"at most {longest:,}," in part and f"L, 0 to {saved.MOST_LINES} " in part, "the longest saved file")
+    must(f"an I above {saved.LONGEST_IMAGE:,} or an L above {saved.MOST_LINES}," in part, "the greatest I and L")
+    example = re.search(r"`(\d+)` is ([0-9a-f]{8})\.", part)
+    must(example and zlib.crc32(example[1].encode()) == int(example[2], 16), "the example of a sum")
+    head, mark, *rest = shown_lines(part)
+    must(made.startswith(head + mark) and made.endswith(b"".join(rest)) and len(rest) == len(lines) + 1, "the example of a saved file")
+
+
+def page_embedding(page, library):
+    """The size of the library on the page, to 5 %."""
+    size = re.search(r"libembed\.a \((\d+) KB;", page)
+    must(size and abs(int(size[1]) * 1024 - library) <= library / 20, f"the size of the library on the page; it has {library} bytes")
 
 
 def page_xml(page):
@@ -135,21 +184,40 @@ def header_words(numbers):
         must(numbers[f"RIGHTS_HAS_{name}"] == getattr(rights, name), name)
     for position, name in enumerate(GROUNDS.split()):
         must(numbers.get(f"RIGHTS_GROUNDS_{name}") == position, f"the ground {name} in the header")
-    must(numbers["RIGHTS_LINES"] == rights.LINES, "the most lines of a list")
+    must(numbers["RIGHTS_LINES"] == rights.LINES == saved.MOST_LINES, "the most lines of a list")
     longest = rights.write(rights.Book(0, [rights.Asset()] * rights.MOST, [rights.Entry()] * rights.MOST))
-    must(numbers["RIGHTS_LONGEST_IMAGE"] == len(longest), "the longest image")
+    must(numbers["RIGHTS_LONGEST_IMAGE"] == len(longest) == saved.LONGEST_IMAGE, "the longest image")
     for first, names in CODES:
         for code, name in enumerate(names.split(), first):
             must(numbers.get(f"RIGHTS_{name}") == code, f"code {code} in the header")
 
 
+def words_on_callers(header, module):
+    """What a caller is told beside rights_left and rights_grounds, which tests/header.c tries, and of the languages."""
+    for name in ("left", "grounds"):
+        in_c = re.search(rf"/\*(?:(?!\*/).)*\*/\s*enum \{{\s*RIGHTS_{name.upper()}_(?:(?!\}};).)*\}};", header, re.S)
+        in_rust = re.search(rf"((?:///[^\n]*\n)+)pub fn {name}\(", module)
+        for text in (in_c, in_rust):
+            text = re.sub(r"\s+(\*|///)?\s*", " ", text[0]) if text else ""
+            must("a time after 4,000,000,000" in text.lower() and re.search("an event then gets 5|one at such a time 5", text),
+                 f"late times beside {name}")
+            must(name == "left" or "any player number is taken" in text and "an event of player 16 or more gets 2" in text,
+                 f"players beside {name}")
+    must("needs C99 or later, or C++11 or later" in header, "the header's language")
+    must("Needs Rust 1.82 or later" in module, "the module's language")
+
+
 def main():
     page = (ROOT / "docs/FORMAT.md").read_text()
-    numbers = header_numbers((ROOT / "embed/rights.h").read_text())
+    header, module = ((ROOT / "embed" / name).read_text() for name in ("rights.h", "rust/rights.rs"))
+    numbers = header_numbers(header)
     page_tables(page)
     page_ranges(page)
     page_example(page)
+    page_saved(page)
     page_xml(page)
+    page_embedding((ROOT / "docs/EMBEDDING.md").read_text(), (ROOT / "target/staticlib/libembed.a").stat().st_size)
+    words_on_callers(header, module)
     header_positions(numbers)
     header_words(numbers)
 

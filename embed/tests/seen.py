@@ -67,11 +67,15 @@ def absent(table, position, numbers):
     return numbers(table[position]) if position < len(table) else ["refused", 31]
 
 
+def asked_times(now):
+    return [0, now, now + 1, now + 30, now + 59, now + 60, now + 86400, rights.LATEST, rights.LATEST + 1, NO_LIMIT]
+
+
 def see(image):
     code, book = rights.read(image)
     if code != 0:
         refused = ["refused", code]
-        times = [0, 0, 1, 30, 59, 60, 86400, NO_LIMIT]
+        times = asked_times(0)
         print_line("book", 0, refused)
         print_line("asset", 0, refused)
         print_line("entry", 0, refused)
@@ -87,8 +91,7 @@ def see(image):
     print_line("book", 0, [len(book.assets), len(book.entries), now, book.switch, book.latest_player, book.latest_started])
     for position in range(len(book.assets) + 1):
         print_line("asset", position, absent(book.assets, position, astuple))
-    times = [0, now, now + 1, now + 30, now + 59, now + 60, now + 86400, NO_LIMIT]
-    tables = [(time, max(time, now), settled(book, max(time, now))) for time in times]
+    tables = [(time, max(time, now), settled(book, max(time, now))) for time in asked_times(now)]
     for position in range(len(book.entries) + 1):
         print_line("entry", position, absent(book.entries, position, astuple))
         for time, when, entries in tables:
