@@ -1594,7 +1594,22 @@ def test_building(folder):
         "building the run program, about [0-9]+ minutes .*; log in target/try.log\nbuilding the library .*\nbuilding the program .*\n"
         ".*events.bin: 22 requests: .*\n",
         done.err) is not None, done)
+    shutil.rmtree(root / "target")
+    os.utime(root / "crates" / "x" / "src" / "lib.rt", (0, 0))
+    shop, day = folder / "shop", (AFTERNOON / "events.bin").read_bytes()
+    shop.mkdir()
+    shutil.copy(AFTERNOON / "rights.rbk", shop)
+    done = Done(subprocess.run([root / "tools" / "serve", shop], env=able, input=day, capture_output=True))
+    check("serve: builds what is missing, a line for each", done.status == 0 and done.out == (AFTERNOON / "expected.txt").read_bytes()
+          and re.fullmatch("building the run program.*\nbuilding the library .*\nbuilding the program .*\nserve: .*\n", done.err), done)
     rt.write_text("#!/bin/sh\necho words of the prover\nexit 1\n")
+    shutil.rmtree(root / "target")
+    shutil.rmtree(shop)
+    shop.mkdir()
+    shutil.copy(AFTERNOON / "rights.rbk", shop)
+    done = Done(subprocess.run([root / "tools" / "serve", shop], env=able, input=b"", capture_output=True))
+    check("serve: rt fails, and nothing is written", done.status == 2 and "`rt check run` failed" in done.err
+          and [path.name for path in shop.iterdir()] == ["rights.rbk"], done)
     done = Done(subprocess.run([root / "examples" / "try"], env=able, capture_output=True))
     check("try: rt fails", done.status == 1 and done.out == b"" and "said is in target/try.log" in done.err
           and "words" not in done.err, done)

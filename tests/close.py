@@ -179,7 +179,13 @@ def test_the_server_s_records(folder):
         book.write_bytes(image)
         changes_nothing(f"close: {name}", fragment, folder, "close", book, events)
         changes_nothing(f"close: {name}, and sure", fragment, folder, "close", book, events, "--sure")
+        for args in (["report", book, events], ["after", book, events, folder / "out.rbk"]):
+            done = call(*args)
+            check(f"{args[0]}: {name}, asked", done.status == 0 and done.err.endswith(
+                f"{began} is another book: is this the book with which these records began?\n"), done)
+        (folder / "out.rbk").unlink()
     book.write_bytes(IMAGE)
+    check("report: the right book is not asked about", "is this the book" not in call("report", book, events).err)
     lost = rights.encode(rights.Event(9, 70, rights.STOP, 0, 0, 1798135200)) * 60        # a player that has lost count
     events.write_bytes(EVENTS + lost)
     done = call("close", book, events)

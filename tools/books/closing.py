@@ -3,12 +3,11 @@
 What was closed is a folder beside the book, closed-DATE, with the bill, the records, their answers, and the books before and after them.
 It is made whole under another name and renamed; then the next book takes the place of the book, which is the moment at which the day is
 closed; then the file of records goes, whose copy is in the archive. Ended before that moment, `close` can be called again as if it had
-not been; ended after it, the records are told to be closed already.
+not been; ended after it, a second call says that the day is closed already.
 """
 
 import itertools
 import os
-import re
 import shutil
 import stat
 import sys
@@ -16,16 +15,11 @@ import tempfile
 from contextlib import ExitStack
 from pathlib import Path
 
-import rights
-
 from .files import IMAGE_MOST, alone_in, keep_inputs, kind_of, read_bytes, read_image, reason, sync_folder, umask, write_beside
 from .library import played
-from .records import read_records
+from .records import began_with, read_records, same_book
 from .report import bill, csv_lines
 from .words import Trouble, date
-
-# The records of a day as tools/serve keeps them; the book with which they began has the same name with .rbk behind it.
-RECORDED = re.compile(r"events-[0-9]{4}-[0-9]{2}-[0-9]{2}\.bin")
 
 
 def close(book, events, sure=False):
@@ -44,10 +38,11 @@ def close(book, events, sure=False):
             raise Trouble(f"{book}: its server keeps the lines of the report in this file, so it has no day to be closed from records")
         day = played(book, read_image(book), records)
         name = unfinished(folder, book, events, day)
+        made = None
         if name is None:
             refuse_other_book(book, events, day, sure)
-            name = archived(folder, day)
-        put_next(folder, name, place, day.image)
+            name = made = archived(folder, day)
+        put_next(place, day.image, made and os.path.join(folder, made))
         left_over = remove_recorded(events)
     for line in bill(day):
         print(line)
@@ -62,17 +57,6 @@ def close(book, events, sure=False):
 
 
 # ---- Whether records and book belong together
-
-def began_with(events):
-    """The image of the book with which a server began these records; None if that is not known."""
-    path = Path(events)
-    beside = path.with_suffix(".rbk")
-    return beside.read_bytes() if RECORDED.fullmatch(path.name) and beside.exists() else None
-
-
-def same_book(one, other):
-    return rights.read(one) == rights.read(other)
-
 
 def refuse_other_book(book, events, day, sure):
     began = began_with(events)
@@ -95,9 +79,10 @@ def other_book(book, events, image, records):
 # ---- The archive
 
 def closed_with(folder, records):
-    """The folders of closed days that have these very records."""
+    """The folders of closed days that have these very records, and both books."""
     for path in sorted(Path(folder).glob("closed-*/events-*.bin")):
-        if path.stat().st_size == len(records) and path.read_bytes() == records:
+        whole = all(part_of(path.parent, part).exists() for part in ("book", "next"))
+        if whole and path.stat().st_size == len(records) and path.read_bytes() == records:
             yield path.parent
 
 
@@ -153,11 +138,13 @@ def free_stamp(folder, day):
             return stamp
 
 
-def put_next(folder, name, place, image):
+def put_next(place, image, archive):
+    """Puts the next book in the book's place; if that fails, the archive that was just made for it goes."""
     try:
         write_beside(place, image, stat.S_IMODE(os.stat(place).st_mode))
     except OSError as problem:
-        shutil.rmtree(os.path.join(folder, name), ignore_errors=True)
+        if archive:
+            shutil.rmtree(archive, ignore_errors=True)
         raise Trouble(f"{place}: not closed: {reason(problem)}; everything is as it was") from None
 
 

@@ -19,7 +19,7 @@ from . import ROOT
 from .answers import Tally
 from .files import keep_inputs, read_image, reason
 from .kept import write_book
-from .records import read_records
+from .records import began_with, read_records, same_book
 from .texts import REFUSED, refusal
 from .words import Trouble
 
@@ -102,9 +102,11 @@ def image_after(path, events):
 def say_tally(events, day):
     """On standard error: how the requests were answered, and a question where most of them do not go on from the book."""
     sys.stdout.flush()
-    tally = day.tally()
+    tally, began = day.tally(), began_with(events)
     print(f"{events}: {tally.words()}", file=sys.stderr)
-    if tally.doubt():
+    if began is not None and not same_book(began, day.before):
+        print(f"{Path(events).with_suffix('.rbk')} is another book: is this the book with which these records began?", file=sys.stderr)
+    elif tally.doubt():
         print(tally.doubt(), file=sys.stderr)
 
 

@@ -4,6 +4,7 @@
 import re
 import sys
 from itertools import zip_longest
+from pathlib import Path
 
 import rights
 from rights import Event
@@ -33,6 +34,9 @@ MEANINGS = {
     43: "refused: metering is off, and what is left for it is tracked and has no mark",
     44: "refused: there is something open, but its begin was not the last event taken, so it cannot be taken back",
 }
+
+# The records of a day as tools/serve keeps them; the book with which they began has the same name with .rbk at its end.
+RECORDED = re.compile(r"events-[0-9]{4}-[0-9]{2}-[0-9]{2}\.bin")
 
 # A line of a text for `make` or `events`.
 TEXT = re.compile(rb"^\s*((time|asset|entry|player)\s+[0-9]|metering\s+o|latest\s+player\s*:?\s+[0-9]"
@@ -107,6 +111,18 @@ def read_records(path):
         print(f"note: {path} has {len(data)} bytes, a whole number of records of {SHORT} bytes, as before order 4, and not of {SIZE};"
               " `book.py widen` makes the longer ones", file=sys.stderr)
     return data
+
+
+def began_with(events):
+    """The image of the book with which tools/serve began these records; None if that is not known."""
+    path = Path(events)
+    beside = path.with_suffix(".rbk")
+    return beside.read_bytes() if RECORDED.fullmatch(path.name) and beside.exists() else None
+
+
+def same_book(one, other):
+    """Whether two images, perhaps of different versions, hold the same book."""
+    return rights.read(one) == rights.read(other)
 
 
 def refuse_others(path, data):

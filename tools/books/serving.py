@@ -14,10 +14,10 @@ import sys
 from pathlib import Path
 
 from . import ROOT
-from .closing import RECORDED, began_with, closed_with, other_book, same_book
+from .closing import closed_with, other_book
 from .files import IMAGE_MOST, alone_in, free_name, read_bytes, reason, sync_folder, umask, write_beside
 from .library import build, build_step, older, played
-from .records import SIZE, read_records
+from .records import RECORDED, SIZE, began_with, read_records, same_book
 from .words import Trouble
 
 RUN = ROOT / "target" / "bin" / "run"
