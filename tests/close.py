@@ -16,7 +16,7 @@ import tempfile
 import zlib
 from pathlib import Path
 
-from support.checks import METERED, call, check, check_all, finish, refused
+from support.checks import METERED, call, changes_nothing, check, check_all, finish, image_after, listing, refused
 
 import days
 import rights
@@ -26,18 +26,7 @@ from books.answers import Tally
 DATE = "2026-12-24"                     # of the metered day
 IMAGE, EVENTS = (METERED / "rights.rbk").read_bytes(), (METERED / "events.bin").read_bytes()
 PARTS = {"bill-{}.txt", "bill-{}.csv", "book-{}.rbk", "events-{}.bin", "answers-{}.txt", "next-{}.rbk"}
-
-
-def after(image, events):
-    """The image after these events, by the second program."""
-    book = rights.read(image)[1]
-    lines = rights.zeros(book)
-    for record in rights.records_in(events):
-        rights.answer_record(book, record, lines)
-    return rights.write(book)
-
-
-NEXT = after(IMAGE, EVENTS)
+NEXT = image_after(IMAGE, EVENTS)
 TWO = b"".join(rights.encode(rights.Event(*event)) for event in (      # the next day; player 0 goes on under its boot number
     (0, 2**32 + 2, rights.STOP, 0, 0, 1798186000), (1, 4, rights.BEGIN, 2, rights.PLAY, 1798186010),
     (1, 5, rights.STOP, 0, 0, 1798186050)))
@@ -50,25 +39,14 @@ def shop(folder, name="events.bin", image=IMAGE, events=EVENTS):
     return folder / "rights.rbk", folder / name
 
 
-def listing(folder):
-    return {str(path.relative_to(folder)): path.read_bytes() for path in folder.rglob("*") if path.is_file()}
-
-
 def is_closed(folder, stamp=DATE, image=IMAGE, events=EVENTS):
     """Whether the folder of the closed day is whole, and all that it should be."""
     found = {path.name.replace(stamp, "{}"): path.read_bytes() for path in (folder / f"closed-{stamp}").glob("*")}
     wanted = {"book-{}.rbk": image, "events-{}.bin": events, "answers-{}.txt": rights.run(image, events).encode(),
-              "next-{}.rbk": after(image, events)}
+              "next-{}.rbk": image_after(image, events)}
     if (image, events) == (IMAGE, EVENTS):
         wanted |= {"bill-{}.txt": (METERED / "bill.txt").read_bytes(), "bill-{}.csv": (METERED / "bill.csv").read_bytes()}
     return set(found) == PARTS and all(found[name] == data for name, data in wanted.items())
-
-
-def changes_nothing(name, fragment, folder, *args):
-    before = listing(folder)
-    done = refused(name, fragment, *args)
-    check(f"{name}: everything is as it was", listing(folder) == before, sorted(listing(folder)))
-    return done
 
 
 # ---- A day, and the next
@@ -98,7 +76,7 @@ def test_a_day_twice(folder):
     for count, stamp in ((0, DATE), (1, f"{DATE}-2"), (2, f"{DATE}-3")):
         cut = len(EVENTS) * (count + 1) // 3 // 17 * 17
         done_before = len(EVENTS) * count // 3 // 17 * 17
-        image = after(IMAGE, EVENTS[:done_before]) if count else IMAGE
+        image = image_after(IMAGE, EVENTS[:done_before]) if count else IMAGE
         book, events = shop(folder, image=image, events=EVENTS[done_before:cut])
         done = call("close", book, events)
         check(f"close: {stamp}", done.status == 0 and is_closed(folder, stamp, image, EVENTS[done_before:cut]), done)
@@ -155,11 +133,11 @@ def test_other_pairs(folder):
     changes_nothing("close: most of the second day", f"5 of 7 requests are turned away by number: {question}", folder, "close",
                     book, events)
     done = call("close", book, events, "--sure")
-    check("close: it is the book", done.status == 0 and book.read_bytes() == after(plain, days_of[0][:34] + days_of[1][:85])
+    check("close: it is the book", done.status == 0 and book.read_bytes() == image_after(plain, days_of[0][:34] + days_of[1][:85])
           and not events.exists(), done)
 
     ones = b"".join(rights.encode(rights.Event(player, 1, rights.BEGIN, 1, 1, 1000)) for player in range(16))
-    book.write_bytes(after(plain, ones))
+    book.write_bytes(image_after(plain, ones))
     events.write_bytes(ones)
     changes_nothing("close: requests that the book has already", f"16 of 16 requests are turned away or in the book already: {question}",
                     folder, "close", book, events)
@@ -362,7 +340,7 @@ def test_after_and_report_ask(folder):
               and done.out == call("left", "-", "--at", "1798135200", stdin=NEXT).out, done)
     book.write_bytes(IMAGE)
     (folder / "two.bin").write_bytes(TWO)
-    last = after(NEXT, TWO)
+    last = image_after(NEXT, TWO)
     for words in (["show"], ["left", "--at", "1798186100"], ["why", 3, 1, "play", "--at", "1798186100"]):
         command, rest = [words[0], book, *words[1:]], ["--after", events, "--after", folder / "two.bin"]
         done = call(*command, *rest)

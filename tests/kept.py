@@ -7,11 +7,10 @@ The last line is `N passed, M failed`; the exit status is 1 if anything failed.
 """
 
 import os
-import shutil
 import tempfile
 from pathlib import Path
 
-from support.checks import AFTERNOON, METERED, OBJECTS, call, check, finish, refused
+from support.checks import AFTERNOON, METERED, OBJECTS, call, changes_nothing, check, finish, image_after, listing, refused
 
 import rights
 from books import files, library
@@ -19,18 +18,6 @@ from books import files, library
 FRESH = "asset 1 key\nentry 0: object 1, asset 1, play, count 500\n"
 USED = FRESH.replace("count 500", "count 500, used count 480")
 FILM = bytes(range(256)) * 600
-
-
-def listing(folder):
-    """Every file of the folder, with its bytes."""
-    return {path.name: path.read_bytes() for path in folder.iterdir() if path.is_file()}
-
-
-def changes_nothing(name, fragment, folder, *args):
-    before = listing(folder)
-    done = refused(name, fragment, *args)
-    check(f"{name}: every file is as it was", listing(folder) == before, done)
-    return done
 
 
 def made(text):
@@ -47,16 +34,13 @@ def writers(folder):
     (folder / "book.txt").write_text(FRESH)
     (folder / "begin.rbk").write_bytes((AFTERNOON / "rights.rbk").read_bytes())
     (folder / "begin.bin").write_bytes((AFTERNOON / "events.bin").read_bytes())
-    _, after = rights.read((AFTERNOON / "rights.rbk").read_bytes())
-    lines = rights.zeros(after)
-    for record in rights.records_in((AFTERNOON / "events.bin").read_bytes()):
-        rights.answer_record(after, record, lines)
     records = (AFTERNOON / "events.bin").read_bytes()
     yield "events", ["events", folder / "day.txt"], records, False
     yield "widen", ["widen", folder / "old.bin"], records, False
     yield "make", ["make", folder / "book.txt"], made(FRESH), True
     yield "import", ["import", OBJECTS / "film.xml"], library.read_xml((OBJECTS / "film.xml").read_bytes())[2], True
-    yield "after", ["after", folder / "begin.rbk", folder / "begin.bin"], rights.write(after), True
+    following = image_after((AFTERNOON / "rights.rbk").read_bytes(), records)
+    yield "after", ["after", folder / "begin.rbk", folder / "begin.bin"], following, True
 
 
 # What is there, whether a book may replace it, and what is said if it may not. The afternoon ends at 1141.

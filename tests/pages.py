@@ -14,11 +14,10 @@ import os
 import re
 import shutil
 import subprocess
-import sys
 import tempfile
 from pathlib import Path
 
-from support.checks import ROOT, call, check, check_all, finish
+from support.checks import ROOT, call, check, check_all, finish, listing
 
 import rights
 from books import library
@@ -162,7 +161,7 @@ def today():
 
 def test_examples(folder):
     root, page = copied(folder), ROOT / "examples" / "README.md"
-    before = {path: path.read_bytes() for path in (root / "examples").rglob("*") if path.is_file()}
+    before = listing(root / "examples")
     afternoon = [re.split(r"  +", line[4:])[0] for line in page.read_text().partition("\n## ")[0].splitlines()
                  if line.startswith("    ../../")]
     check("examples: the commands of the afternoon", len(afternoon) == 5, afternoon)
@@ -181,8 +180,7 @@ def test_examples(folder):
     check("texts: the commands", len(texts) == 6, texts)
     run_page("texts", texts, root / "examples" / "afternoon", folder)
     old.unlink()
-    check("examples: the shipped files are as they were",
-          {path: path.read_bytes() for path in (root / "examples").rglob("*") if path.is_file()} == before)
+    check("examples: the shipped files are as they were", listing(root / "examples") == before)
 
 
 def test_a_day_at_the_server(folder):

@@ -19,7 +19,7 @@ import threading
 import time
 from pathlib import Path
 
-from support.checks import AFTERNOON, ROOT, Done, call, check, check_all, finish
+from support.checks import AFTERNOON, ROOT, Done, call, check, check_all, finish, image_after, listing
 
 import rights
 from books import library
@@ -44,14 +44,6 @@ def shop(folder, image=IMAGE):
 def recorded(folder):
     """The bytes of all files of requests, in turn."""
     return b"".join(path.read_bytes() for path in sorted(folder.glob("events-*.bin")))
-
-
-def after(image, events):
-    book = rights.read(image)[1]
-    lines = rights.zeros(book)
-    for record in rights.records_in(events):
-        rights.answer_record(book, record, lines)
-    return rights.write(book)
 
 
 def serve(folder, events=b"", **how):
@@ -97,10 +89,10 @@ class Server:
 
 def refused(name, folder, fragment, **how):
     """The server is not started, and no file changes."""
-    before = {path: path.read_bytes() for path in folder.rglob("*") if path.is_file()}
+    before = listing(folder)
     done = serve(folder, EVENTS, **how)
     check(name, done.status == 2 and done.out == b"" and fragment in done.err and "Traceback" not in done.err, done)
-    check(f"{name}: every file is as it was", {path: path.read_bytes() for path in folder.rglob("*") if path.is_file()} == before)
+    check(f"{name}: every file is as it was", listing(folder) == before)
 
 
 # ---- One start and the next
@@ -115,7 +107,7 @@ def test_a_day(folder):
     check("a day: the book stays", (work / "rights.rbk").read_bytes() == IMAGE)
     check("a day: where they are recorded", str(file) in done.err, done)
     closed = call("close", work / "rights.rbk", file)
-    check("a day: closed", closed.status == 0 and (work / "rights.rbk").read_bytes() == after(IMAGE, EVENTS)
+    check("a day: closed", closed.status == 0 and (work / "rights.rbk").read_bytes() == image_after(IMAGE, EVENTS)
           and not file.exists() and not file.with_suffix(".rbk").exists(), closed)
     more = rights.encode(rights.Event(0, 3, rights.BEGIN, 1, rights.PLAY, 2000))
     done = serve(work, more)
@@ -181,7 +173,7 @@ def test_kills(folder):
     parts = [(line in replayed.get(record, []), (record.hex(" "), line, replayed.get(record))) for record, line in got]
     check_all("kills: every answer that was given is the recorded one", parts)
     granted = sum(rights.decode(record).operation == rights.BEGIN and line.startswith(b"0 ") for record, line in got)
-    used = rights.read(after(image, data))[1].entries[0].used_count
+    used = rights.read(image_after(image, data))[1].entries[0].used_count
     check("kills: as many showings are used as were granted, for all the requests sent again", granted == used > 60, (granted, used))
 
 
@@ -225,13 +217,14 @@ def test_days_not_closed(folder):
     check("days not closed: a file for today", (work / f"events-{today()}.bin").read_bytes() == EVENTS[12 * SIZE:]
           and recorded(work) == EVENTS)
     check("days not closed: each has the book with which it began", first.with_suffix(".rbk").read_bytes() == IMAGE
-          and second.with_suffix(".rbk").read_bytes() == after(IMAGE, EVENTS[:7 * SIZE]))
+          and second.with_suffix(".rbk").read_bytes() == image_after(IMAGE, EVENTS[:7 * SIZE]))
     later = call("close", work / "rights.rbk", second)
     check("days not closed: the second is not closed before the first", later.status == 2 and "is another one" in later.err, later)
     for file in (first, second, work / f"events-{today()}.bin"):
         done = call("close", work / "rights.rbk", file)
         check(f"days not closed: {file.name}", done.status == 0, done)
-    check("days not closed: all closed", (work / "rights.rbk").read_bytes() == after(IMAGE, EVENTS) and not list(work.glob("events-*")))
+    check("days not closed: all closed", (work / "rights.rbk").read_bytes() == image_after(IMAGE, EVENTS)
+          and not list(work.glob("events-*")))
 
     work = shop(folder / "shop")
     ahead = work / "events-2999-01-01.bin"
@@ -246,7 +239,7 @@ def test_other_books(folder):
     other = rights.read(IMAGE)[1]
     other.entries[0].count = 9
     for name, image, fragment in (("another book", rights.write(other), "is another one"),
-                                  ("the book after them", after(IMAGE, EVENTS), "which is the book after them")):
+                                  ("the book after them", image_after(IMAGE, EVENTS), "which is the book after them")):
         (work / "rights.rbk").write_bytes(image)
         refused(f"{name} in the book's place", work, fragment)
     (work / f"events-{today()}.rbk").unlink()

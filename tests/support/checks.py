@@ -1,4 +1,4 @@
-"""What the tests of the tools share: counting, and calls of tools/book.py with what they print."""
+"""What the tests of the tools share: counting, calls of tools/book.py with what they print and leave, the book after a day."""
 
 import subprocess
 import sys
@@ -11,6 +11,8 @@ METERED = ROOT / "examples" / "metered"
 OBJECTS = ROOT / "examples" / "rights"
 sys.path.insert(0, str(ROOT / "tools"))
 sys.path.insert(0, str(ROOT / "oracle"))
+import rights  # noqa: E402
+
 passed = failed = 0
 
 
@@ -59,3 +61,25 @@ def refused(name, fragment, *args, **how):
     plain = "Traceback" not in done.err and len(done.err) < 600 and 0 < done.err.count("\n") <= 3
     check(name, done.status == 2 and done.out == b"" and fragment in done.err and plain, f"wanted `{fragment}`, got {done}")
     return done
+
+
+def listing(folder):
+    """Every file in the folder and below it, with its bytes."""
+    return {str(path.relative_to(folder)): path.read_bytes() for path in folder.rglob("*") if path.is_file()}
+
+
+def changes_nothing(name, fragment, folder, *args):
+    """The call is refused, and every file of the folder is as it was."""
+    before = listing(folder)
+    done = refused(name, fragment, *args)
+    check(f"{name}: everything is as it was", listing(folder) == before, sorted(listing(folder)))
+    return done
+
+
+def image_after(image, events):
+    """The image after these events, by the second program."""
+    book = rights.read(image)[1]
+    lines = rights.zeros(book)
+    for record in rights.records_in(events):
+        rights.answer_record(book, record, lines)
+    return rights.write(book)
