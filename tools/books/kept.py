@@ -36,7 +36,7 @@ def lost_by_book(there, book):
     if code != 0:
         return f"a book image is there already that is not accepted ({code}), so what it holds is not known"
     if is_used(old):
-        return f"a book in use is there already (its latest request is of {date(old.time)}), which would be lost"
+        return f"a book in use is there already (its time is {date(old.time)}), which would be lost"
     if old.time > book.time:
         return f"a book of a later time is there already ({date(old.time)}; this one's is {date(book.time)})"
     return None
