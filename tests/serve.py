@@ -352,6 +352,28 @@ def test_a_full_disk(folder):
           and done.out == answers(events[len(whole):], whole), done)
 
 
+def test_anything_may_be_sent(folder):
+    """A faulty player whose bytes look like a text or a book: turned away, recorded, and no hindrance to the next start or the evening."""
+    for name, record in (("a text", b"\ntime 1234567890\n"), ("a book", b"RBK\0\5" + bytes(12))):
+        work = shop(folder / "shop")
+        sent = record + EVENTS
+        check(f"{name} first", len(record) == SIZE and serve(work, sent[:5 * SIZE]).out == answers(sent[:5 * SIZE]))
+        check(f"{name} first: started again", serve(work, sent[5 * SIZE:]).out == answers(sent[5 * SIZE:], sent[:5 * SIZE]))
+        file = work / f"events-{today()}.bin"
+        done = call("left", work / "rights.rbk", "--after", file)
+        check(f"{name} first: what is left", done.status == 0, done)
+        done = call("close", work / "rights.rbk", file)
+        check(f"{name} first: closed", done.status == 0 and (work / "rights.rbk").read_bytes() == image_after(IMAGE, sent), done)
+
+
+def test_a_folder_that_cannot_be_written(folder):
+    work = shop(folder / "shop")
+    (work / ".serving").write_bytes(b"a file of this name")
+    done = serve(work, EVENTS)
+    check("a folder in which it cannot start", done.status == 2 and done.out == b"" and "Traceback" not in done.err
+          and ".serving" in done.err and recorded(work) == b"", done)
+
+
 def test_input_that_does_not_block(folder):
     work = shop(folder / "shop")
     read, write = os.pipe()

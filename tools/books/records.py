@@ -104,8 +104,10 @@ def widen(short_records, records, over=False):
 
 def read_records(path):
     """The bytes of a file of event records. What is plainly none, by its first bytes, is refused. Any other bytes are records, and are
-    answered; a note says so if they look like the shorter ones."""
+    answered; a note says so if they look like the shorter ones. What a server has recorded is not judged: players send anything."""
     data = read_bytes(path)
+    if began_with(path) is not None:
+        return data
     refuse_others(path, data)
     if len(data) % SHORT == 0 and len(data) % SIZE:
         print(f"note: {path} has {len(data)} bytes, a whole number of records of {SHORT} bytes, as before order 4, and not of {SIZE};"

@@ -40,13 +40,13 @@ def serve(folder):
         build_step("the run program, about 4 minutes on a fresh machine", "the command of the Rattle kit", ["rt", "check", "run"])
     build("after")
     folder = Path(folder)
-    with alone_in(folder):
-        image = standing(folder)
-        path = file_for_today(folder, image)
-        try:
+    try:
+        with alone_in(folder):
+            image = standing(folder)
+            path = file_for_today(folder, image)
             return record_and_answer(path, *started_in(folder, image))
-        except OSError as problem:
-            raise Trouble(f"serve: {problem.filename or path}: {reason(problem)}") from None
+    except OSError as problem:
+        raise Trouble(f"serve: {problem.filename or folder}: {reason(problem)}") from None
 
 
 # ---- The book to start from
