@@ -196,6 +196,9 @@ def test_refused(folder):
         damaged[at] ^= 1
         (folder / "damaged").write_bytes(damaged)
         refused(f"show: such a file with byte {at} wrong", "is not accepted", "show", folder / "damaged")
+    many = b"RBS\0\1" + len(IMAGE).to_bytes(4, "big") + (65).to_bytes(4, "big") + IMAGE + bytes(24 * 65)
+    (folder / "damaged").write_bytes(many + zlib.crc32(many).to_bytes(4, "big"))
+    refused("show: such a file with 65 lines", "is not accepted: its length", "show", folder / "damaged")
     refused("show: such a file cut short", "is not accepted: it", "show", "-", stdin=saved.read_bytes()[:16])
     handle = os.open(folder, os.O_RDONLY)
     fcntl.flock(handle, fcntl.LOCK_EX)

@@ -2,6 +2,8 @@
 
 import zlib
 
+import rights
+
 from .words import Trouble
 
 MARK = b"RBS"
@@ -18,7 +20,7 @@ def image_of(path, data):
     if int.from_bytes(data[3:5], "big") != VERSION:
         raise damaged(path, "its version is not known")
     length, lines = int.from_bytes(data[5:9], "big"), int.from_bytes(data[9:13], "big")
-    if len(data) != HEAD + length + LINE * lines + SUM:
+    if lines > rights.LINES or len(data) != HEAD + length + LINE * lines + SUM:
         raise damaged(path, "its length is not the one that it tells")
     if zlib.crc32(data[:-SUM]) != int.from_bytes(data[-SUM:], "big"):
         raise damaged(path, "its check sum is wrong")
