@@ -136,6 +136,15 @@ def test_other_pairs(folder):
     check("close: it is the book", done.status == 0 and book.read_bytes() == image_after(plain, days_of[0][:34] + days_of[1][:85])
           and not events.exists(), done)
 
+    anew = b"".join(rights.encode(rights.Event(2, 2**32 + count, rights.STOP, 0, 0, 100_000)) for count in range(1, 11))
+    book.write_bytes(plain)
+    second = b"".join(record for record in rights.records_in(days_of[1]) if record[0] != 2)
+    events.write_bytes(second + anew)          # most requests are in line, those of a player that was started anew
+    changes_nothing("close: the second day of most players", f"2 of 3 players are turned away by number at their first request: {question}",
+                    folder, "close", book, events)
+    events.write_bytes(second[:17] + anew)
+    check("close: one player of two has lost count", call("close", book, events).status == 0)
+
     ones = b"".join(rights.encode(rights.Event(player, 1, rights.BEGIN, 1, 1, 1000)) for player in range(16))
     book.write_bytes(image_after(plain, ones))
     events.write_bytes(ones)

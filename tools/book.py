@@ -39,7 +39,8 @@ folder closed-DATE beside BOOK, DATE being that of the last request taken, with 
 and the books before and after (book-DATE.rbk, next-DATE.rbk), puts the next book in BOOK's place, and removes EVENTS, which the folder
 has: all of it or nothing. Records that do not go on from BOOK are refused, with the reason; if BOOK is the right one all the same, give
 --sure. `after`, `report` and `close` say on standard error how many requests were granted, refused and turned away, by code, and how many
-were sent again; where most do not go on from the book, `after` and `report` ask whether it is the right one.
+were sent again; where most of them, or the first ones of most players, do not go on from the book, `after` and `report` ask whether it
+is the right one.
 
 `import` reads an XML rights object as issuers send it (docs/FORMAT.md), with that library too. A text that is not accepted
 writes nothing and is told with its line and column (in bytes), the code and why: `rights.xml: line 12, column 21: 41: the

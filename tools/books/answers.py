@@ -28,9 +28,12 @@ class Tally:
         self.refused, self.away = Counter(), Counter()
         latest = {index: (player.number, player.operation, player.asset, player.kind) for index, player in enumerate(book.players)}
         asked = set()
+        self.first = {}             # the code of each player's first request
         for record, line in zip(rights.records_in(records), answers.split(b"\n")):
             code, event = int(line.split()[0]), rights.decode(record)
             self.all += 1
+            if isinstance(event, rights.Event):
+                self.first.setdefault(event.player, code)
             if code not in rights.TAKEN:
                 self.away[code] += 1
                 continue
@@ -54,12 +57,14 @@ class Tally:
                 f" {by_code('turned away', self.away)}{again}")
 
     def doubt(self):
-        """A question to the user where most requests do not go on from the book; None otherwise."""
+        """A question to the user where most requests, or the first ones of most players, do not go on from the book; None otherwise."""
         numbers, away = self.away[3] + self.away[4], sum(self.away.values())
-        for many, how in ((numbers, "turned away by number"), (away, "turned away"),
-                          (away + self.known, "turned away or in the book already")):
-            if 2 * many > self.all:
-                return f"{many} of {self.all} requests are {how}: is this the book with which these records began?"
+        firsts = sum(code in (3, 4) for code in self.first.values())
+        for many, of, how in ((numbers, self.all, "requests are turned away by number"), (away, self.all, "requests are turned away"),
+                              (away + self.known, self.all, "requests are turned away or in the book already"),
+                              (firsts, len(self.first), "players are turned away by number at their first request")):
+            if 2 * many > of:
+                return f"{many} of {of} {how}: is this the book with which these records began?"
         return None
 
 
