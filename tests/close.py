@@ -218,12 +218,12 @@ def test_refused(folder):
 
 # ---- All or nothing
 
-CALLS = ("rename", "replace", "unlink", "link", "fsync", "chmod", "fchmod", "open")
+CALLS = ("mkdir", "rename", "replace", "unlink", "link", "fsync", "chmod", "fchmod", "open")
 
 
 def with_fault(step, fault, book, events):
-    """Runs `close` in a child in which the step-th of its calls that touch the disk has a fault; returns its exit status, or None if it
-    has fewer of them."""
+    """Runs `close` in a child in which the step-th of its CALLS has a fault; returns its exit status, or None if it has fewer of them.
+    Writes to an open file are not among them."""
     child = os.fork()
     if child == 0:
         made = 0
@@ -253,7 +253,7 @@ def with_fault(step, fault, book, events):
 
 
 def test_killed_anywhere(folder):
-    """Killed before any of its calls: nothing is lost, and called again it ends what it began."""
+    """Killed before any of its CALLS: nothing is lost, and called again it ends what it began."""
     killed, parts = 0, []
     for name in ("events.bin", "events-2026-12-24.bin"):
         for step in range(1, 200):
@@ -282,7 +282,7 @@ def test_killed_anywhere(folder):
 
 
 def test_faults_anywhere(folder):
-    """A disk that is full at any of its calls: refused and everything as it was, or closed."""
+    """A disk that is full at any of its CALLS: refused and everything as it was, or closed."""
     def full():
         raise OSError(errno.ENOSPC, "No space left on device")
 
