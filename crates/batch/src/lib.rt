@@ -4,6 +4,8 @@
 // Kept beside the book is what each event would otherwise recompute: a lower bound of the next until, so that settling costs one
 // comparison when nothing is due, the end of each player's use, a row for each entry with what the choice needs to know of it, and
 // the assets by number.
+#![tactic(auto)]
+
 ghost use Rattle.std.specs.Prelude.{◌≡◌, cond};
 ghost use Rattle.model.specs.Record.{decoded};
 ghost use Rattle.batch.specs.Block.{Answered};
@@ -24,7 +26,7 @@ use text::put_line;
 use uses::{begin_on, cancel_on, continue_on, ended_meters, kept, stop_on};
 
 // The book and the lines after the records, how many of the lines were lent, and how many bytes of text were written.
-#[derive(Drop)]
+#[derive(Clone, Copy)]
 pub struct Block {
     pub book: Book,
     pub lines: [Line; 64],

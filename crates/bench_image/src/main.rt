@@ -1,10 +1,12 @@
 // Reads an image of the greatest size and writes it back, many times over in memory, for timing.
 // It prints the last answer and the last length.
+#![tactic(auto)]
+
 use book::Book;
 
 const IMAGE: usize = 5399;
 
-#[derive(Drop)]
+#[derive(Clone, Copy)]
 struct Turn {
     code: u8,
     length: usize,

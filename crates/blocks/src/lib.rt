@@ -1,1 +1,2 @@
 // No code: the laws of blocks are in specs/.
+#![tactic(auto)]

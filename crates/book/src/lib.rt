@@ -1,6 +1,8 @@
 // The book of rights, an event and an answer: the types that every crate uses, their blank values, and table lookup.
 // What no event changes (limits) is kept apart from what events change (meters), so that a new field goes into one struct only.
 // Fields to which an image can give an illegal value (a kind of 9, an open mark of 2) are plain numbers here; the reader validates them.
+#![tactic(auto)]
+
 ghost use Rattle.std.specs.Prelude.{◌≡◌, min, get_or};
 ghost use Rattle.book.specs.Blank.{no_asset, no_entry, no_player, no_book, closed, no_line};
 
@@ -24,7 +26,7 @@ pub const RECORD_SIZE: usize = 17;
 
 pub const RECORD_LAST: usize = RECORD_SIZE - 1;
 
-#[derive(Drop)]
+#[derive(Clone, Copy)]
 pub struct Asset {
     pub number: u16,
     pub inherit: u16,
@@ -33,7 +35,7 @@ pub struct Asset {
 
 // What an entry allows. The flags say which limits hold. Tracked is 1 if its uses count in the report: one time for a use of at least
 // timedvalue seconds. Mark is contentAccessGranted. Threshold is how many players may have it open together, 0 for any number.
-#[derive(Drop)]
+#[derive(Clone, Copy)]
 pub struct Limits {
     pub object: u16,
     pub asset: u16,
@@ -54,7 +56,7 @@ pub struct Limits {
 
 // An entry's usage so far. Started is 0 or 1, first is the time at which the interval began. Marks has bit p set if player p has the
 // entry open.
-#[derive(Drop)]
+#[derive(Clone, Copy)]
 pub struct Meters {
     pub count: u32,
     pub timed: u32,
@@ -64,14 +66,14 @@ pub struct Meters {
     pub marks: u32,
 }
 
-#[derive(Drop)]
+#[derive(Clone, Copy)]
 pub struct Entry {
     pub limits: Limits,
     pub meters: Meters,
 }
 
 // What is returned for an event: a code of document 01's table (0 for a grant), the entry's position, and until.
-#[derive(Drop)]
+#[derive(Clone, Copy)]
 pub struct Answer {
     pub code: u8,
     pub entry: u8,
@@ -80,7 +82,7 @@ pub struct Answer {
 
 // A player's latest taken event, with the answer that a resend gets. Number 0 means none yet; a number's upper 32 bits are a player's
 // boot number, its lower ones the counter.
-#[derive(Drop)]
+#[derive(Clone, Copy)]
 pub struct Last {
     pub number: u64,
     pub operation: u8,
@@ -90,7 +92,7 @@ pub struct Last {
 }
 
 // The use that a player has open, if on is 1. Content is the asset that its begin asked for.
-#[derive(Drop)]
+#[derive(Clone, Copy)]
 pub struct Open {
     pub on: u8,
     pub entry: u8,
@@ -99,7 +101,7 @@ pub struct Open {
     pub content: u32,
 }
 
-#[derive(Drop)]
+#[derive(Clone, Copy)]
 pub struct Player {
     pub last: Last,
     pub current: Open,
@@ -107,7 +109,7 @@ pub struct Player {
 
 // One line of the usage report: how often and for how many seconds a content was used.
 #[repr(C)]
-#[derive(Drop)]
+#[derive(Clone, Copy)]
 pub struct Line {
     pub content: u64,
     pub times: u64,
@@ -115,14 +117,14 @@ pub struct Line {
 }
 
 // The event taken last: its player plus 1, 0 for none, and 1 if it opened a use that started its entry's interval.
-#[derive(Drop)]
+#[derive(Clone, Copy)]
 pub struct Latest {
     pub player: u32,
     pub started: u32,
 }
 
 // Slots past the counts are blank in a legal book, so that equal books are equal values. Switch is 1 if uses are metered for the report.
-#[derive(Drop)]
+#[derive(Clone, Copy)]
 pub struct Book {
     pub time: u32,
     pub switch: u32,
@@ -134,7 +136,7 @@ pub struct Book {
     pub players: [Player; 16],
 }
 
-#[derive(Drop)]
+#[derive(Clone, Copy)]
 pub enum Kind {
     Play,
     Display,
@@ -144,7 +146,7 @@ pub enum Kind {
 }
 
 // Cancel takes a begin back: the film did not load.
-#[derive(Drop)]
+#[derive(Clone, Copy)]
 pub enum Request {
     Begin(Kind, u16),
     Continue,
@@ -152,7 +154,7 @@ pub enum Request {
     Cancel,
 }
 
-#[derive(Drop)]
+#[derive(Clone, Copy)]
 pub struct Event {
     pub player: u8,
     pub number: u64,
@@ -161,7 +163,7 @@ pub struct Event {
 }
 
 // Who asks, and when, and the book's switch: what the choice of an entry reads besides the entries.
-#[derive(Drop)]
+#[derive(Clone, Copy)]
 pub struct Ask {
     pub player: u8,
     pub time: u32,
@@ -170,14 +172,14 @@ pub struct Ask {
 
 // What a cancel reads of the event taken last: whether it was the asking player's begin of the use that it has open, and whether that
 // started the interval.
-#[derive(Drop)]
+#[derive(Clone, Copy)]
 pub struct Recent {
     pub begun: bool,
     pub started: bool,
 }
 
 // What stands against granting an entry, each ground under its name.
-#[derive(Drop)]
+#[derive(Clone, Copy)]
 pub struct Grounds {
     pub countspent: bool,
     pub timedspent: bool,
@@ -191,14 +193,14 @@ pub struct Grounds {
 }
 
 // What the bytes of an event record decode to: an event, or the code that refuses them.
-#[derive(Drop)]
+#[derive(Clone, Copy)]
 pub enum Decoded {
     Invalid(u8),
     Valid(Event),
 }
 
 // What the checks say of an event before the book is touched: turned away with a code, a resend, or taken.
-#[derive(Drop)]
+#[derive(Clone, Copy)]
 pub enum Gate {
     Refuse(u8),
     Resend,
@@ -206,7 +208,7 @@ pub enum Gate {
 }
 
 // What entries are ordered by, field by field: the smaller number comes first.
-#[derive(Drop)]
+#[derive(Clone, Copy)]
 pub struct Rank {
     pub flags: u8,
     pub last: u64,
@@ -214,14 +216,14 @@ pub struct Rank {
 }
 
 // The answer to an event, and the book after it.
-#[derive(Drop)]
+#[derive(Clone, Copy)]
 pub struct Outcome {
     pub answer: Answer,
     pub book: Book,
 }
 
 // The same with the lines of the report after it.
-#[derive(Drop)]
+#[derive(Clone, Copy)]
 pub struct Reported {
     pub answer: Answer,
     pub book: Book,

@@ -1,4 +1,6 @@
 // The calendar by the leap-year rule: the days of a month, and the days from 1970-01-01 to its first, from a table.
+#![tactic(auto)]
+
 ghost use Rattle.std.specs.Prelude.{◌≡◌, cond, ◌<◌};
 ghost use Rattle.numbers.specs.Count.{sum};
 ghost use Rattle.xml_model.specs.Calendar.{leap, month_days, month_length, in_calendar, days_before};

@@ -3,6 +3,8 @@
 // Then the entry that the begin gets: among the suitable and grantable ones, the one that comes first in document 01's order.
 // A loop over the entries keeps the best so far. It considers one entry per turn, through a row that holds what the choice needs to
 // know of it.
+#![tactic(auto)]
+
 ghost use Rattle.std.specs.Prelude.{◌≡◌, min};
 ghost use Rattle.choice.specs.Reach.{table_of, found_in, reach_in};
 ghost use Rattle.choice.specs.Best.{best_after};
@@ -13,14 +15,14 @@ use numbers::{one, pick16, pick64};
 use rules::{flags_of, last_moment, ranks_before, threshold_full, when};
 
 // The asset with that number, blank if there is none.
-#[derive(Drop)]
+#[derive(Clone, Copy)]
 pub struct Found {
     pub there: bool,
     pub asset: Asset,
 }
 
 // Parent 0: none.
-#[derive(Drop)]
+#[derive(Clone, Copy)]
 pub struct Reach {
     pub usable: bool,
     pub parent: u16,
@@ -76,7 +78,7 @@ pub fn reach_of(assets: [Asset; 64], count: u8, number: u16) -> Reach
 
 // Whether any entry is suitable, whether one of them fails for the switch only, the position of the best grantable one (64 if there is
 // none), and its rank.
-#[derive(Drop)]
+#[derive(Clone, Copy)]
 pub struct Best {
     pub suits: bool,
     pub switched: bool,
@@ -87,7 +89,7 @@ pub struct Best {
 // The entry is grantable from start (0 if none is flagged) until before window (its last moment, or 0 if a count or the seconds are
 // spent, the interval is 0, or the threshold is full); if it is guarded, only with the switch on. Flags and window are the rank of an
 // entry that is grantable; whether it is inherited depends on the asset asked for.
-#[derive(Drop)]
+#[derive(Clone, Copy)]
 pub struct Row {
     pub asset: u16,
     pub kind: u8,

@@ -1,5 +1,7 @@
 // The book of rights for servers written in C or Rust: functions on numbers and bytes, linked as a static library.
 // No state is kept between calls. The book is passed as its image, which the caller keeps and lends.
+#![tactic(auto)]
+
 ghost use Rattle.std.specs.Prelude.{◌≡◌, length, get_or};
 ghost use Rattle.book.specs.Blank.{no_entry};
 ghost use Rattle.model.specs.Meters.{settled};
@@ -51,7 +53,7 @@ pub extern "C" fn rights_check(image: &[u8]) -> u8
 }
 
 // What a call leaves whose lines are held by value: its result, and the lines.
-#[derive(Drop)]
+#[derive(Clone, Copy)]
 struct Returned {
     code: u8,
     lines: [Line; 64],

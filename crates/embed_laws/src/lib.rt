@@ -1,1 +1,2 @@
 // No code: the laws of the library's calls are in specs/.
+#![tactic(auto)]

@@ -1,4 +1,6 @@
 // An event's six numbers as the 17 bytes of a record.
+#![tactic(auto)]
+
 ghost use Rattle.std.specs.Prelude.{◌≡◌};
 ghost use Rattle.numbers.specs.Fields.{laid_out};
 ghost use Rattle.model.specs.Record.{record_widths};

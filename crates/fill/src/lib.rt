@@ -1,4 +1,6 @@
 // Copies values to the start of a lent buffer: all of them, or none, returning 30, if it is too short.
+#![tactic(auto)]
+
 ghost use Rattle.std.specs.Prelude.{◌≡◌, length};
 ghost use Rattle.fill.specs.Fill.{fill_code, filled};
 

@@ -1,5 +1,7 @@
 // Reading an image, stages 24 and 25: the rules for assets and for the limits of entries.
 // Each function is defined for every value of its types, whether or not an image can hold it.
+#![tactic(auto)]
+
 ghost use Rattle.std.specs.Prelude.{◌≡◌};
 ghost use Rattle.model.specs.Book.{asset_position, asset_legal, assets_legal, limit, ranges_legal, track_legal, limits_legal, entries_legal};
 

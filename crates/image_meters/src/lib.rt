@@ -1,5 +1,7 @@
 // Reading an image, stage 27: the rules for meters, which have to cover the players' open uses, and for marks, which have to be those.
 // Each function is defined for every value of its types, whether or not an image can hold it.
+#![tactic(auto)]
+
 ghost use Rattle.std.specs.Prelude.{◌≡◌, cond};
 ghost use Rattle.model.specs.Book.{meter_legal, start_legal, lasts, open_seconds, meters_cover, marks_legal, entry_meters_legal, meters_legal};
 

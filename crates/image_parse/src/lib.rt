@@ -1,5 +1,7 @@
 // The first half of reading an image: the header is checked, and the tables after it are read into a book, by the layout of the
 // image's version. An older image gets the marks that it lacks. The contents of the tables are not checked here.
+#![tactic(auto)]
+
 ghost use Rattle.std.specs.Prelude.{◌≡◌, cond, ◌+◌, ◌*◌, ◌<◌, ◌≤◌, length, leb, eqb};
 ghost use Rattle.numbers.specs.Fields.{bits8, bits16, bits32, bits64, number_at};
 ghost use Rattle.book.specs.Blank.{no_book};
@@ -18,7 +20,7 @@ use image_pieces::{
 use rules::marks_of;
 
 // Code 0: the header is valid, and the book is what the bytes hold. Any other code: the book is blank.
-#[derive(Drop)]
+#[derive(Clone, Copy)]
 pub struct Parsed {
     pub code: u8,
     pub book: Book,

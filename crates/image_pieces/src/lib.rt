@@ -4,6 +4,8 @@
 // place.
 // Each contract gives the whole array: the piece's values in its widths. A piece has few bytes, since the checker takes only some
 // fifty such casts in one literal; what a version adds to a record is a piece of its own.
+#![tactic(auto)]
+
 ghost use Rattle.std.specs.Prelude.{◌≡◌, ◌*◌, ◌≤◌, [], ◌∷◌};
 ghost use Rattle.numbers.specs.Fields.{bits32, laid_out};
 ghost use Rattle.model.specs.Image.{header_size, asset_size, entry_size, player_size, image_length};

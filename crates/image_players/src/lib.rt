@@ -1,5 +1,7 @@
 // Reading an image, stage 26: the rules for players, the use that each may have open, and the event taken last.
 // Each function is defined for every value of its types, whether or not an image can hold it.
+#![tactic(auto)]
+
 ghost use Rattle.std.specs.Prelude.{◌≡◌, cond};
 ghost use Rattle.model.specs.Book.{player_blank, answer_legal, inside_dates, inside_interval, content_legal, use_legal, open_legal};
 ghost use Rattle.model.specs.Book.{player_legal, players_legal, started_legal, latest_legal, latest_passes};

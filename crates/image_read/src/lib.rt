@@ -1,4 +1,6 @@
 // Reads an image: gives the book in the bytes if no rule is broken, otherwise the book held before.
+#![tactic(auto)]
+
 ghost use Rattle.std.specs.Prelude.{◌≡◌, cond, eqb};
 ghost use Rattle.model.specs.Book.{rule_broken};
 ghost use Rattle.model.specs.Image.{read_code, read_book};
@@ -7,7 +9,7 @@ use book::Book;
 use image_parse::Parsed;
 
 // Code 0: the image is accepted. Any other code is a number of document 01's table.
-#[derive(Drop)]
+#[derive(Clone, Copy)]
 pub struct Loaded {
     pub code: u8,
     pub book: Book,

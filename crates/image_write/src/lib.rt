@@ -1,5 +1,7 @@
 // Writes the image of a book into a lent buffer: the header, then the assets, the entries and the players, record by record.
 // A buffer that is too short is left untouched.
+#![tactic(auto)]
+
 ghost use Rattle.std.specs.Prelude.{◌≡◌, ◌+◌, ◌*◌, ◌≤◌, min, length, get_or, ◌++◌};
 ghost use Rattle.numbers.specs.Count.{joined};
 ghost use Rattle.numbers.specs.Buffer.{lay};

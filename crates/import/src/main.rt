@@ -1,5 +1,7 @@
 // The import program: a rights object in XML on standard input, the image of its fresh book on standard output, and the line
 // `code elements` on standard error. A text that is refused leaves standard output empty.
+#![tactic(auto)]
+
 use xml_image::Imported;
 
 // One byte more than the longest text that the program takes: these bytes are enough to refuse a longer one.

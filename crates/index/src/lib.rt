@@ -3,6 +3,8 @@
 // computed once per change, not once for each begin that looks at the entry.
 // What a begin reaches for each asset number, as two tables filled once for many begins: the position of a usable asset by its number,
 // and the parent by position. No event changes an asset, so these stay valid as long as the book is served.
+#![tactic(auto)]
+
 ghost use Rattle.std.specs.Prelude.{◌≡◌, map, ◌<◌, cond};
 ghost use Rattle.index.specs.Ends.{end_of, end_of_player};
 ghost use Rattle.index.specs.Rows.{row_of_entry};

@@ -2,6 +2,8 @@
 // The rule is the one for settling by value: the lent record is copied out, settled and stored back. The event loops own their players
 // and settle them through `shut_player`, which lends a record to `settle_in_place`, so that the proofs of the loops need not step
 // through the code by hand.
+#![tactic(auto)]
+
 ghost use Rattle.std.specs.Prelude.{◌≡◌};
 ghost use Rattle.model.specs.Meters.{shut};
 

@@ -1,5 +1,7 @@
 // What metering needs of a book: whether a list of lines is one for it, and what the uses that an event ends record in the lines.
 // The lines are held by value, in 64 places; how many of them were lent is passed beside them.
+#![tactic(auto)]
+
 ghost use Rattle.std.specs.Prelude.{◌≡◌, cond};
 ghost use Rattle.model.specs.Meters.{expired};
 ghost use Rattle.model.specs.Report.{raised, recorded, recorded_all, overdue, ended_by};

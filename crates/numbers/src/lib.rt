@@ -1,5 +1,7 @@
 // Numbers: read from bytes, most significant byte first; picked by a test; the smaller of two; a difference that stops at 0; the bits
 // of a mask.
+#![tactic(auto)]
+
 ghost use Rattle.std.specs.Prelude.{◌≡◌, cond, ◌+◌, ◌*◌, ◌-◌, ◌^◌, ◌<◌, min, [], ◌∷◌};
 ghost use Rattle.numbers.specs.Bits.{ones, put_bit};
 ghost use Rattle.numbers.specs.Count.{one};

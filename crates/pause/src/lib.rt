@@ -1,4 +1,6 @@
 // A short wait: the kit has no way to wait for a descriptor, so a non-blocking one is tried again after this.
+#![tactic(auto)]
+
 use libc::types::timespec;
 
 fn span(seconds: i64, nanos: i64) -> timespec {

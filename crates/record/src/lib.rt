@@ -1,4 +1,6 @@
 // Decodes the bytes of an event record into an event or the code that refuses them: 6, then 2, then 1.
+#![tactic(auto)]
+
 ghost use Rattle.std.specs.Prelude.{◌≡◌};
 ghost use Rattle.model.specs.Book.{request_legal};
 ghost use Rattle.model.specs.Record.{kind_of, request_of, decoded};

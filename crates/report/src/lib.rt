@@ -1,5 +1,7 @@
 // The usage report: a lent list of lines, one of which is raised when a use ends. The loops own their lines as an array: the list is
 // taken by value and stored back, and a line is raised where it is lent.
+#![tactic(auto)]
+
 ghost use Rattle.std.specs.Prelude.{◌≡◌, min};
 ghost use Rattle.model.specs.Report.{sum64};
 ghost use Rattle.report.specs.Report.{raised_line, raised_at, taken_lines, given_lines};

@@ -4,6 +4,8 @@
 // Besides, the marks of an entry that follow from the players' open uses: the reader sets them for an older image, and rule 27 asks for
 // them in every image.
 // Every function is total, and its contract gives its whole result.
+#![tactic(auto)]
+
 ghost use Rattle.std.specs.Prelude.{◌≡◌, ◌+◌, ◌-◌, ltb};
 ghost use Rattle.model.specs.Book.{grant_length, is_group, momentary, opens, marks_of};
 ghost use Rattle.model.specs.Record.{kind_number};
@@ -24,7 +26,7 @@ use book::{
 use numbers::{min_wide, one, ones, pick32, pick64, saturating_sub};
 
 // The three numbers of a request, as event records and images have them.
-#[derive(Drop)]
+#[derive(Clone, Copy)]
 pub struct Wire {
     pub operation: u8,
     pub asset: u16,
@@ -32,7 +34,7 @@ pub struct Wire {
 }
 
 // Which limits of an entry are flagged.
-#[derive(Drop)]
+#[derive(Clone, Copy)]
 pub struct Flags {
     pub count: bool,
     pub timed: bool,

@@ -2,6 +2,8 @@
 // This crate only reads and writes: crate `turn` does the work between two reads, and the crates below it define what images and
 // records mean.
 // The bytes of one read are answered in one write before the next read, so that a player at a pipe need not wait for others.
+#![tactic(auto)]
+
 ghost use Rattle.std.specs.Prelude.{◌≤◌, length};
 
 use book::{Book, Line, at_most_64};

@@ -1,6 +1,8 @@
 // One event on a book passed by value: the checks, settling, what begin, continue, stop and cancel do, and the resulting
 // book.
 // The rules are in the crates below and work on one entry and one player; this crate reads both from the book and stores the results.
+#![tactic(auto)]
+
 ghost use Rattle.std.specs.Prelude.{◌≡◌, ◌≤◌};
 ghost use Rattle.model.specs.Book.{latest_time};
 ghost use Rattle.model.specs.Step.{refusal, do_begin, do_continue, do_stop, do_cancel, done, taken_step, step, last_at};
@@ -21,7 +23,7 @@ use report::{give_lines, take_lines};
 use uses::Effect;
 
 // What an operation leaves, and at which entry; 64 if it leaves all entries unchanged.
-#[derive(Drop)]
+#[derive(Clone, Copy)]
 struct Act {
     at: usize,
     part: Effect,

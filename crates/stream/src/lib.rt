@@ -1,9 +1,11 @@
 // Reading and writing of the programs. A descriptor that does not block, and a signal that comes first, are waited for.
 // No contract can say what a system call reads or writes: these functions are proved to be safe and to end.
+#![tactic(auto)]
+
 ghost use Rattle.std.specs.Prelude.{◌≤◌, length};
 
 // What was read of an input: all of it, or as much as there was room for; good is false if a read failed.
-#[derive(Drop)]
+#[derive(Clone, Copy)]
 pub struct Input {
     pub good: bool,
     pub length: usize,

@@ -4,6 +4,8 @@
 // passed by value, with 64 lines lent as a list. Both begin with zeros. If the two differ, in the text, in the final book or in the final
 // lines of the report, a line says so.
 // A day is stored as the image's length (32 bits, big-endian), the image, the length of the event bytes (32 bits), and those bytes.
+#![tactic(auto)]
+
 ghost use Rattle.std.specs.Prelude.{◌≡◌, ◌<◌, ◌≤◌};
 ghost use Rattle.model.specs.Report.{receive, lines_left, lent};
 ghost use Rattle.step.specs.Lines.{outcome_of};
@@ -14,7 +16,7 @@ use image_read::Loaded;
 use text::put_line;
 use turn::OUT;
 
-#[derive(Drop)]
+#[derive(Clone, Copy)]
 struct Head {
     more: bool,
     length: usize,

@@ -1,11 +1,13 @@
 // Reads the stored images of cases.bin in turn and prints one line for each: the number of a refusal,
 // or 0 and the bytes, in hexadecimal, that the book read from it is written back as.
 // Each image is read with the last accepted book held; a refusal that does not return that book is marked.
+#![tactic(auto)]
+
 use book::Book;
 
 const IMAGE: usize = 5399;
 
-#[derive(Drop)]
+#[derive(Clone, Copy)]
 struct Turn {
     more: bool,
     book: Book,

@@ -3,24 +3,26 @@
 // A case is stored as the image's length (0: the book of the case before), the image, the record's length, the record, whether a list
 // follows (0: the list of the case before), the number of its lines, the first 64 of them, whether the record changes them (0 or 1), and
 // if it does, these lines after it. Numbers are big-endian, 32 bits each, those of a line 64.
+#![tactic(auto)]
+
 use book::{Book, Line, RECORD_SIZE};
 use image_read::Loaded;
 use text::put_line;
 
-#[derive(Drop)]
+#[derive(Clone, Copy)]
 struct Head {
     more: bool,
     number: usize,
 }
 
-#[derive(Drop)]
+#[derive(Clone, Copy)]
 struct Lent {
     lines: [Line; 64],
     count: usize,
 }
 
 // What is left for the next case.
-#[derive(Drop)]
+#[derive(Clone, Copy)]
 struct Next {
     more: bool,
     book: Book,

@@ -1,10 +1,12 @@
 // Reads the stored texts of cases.bin in turn and prints one line for each: the number of a refusal, or 0, the number of elements and
 // the bytes, in hexadecimal, of the image of the text's book.
+#![tactic(auto)]
+
 use xml_image::Imported;
 
 const IMAGE: usize = 5399;
 
-#[derive(Drop)]
+#[derive(Clone, Copy)]
 struct Head {
     more: bool,
     length: usize,

@@ -1,5 +1,7 @@
 // Puts the line of one answer, as the run program prints it, into a lent buffer.
 // What most lines hold (a code, an entry, a time of ten digits, a refusal's end) is written without a loop.
+#![tactic(auto)]
+
 ghost use Rattle.std.specs.Prelude.{◌≡◌, ◌+◌, ◌<◌, ◌≤◌, length};
 ghost use Rattle.numbers.specs.Buffer.{lay};
 ghost use Rattle.model.specs.Run.{decimal};

@@ -1,6 +1,8 @@
 // What the run program does between its reads and writes: a turn, from one read of the input to the next, and loading the book from the
 // bytes of rights.rbk, with the list of lines to begin with. This crate does no input or output, so the contracts can state everything
 // it does.
+#![tactic(auto)]
+
 ghost use Rattle.std.specs.Prelude.{◌≡◌, cond, List, ◌++◌, ℕ, ◌+◌, ◌≤◌, length, take, drop};
 ghost use Rattle.book.specs.Blank.{no_book};
 ghost use Rattle.model.specs.Image.{read_code, read_book};
@@ -25,7 +27,7 @@ pub const IMAGE: usize = 5400;
 
 // The next book and lines, how many bytes of text are at the start of the output buffer, and how many of the next record are at the
 // start of the input buffer. Done is false if n was more than the input buffer holds.
-#[derive(Drop)]
+#[derive(Clone, Copy)]
 pub struct Turned {
     pub done: bool,
     pub book: Book,

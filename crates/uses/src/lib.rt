@@ -1,6 +1,8 @@
 // A use of one entry: begin, continue, stop and cancel on the entry's limits and meters and the asking player's open use, and the
 // settling of a use.
 // Every function is total. A time that no event has (above 4000000000) grants nothing, so no sum passes 32 bits.
+#![tactic(auto)]
+
 ghost use Rattle.std.specs.Prelude.{◌≡◌, cond, ◌≤◌};
 ghost use Rattle.model.specs.Book.{latest_time};
 ghost use Rattle.model.specs.Meters.{expired, shut, begun, continued, ended, cancelled};
@@ -16,7 +18,7 @@ use rules::{begin_code, flags_of, grantable, least_until, momentary, when};
 
 // What an operation leaves: the answer, the entry's meters, the asking player's use, and whether it opened a use that started the
 // interval.
-#[derive(Drop)]
+#[derive(Clone, Copy)]
 pub struct Effect {
     pub answer: Answer,
     pub meters: Meters,

@@ -1,5 +1,7 @@
 // The contents of a book as plain numbers, for callers that do not have its structs: the fields in image order,
 // what is left of an entry, and what stands against granting it.
+#![tactic(auto)]
+
 ghost use Rattle.std.specs.Prelude.{◌≡◌};
 ghost use Rattle.numbers.specs.Count.{one};
 ghost use Rattle.model.specs.Image.{newest, asset_values, entry_values};

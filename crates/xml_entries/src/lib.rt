@@ -1,5 +1,7 @@
 // What the last tag of an asset and of a kind adds to the book: the asset, and the entries of the kind. Rules 24 and 25 are those of
 // the reader of images.
+#![tactic(auto)]
+
 ghost use Rattle.std.specs.Prelude.{◌≡◌, ◌+◌, ◌<◌, ◌≤◌};
 ghost use Rattle.model.specs.Book.{assets_in, entries_in, in_book, limits_legal};
 ghost use Rattle.xml_model.specs.State.{named, for_asset, with_one_asset, asset_done, how_many, asset_for, limits_for, kind_legal};

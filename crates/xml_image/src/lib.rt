@@ -1,11 +1,13 @@
 // A rights object in XML to the image of its fresh book: the reader of texts and the writer of images, one behind the other.
+#![tactic(auto)]
+
 ghost use Rattle.std.specs.Prelude.{◌≡◌, length};
 ghost use Rattle.xml_image.specs.Imported.{imported_from, buffer_from, imported, import_buffer};
 
 use fill::NO_ROOM;
 use xml_model::Reading;
 
-#[derive(Drop)]
+#[derive(Clone, Copy)]
 pub struct Imported {
     pub code: u8,
     pub elements: u16,

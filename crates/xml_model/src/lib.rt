@@ -1,11 +1,13 @@
 // The types of the reader of XML rights objects (order 1 of document 02). No code: what a reader must believe is in specs/, and
 // the theorems about it are in proofs/. A place in the text is the number of bytes in front of it; a range goes from its first
 // byte to the place behind its last.
+#![tactic(auto)]
+
 use book::{Asset, Book, Limits};
 
 // An attribute: its name and, between the quotes, its value. Code 0, or 40 or 41 where the scan is stuck; `to` is then how far
 // it looked.
-#[derive(Drop)]
+#[derive(Clone, Copy)]
 pub struct Attribute {
     pub code: u8,
     pub name: usize,
@@ -15,7 +17,7 @@ pub struct Attribute {
 }
 
 // What follows the name of a tag: its attributes and its end. Form 0 is `>`, 1 is `/>`; next is the place behind it.
-#[derive(Drop)]
+#[derive(Clone, Copy)]
 pub struct Tail {
     pub code: u8,
     pub form: u8,
@@ -25,7 +27,7 @@ pub struct Tail {
 // A unit: one tag with the text in front of it. Form 0 is an opening tag, 1 an empty-element tag, 2 an end tag. The text goes
 // from `from` to `at`, the name from `name` to `end`; next is the place behind the tag. Code 0, or 40 or 41 where the scan is
 // stuck; next is then how far it looked.
-#[derive(Drop)]
+#[derive(Clone, Copy)]
 pub struct Tag {
     pub code: u8,
     pub form: u8,
@@ -37,21 +39,21 @@ pub struct Tag {
 }
 
 // The value of an attribute. From 0 means that the tag has none of that name: no value starts a text.
-#[derive(Drop)]
+#[derive(Clone, Copy)]
 pub struct Range {
     pub from: usize,
     pub to: usize,
 }
 
 // What a text value stands for, if it is accepted.
-#[derive(Drop)]
+#[derive(Clone, Copy)]
 pub struct Value {
     pub valid: bool,
     pub number: u32,
 }
 
 // One part of a duration: a number with its letter, if it is there, and the place behind it.
-#[derive(Drop)]
+#[derive(Clone, Copy)]
 pub struct Piece {
     pub there: bool,
     pub number: u64,
@@ -59,28 +61,28 @@ pub struct Piece {
 }
 
 // An id of the text, and the number of its asset once that is closed; 0 for any other element.
-#[derive(Drop)]
+#[derive(Clone, Copy)]
 pub struct Id {
     pub from: usize,
     pub to: usize,
     pub asset: u16,
 }
 
-#[derive(Drop)]
+#[derive(Clone, Copy)]
 pub struct Ids {
     pub count: u16,
     pub table: [Id; 256],
 }
 
 // The asset references of a permission, as asset numbers. 64 are kept; more than 64 count as 65.
-#[derive(Drop)]
+#[derive(Clone, Copy)]
 pub struct References {
     pub count: u8,
     pub table: [u16; 64],
 }
 
 // What has been read so far.
-#[derive(Drop)]
+#[derive(Clone, Copy)]
 pub struct State {
     pub elements: u16,
     pub ids: Ids,
@@ -95,14 +97,14 @@ pub struct State {
 }
 
 // One step of reading: the state after it, or the code of a fault with a blank state.
-#[derive(Drop)]
+#[derive(Clone, Copy)]
 pub struct Done {
     pub code: u8,
     pub state: State,
 }
 
 // Reading up to a place: the state there, or the code of the first fault and how far the text was looked at to tell.
-#[derive(Drop)]
+#[derive(Clone, Copy)]
 pub struct Progress {
     pub code: u8,
     pub at: usize,
@@ -110,7 +112,7 @@ pub struct Progress {
 }
 
 // What a text is answered: 0, 40, 41 or 42, the number of its elements, and the book. Not 0: no elements and a blank book.
-#[derive(Drop)]
+#[derive(Clone, Copy)]
 pub struct Reading {
     pub code: u8,
     pub elements: u16,

@@ -1,5 +1,7 @@
 // The reading of a text by two functions that call each other, the element reader and the contents reader: the remaining depth
 // falls with every level.
+#![tactic(auto)]
+
 ghost use Rattle.std.specs.Prelude.{◌≡◌, ◌≤◌, length};
 ghost use Rattle.xml_model.specs.Tags.{unit_at};
 ghost use Rattle.xml_model.specs.Text.{frame, ended, refusal, finish, root, progress_of, reading_of};
@@ -18,7 +20,7 @@ use xml_table::{
 const MOST_DEEP: u8 = 12;
 
 // What an open element makes of a child: whether it is accepted, its role, and the state to which it leads its parent.
-#[derive(Drop)]
+#[derive(Clone, Copy)]
 pub struct Child {
     pub accepted: bool,
     pub role: u8,

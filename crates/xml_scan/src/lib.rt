@@ -1,5 +1,7 @@
 // The scan of an XML text: bytes, runs of a class, attributes, tags and units, each proved equal to its definition in xml_model for
 // every text and every place. A place behind the end of the text is allowed everywhere.
+#![tactic(auto)]
+
 ghost use Rattle.std.specs.Prelude.{◌≡◌, cond, ◌+◌, ◌-◌, ◌≤◌, ◌<◌, length};
 ghost use Rattle.xml_model.specs.Bytes.{byte_at, part, same, is_name_start, in_class, run_end, bare, is_mark, stuck, looked};
 ghost use Rattle.xml_model.specs.Tags.{stuck_attribute, value_at, equals_at, attribute_at, given, stuck_tail, empty_tail, tail_of, look};

@@ -1,5 +1,7 @@
 // What the first tag and the last tag of an element do to what has been read so far. An id, and every other value of an attribute,
 // is a range of the text. No function here asks anything of the ranges or of the tables' counts.
+#![tactic(auto)]
+
 ghost use Rattle.std.specs.Prelude.{◌≡◌, false, cond, ◌+◌, ◌<◌, ◌≤◌, min, set};
 ghost use Rattle.xml_model.specs.Bytes.{part};
 ghost use Rattle.xml_model.specs.Elements.{object_uid_role, inherit_uid_role};

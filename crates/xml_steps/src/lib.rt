@@ -1,4 +1,6 @@
 // What has been read so far of a rights object: blank, with one part changed, and as the result of a step.
+#![tactic(auto)]
+
 ghost use Rattle.std.specs.Prelude.{◌≡◌};
 ghost use Rattle.xml_model.specs.State.{blank, with_elements, with_ids, with_asset, with_references, with_limits, with_book, ok, no, counted};
 

@@ -1,4 +1,6 @@
 // The elements that order 1 accepts: their names, their roles, and the rows that say which element may hold which.
+#![tactic(auto)]
+
 ghost use Rattle.std.specs.Prelude.{◌≡◌, cond, ◌<◌};
 ghost use Rattle.xml_model.specs.Bytes.{same};
 ghost use Rattle.xml_model.specs.Elements.{name_of, fits, row_of, child_role, next_state, holds_text, is_kind, closes_from, holds_anything};

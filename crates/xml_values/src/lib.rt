@@ -1,4 +1,6 @@
 // Text values of order 1: numbers, uids, times and durations. Each function is defined for every text.
+#![tactic(auto)]
+
 ghost use Rattle.std.specs.Prelude.{◌≡◌, true, cond, ◌+◌, ◌-◌, ◌*◌, ◌≤◌, min, length};
 ghost use Rattle.xml_model.specs.Values.{value_if, number_of, is_number, number_in, uid_of, digits_at, number_at, time_formed, time_real, seconds_at};
 ghost use Rattle.xml_model.specs.Values.{time_if, time_of, piece_at, duration_formed, duration_of, value_of};
