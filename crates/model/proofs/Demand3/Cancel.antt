@@ -91,14 +91,14 @@ module _ (s : State) (e : Event) (h : Inv s.book s.account) (t : Takes s e) (x :
             };
             player = eqb-true _ _ (and_left (eqb w.event.player e.player) _ z);
             current = u;
-            is-current = record { latest-use = l; still_Open = o };
+            is-current = record { latest-use = l; still_open = o };
           }
 
   begun-last : JustBegun s e → begun
   begun-last j = ap (begun_last e.player) j.begun.is_last ∙ and_both (eq-eqb _ _ j.player) (granted-last j.begun)
 
   held-now : (j : JustBegun s e) → O ≡ held_as j.current
-  held-now j = rw (j.is-current.latest-use, j.is-current.still_Open) refl
+  held-now j = rw (j.is-current.latest-use, j.is-current.still_open) refl
 
   entered-cancel : (r : Answer) (us : List Use) → r.code ≡ 0 → entered e r us ≡ without e.player us
   unfolding posted
@@ -109,7 +109,7 @@ module _ (s : State) (e : Event) (h : Inv s.book s.account) (t : Takes s e) (x :
   back j =
       let a = cancel_back j.current (held-now j) (begun-last j) in
       let k =
-      newest-open B s.account e h j.current j.is-current.latest-use j.is-current.still_Open
+      newest-open B s.account e h j.current j.is-current.latest-use j.is-current.still_open
       (gate-take _ _ e (taking s e h t)).later j.begun.last j.begun.earlier j.begun.is_last j.player
       (granted-last j.begun) in
       let n = k.0 in

@@ -101,10 +101,10 @@ module _ (es : List Entry) (s : State) (g : Bounded events_at_most s.account) (c
 
 -- ## The lines handed on
 
-length-handed : (b : Book) (ls : List Line) (ds : List Decoded) → length (handed b ls ds) ≡ length ds
+length-handed : (ds : List Decoded) (b : Book) (ls : List Line) → length (handed b ls ds) ≡ length ds
 unfolding handed
-length-handed b ls [] = refl
-length-handed b ls (d ∷ ds) = ap suc (length-handed _ _ ds)
+length-handed [] b ls = refl
+length-handed (d ∷ ds) b ls = ap suc (length-handed ds _ _)
 
 module _ (b : Book) (l : Legal b) (h : Inv b empty) (ls : List Line) (ds : List Decoded) (few : length ds ≤ events_at_most)
     (z : FromZeros b ls) (g : GoodList b ls) where
@@ -119,7 +119,7 @@ module _ (b : Book) (l : Legal b) (h : Inv b empty) (ls : List Line) (ds : List 
 
   low : Bounded events_at_most end.account
   low =
-      after-bounded (handed b ls ds) 0 events_at_most (starting b) (omega (arith, few, length-handed b ls ds)) h empty-bounded
+      after-bounded (handed b ls ds) 0 events_at_most (starting b) (omega (arith, few, length-handed ds b ls)) h empty-bounded
 
   -- what holds of every line of the first list, and of the ledger's sums under its content, holds of every line
   line-by : (P : Line → Type 0) → ((k : ℕ) → P (line_at ls k))

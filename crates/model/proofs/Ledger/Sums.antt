@@ -1,6 +1,6 @@
 -- Sums over the ledger, and what a revision of a player's latest use does to them.
 -- Only a player's latest use can be open, so settling and revising touch one term of a sum.
-use mathlib.Core.Path.{◌≡◌, refl, sym, ◌∙◌}
+use mathlib.Core.Path.{◌≡◌, refl, sym, subst, ◌∙◌}
 use Prim.Native.Nat.{ℕ, ◌+◌, ◌≤◌}
 use mathlib.Core.Bool.{true, false, not}
 use mathlib.Core.List.{List, [], ◌∷◌}
@@ -171,7 +171,7 @@ unfolding latest
 all-shut T p [] h g = tt
 all-shut T p (v ∷ us) h g =
     on_test (eqb v.player p)
-    (λ q. (λ r. g v (rw q), rw (← eqb-true v.player p q) h.0))
+    (λ q. (λ r. g v (rw q), subst (λ (x : ℕ). Every (ShutFor T x) us) (eqb-true v.player p q) h.0))
     (λ q. (λ r. absurd (eqb-false v.player p q r), all-shut T p us h.1 (λ u e. g u (rw q e))))
 
 -- two weights that differ only at an open use of player p

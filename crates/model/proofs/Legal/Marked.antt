@@ -73,11 +73,13 @@ module _ (T i p : ℕ) where
       (λ q. inr (open-some us (rw q at e)))
 
   none-some : (us : List Use) → Every (ShutFor T p) us → SomeUse T i p us → ⊥
+  none-some [] h w = elim w [ ]
   none-some (u ∷ us) h (inl w) = clash w.2 (h.0 w.0)
   none-some (u ∷ us) h (inr w) = none-some us h.1 w
 
   some-open : (us : List Use) → Tidy T us → SomeUse T i p us → open_by T i (latest p us) ≡ true
   unfolding latest
+  some-open [] h w = elim w [ ]
   some-open (u ∷ us) h (inl w) = rw (eq-eqb u.player p w.0) (and_both (eq-eqb u.entry i w.1) w.2)
   some-open (u ∷ us) h (inr w) =
       on_same u.player p
