@@ -7,8 +7,7 @@ use lib.Dec.{ltb, eqb}
 use borrow.Author.Tests.{not-true, not-false, eqb-true, le-ltb}
 use Rattle.book.specs.declared.Rank.{Rank}
 use Rattle.model.specs.Choice.{ranks_before}
-use Rattle.rules.proofs.ranks_before.Statement.{statement}
-use Rattle.rules.proofs.ranks_before.Tie as tie
+use Rattle.rules.proofs.ranks_before.Goals as goal
 
 differ : (x y : ℕ) (r : Bool) → not (eqb x y) ≡ true → ltb x y ≡ (ltb x y || eqb x y && r)
 differ x y r h = rw (not-true (eqb x y) h) (sym (or-false (ltb x y)))
@@ -31,22 +30,19 @@ module _ (a b : Rank) where
   unfolding ranks_before
   later-fields f = alike a.flags b.flags _ f
 
-returns : tie.Need-returns
+pub returns-then-not-a-b : goal.returns-then-not-a-b
+returns-then-not-a-b c =
+    let x = c.args in
+    flags-differ x.a x.b c.if-not-a-b.true-raw
+
+pub returns-then-not-a-b-2 : goal.returns-then-not-a-b-2
+returns-then-not-a-b-2 c =
+    let x = c.args in
+    let f = c.if-not-a-b.false-raw in
+    differ x.a.last x.b.last _ c.if-not-a-b-2.true-raw ∙ later-fields x.a x.b f
+
+pub returns : goal.returns
 returns c =
-    let x = c.before.before.before.before.before.args in
-    flags-differ x.a x.b c.before.before.if1.true
-
-returns-2 : tie.Need-returns-2
-returns-2 c =
-    let x = c.before.before.before.before.before.before.before.before.args in
-    let f = c.before.before.before.before.before.if1.false in
-    differ x.a.last x.b.last _ c.before.before.if2.true ∙ later-fields x.a x.b f
-
-returns-3 : tie.Need-returns-3
-returns-3 c =
-    let x = c.before.before.before.before.before.before.before.before.args in
-    let f = c.before.before.before.before.before.if1.false in
-    alike x.a.last x.b.last _ c.before.before.if2.false ∙ later-fields x.a x.b f
-
-pub ranks-before-spec : {M : Type 1} → statement M
-ranks-before-spec = tie.close (tie.spec returns returns-2 returns-3)
+    let x = c.args in
+    let f = c.if-not-a-b.false-raw in
+    alike x.a.last x.b.last _ c.if-not-a-b-2.false-raw ∙ later-fields x.a x.b f

@@ -2,12 +2,8 @@
 use Rattle.model.specs.Book.{flagged}
 use Rattle.rules.specs.Rules.{flags_of}
 use native.Mathlib.Nat.{div-one}
-use Rattle.rules.proofs.flags_of.Statement.{statement}
-use Rattle.rules.proofs.flags_of.Tie as tie
+use Rattle.rules.proofs.flags_of.Goals as goal
 
-returns : tie.Need-returns
+pub returns : goal.returns
 unfolding flags_of flagged
 returns c = rw div-one
-
-pub flags-of-spec : {M : Type 1} → statement M
-flags-of-spec = tie.close (tie.spec returns)
