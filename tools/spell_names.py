@@ -14,8 +14,9 @@ from pathlib import Path
 # Definitions that were written with dashes.
 WORDS = """where-flagged lent-image result-is events-run legal-run image-run text-run last-again too-late ending-spanned both-prints
 two-prints""".split()
-# Lemmas that would have the name of a definition or a field.
-LEMMAS = """code_by entries_from no_answer no_line number_by reads_as same_number starts_from step_typed taken_back too_short""".split()
+# Lemmas that would have the name of a definition or a field, each with its crate: elsewhere the name may be a function's.
+LEMMAS = {"embed": ["code_by", "no_answer"], "metering": ["no_line"], "model": """entries_from number_by reads_as same_number starts_from
+step_typed taken_back too_short""".split()}
 
 MARKS = r"(?:(?:pattern|unfoldable|abbrev|pub|record|data|axiom) )*"
 DECLARED = re.compile(rf"^[ ]*{MARKS}([^\s(){{}}.;,@\"«»]+)((?: \{{[^{{}}\n]*\}})*(?: \([^()\n]*\))*)? :(?!:)", re.M)
@@ -36,16 +37,21 @@ def sources():
 
 
 def main():
-    table = {name: name + "_lem" for name in LEMMAS} | {name: name.replace("-", "_") for name in WORDS}
+    table = {name: name.replace("-", "_") for name in WORDS}
     for path in sources():
         if path.suffix == ".antt":
             for found in DECLARED.finditer(path.read_text()):
                 if in_snake_case(found[1]) != found[1]:
                     table[found[1]] = in_snake_case(found[1])
     one_of = re.compile(rf"(?<![\w'′·-])(?:{'|'.join(sorted(map(re.escape, table), key=len, reverse=True))}){END}")
+    lemma = re.compile(rf"(?<![\w'′·-])(?:{'|'.join(name for names in LEMMAS.values() for name in names)}){END}")
 
     def spelled(text):
         return one_of.sub(lambda m: table[m[0]], text)
+
+    def in_proofs(path, text):
+        own = LEMMAS.get(path.parts[1], [])
+        return spelled(lemma.sub(lambda m: m[0] + "_lem" if m[0] in own else m[0], text))
 
     def in_code(text):
         out, at = [], 0
@@ -67,7 +73,7 @@ def main():
     edits = [*sorted(Path("crates").glob("*/must-fail/*.edit")), *sorted(Path("edits").glob("*/*.edit"))]
     for path in [*sources(), *pages, *edits]:
         text = path.read_text()
-        new = in_code(text) if path.suffix == ".rt" else spelled(text) if path.suffix == ".antt" else in_page(text)
+        new = in_code(text) if path.suffix == ".rt" else in_proofs(path, text) if path.suffix == ".antt" else in_page(text)
         if new != text:
             path.write_text(new)
             count += 1

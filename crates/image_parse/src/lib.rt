@@ -14,7 +14,7 @@ use book::{
     Answer, Asset, Book, Entry, LATEST_TIME, Last, Latest, Limits, Meters, Open, Player, at_most_64,
 };
 use image_pieces::{
-    HEADER_START, NEWEST, asset_size, entries_from_lem, entry_size, header_size, image_length,
+    HEADER_START, NEWEST, asset_size, entries_from, entry_size, header_size, image_length,
     player_size, players_from,
 };
 use rules::marks_of;
@@ -282,7 +282,7 @@ fn book_as(s: &[u8]) -> Book
     let assets = s[5];
     let entries = s[6];
     let assetsfrom = header_size(v);
-    let entriesfrom = entries_from_lem(v, assets);
+    let entriesfrom = entries_from(v, assets);
     let playersfrom = players_from(v, assets, entries);
     let switch = added32(s, v, 2, HEADER_START);
     let player = added32(s, v, 5, 15);

@@ -101,7 +101,7 @@ fn rows(width: usize, n: u8) -> usize
 
 // Where the entries begin, and where the players.
 // Rules out: an offset that does not depend on the number of assets, the width of another version.
-pub fn entries_from_lem(v: u16, assets: u8) -> usize
+pub fn entries_from(v: u16, assets: u8) -> usize
     ensures { (result ≡ entries_at v assets) × (result ≤ 51200) }
 {
     let table = rows(asset_size(v), assets);
@@ -112,7 +112,7 @@ pub fn players_from(v: u16, assets: u8, entries: u8) -> usize
     ensures { (result ≡ players_at v assets entries) × (result ≤ 102200) }
 {
     let table = rows(entry_size(v), entries);
-    entries_from_lem(v, assets) + table
+    entries_from(v, assets) + table
 }
 
 // Rules out: the players left out.

@@ -34,12 +34,12 @@ players-from-requires c κs = search rules
 -- the offsets, once all are reckoned
 places : (c : tie.After-players-from) → Located c.before.before.before.before.before.before.before.args.s.now
     c.before.before.before.before.before.read16.result c.before.before.header-size.result
-    c.before.entries_from_lem.result c.players-from.result
+    c.before.entries_from.result c.players-from.result
 places c =
     located c.before.before.before.before.before.before.before.args.s.now
     c.before.before.before.before.before.before.before.requires _ _ _ _
     c.before.before.before.before.before.read16.ensures c.before.before.header-size.ensures.0
-    c.before.entries_from_lem.ensures.0 c.players-from.ensures.0
+    c.before.entries_from.ensures.0 c.players-from.ensures.0
 
 -- what version 5 adds is there
 latest-room : (c : tie.After-players-from) → 5 ≤ c.before.before.before.before.before.read16.result
