@@ -17,6 +17,7 @@ use Rattle.model.specs.Book.{asset_at, asset_position}
 use borrow.Author.Rules.{rules}
 use Rattle.image_limits.proofs.asset_position.Invariants.{numbered}
 use Rattle.image_limits.proofs.asset_position.Goals as goal
+use Rattle.image_limits.proofs.asset_position.Goals.{Start}
 
 module _ (ats : List Asset) (number n m : ℕ) (slots : length ats ≡ 64) (e : m ≡ min n 64)
     (none : first (numbered ats number) m ≡ m) where
@@ -39,7 +40,7 @@ module _ (ats : List Asset) (number n m : ℕ) (slots : length ats ≡ 64) (e : 
       n (omega arith))
       (λ h. let q : n ≡ m = omega arith in ap (first (numbered ats number)) q ∙ none ∙ sym q)
 
-table : (c : goal.Start invariant-loop decreases-loop) → length c.args.assets ≡ 64
+table : (c : Start) → length c.args.assets ≡ 64
 table c = search length-mapped
 
 pub loop-i-init : goal.loop-i-init
@@ -69,7 +70,7 @@ returns-then-number-eq0 c =
     let a = c.args in
     let m = c.min_size-m in
     let l = c.loop-i in
-    sym (blank-found a.assets a.number a.n m.result (table c.before) m.ensures
+    sym (blank-found a.assets a.number a.n m.result (table c.before.before.before.before) m.ensures
     (ended (numbered a.assets a.number) l.i m.result (omega arith) l.invariant.1) c.if-number-eq0.true)
 
 pub returns : goal.returns
@@ -78,5 +79,5 @@ returns c =
     let a = c.args in
     let m = c.min_size-m in
     let l = c.loop-i in
-    sym (not_found a.assets a.number a.n m.result (table c.before) m.ensures
+    sym (not_found a.assets a.number a.n m.result (table c.before.before.before.before) m.ensures
     (ended (numbered a.assets a.number) l.i m.result (omega arith) l.invariant.1) c.if-number-eq0.false)

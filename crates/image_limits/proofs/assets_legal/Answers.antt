@@ -21,13 +21,13 @@ loop-i-preserved c =
     let l = c.loop-i in (
       omega arith,
       ap₂ ◌&&◌ l.invariant.1 c.asset_legal-w.ensures ∙ sym
-          (all-turn (judged c.args.b.assets-1 n) l.i),
+          (all-turn (judged c.args.b.assets n) l.i),
     )
 
 pub returns : goal.returns
 unfolding assets_legal assets_in
 returns c =
-    let assets = c.args.b.assets-1 in
+    let assets = c.args.b.assets in
     let n = c.at_most_64-n in
     let l = c.loop-i in
     let e : l.i ≡ n.result = omega arith in
