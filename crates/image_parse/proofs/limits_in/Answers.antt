@@ -6,22 +6,23 @@ use lib.ListN.{length}
 use Rattle.image_parse.specs.Versions.{limits-read, entry-two, entry-four}
 use borrow.Author.Rules.{rules}
 use Rattle.image_parse.proofs.limits_in.Goals as goal
+use Rattle.image_parse.proofs.limits_in.Goals.{Start}
 
 -- the bytes of the track, from version 2 on
-room : (c : goal.Start) → 2 ≤ c.args.v → 63 ≤ length c.args.s.now
+room : (c : Start) → 2 ≤ c.args.v → 63 ≤ length c.args.s.now
 room c h = let e = entry-two c.args.v h in omega (arith, e, c.requires.3)
 
 pub added32-tracked-requires : goal.added32-tracked-requires
-added32-tracked-requires c κs h = omega (arith, room c.before (omega arith))
+added32-tracked-requires c h = omega (arith, room c.before.before (omega arith))
 
 pub added32-timedvalue-requires : goal.added32-timedvalue-requires
-added32-timedvalue-requires c κs h = omega (arith, room c.before (omega arith))
+added32-timedvalue-requires c h = omega (arith, room c.before.before.before (omega arith))
 
 pub added32-mark-requires : goal.added32-mark-requires
-added32-mark-requires c κs h = omega (arith, room c.before (omega arith))
+added32-mark-requires c h = omega (arith, room c.before.before.before.before (omega arith))
 
 pub added32-threshold-requires : goal.added32-threshold-requires
-added32-threshold-requires c κs h =
+added32-threshold-requires c h =
     let z = c.before in
     let e = entry-four z.args.v (omega arith) in
     omega (arith, e, z.requires.3)

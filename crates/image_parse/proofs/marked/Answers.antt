@@ -21,5 +21,5 @@ unfolding marked entries_in
 returns c =
     let a = c.args in
     let older : leb 4 a.v ≡ false = lt-leb 4 a.v (omega arith) in
-    let table = c.marked_entries-table.ensures ∙ ap (marked_entries a.b.players-1 a.b.entries-1) c.at_most_64.ensures in
-    rw older (ap (λ (es : List Entry). changed a.b a.b.time a.b.latest es a.b.players-1) table)
+    let table = c.marked_entries-table.ensures ∙ ap (marked_entries a.b.players a.b.entries) c.at_most_64.ensures in
+    rw older (ap (λ (es : List Entry). changed a.b a.b.time a.b.latest es a.b.players) table)

@@ -10,8 +10,9 @@ use Rattle.book.specs.Blank.{no_entry}
 use Rattle.model.specs.Image.{with_marks, marked_entries}
 use Rattle.image_parse.specs.Older.{marked-none, marked_turn}
 use Rattle.image_parse.proofs.marked_entries.Goals as goal
+use Rattle.image_parse.proofs.marked_entries.Goals.{Start}
 
-entries-64 : (c : goal.Start invariant-loop decreases-loop) → length c.args.entries ≡ 64
+entries-64 : (c : Start) → length c.args.entries ≡ 64
 entries-64 c = search length-mapped
 
 pub loop-i-init : goal.loop-i-init
@@ -23,7 +24,7 @@ loop-i-preserved c =
     let l = c.loop-i in
     let e = get_or z.args.entries l.i no_entry in
     let here = c.with_marks-w.ensures ∙ ap (λ (m : ℕ). with_marks m e) c.marks_of.ensures in
-    let within : l.i < length z.args.entries = omega (arith, entries-64 z) in (
+    let within : l.i < length z.args.entries = omega (arith, entries-64 z.before.before.before.before) in (
       omega arith,
       ap₂ (λ (t : List Entry) (x : Entry). set t l.i x) l.invariant.1 here ∙ marked_turn z.args.players z.args.entries l.i within,
     )

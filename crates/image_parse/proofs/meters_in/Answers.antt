@@ -6,7 +6,7 @@ use borrow.Author.Rules.{rules}
 use Rattle.image_parse.proofs.meters_in.Goals as goal
 
 pub added32-marks-requires : goal.added32-marks-requires
-added32-marks-requires c κs h =
+added32-marks-requires c h =
     let z = c.before in
     let e = entry-four z.args.v (omega arith) in
     omega (arith, e, z.requires.3)

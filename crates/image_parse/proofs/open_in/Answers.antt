@@ -8,7 +8,7 @@ use borrow.Author.Rules.{rules}
 use Rattle.image_parse.proofs.open_in.Goals as goal
 
 pub added32-content-requires : goal.added32-content-requires
-added32-content-requires c κs h =
+added32-content-requires c h =
     let z = c.before in
     let e = player-two z.args.v (omega arith) in
     omega (arith, e, c.wider-o.ensures, z.requires.3)
