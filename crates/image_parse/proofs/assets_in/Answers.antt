@@ -8,34 +8,23 @@ use borrow.Author.Rules.{rules}
 use Rattle.image_parse.specs.Versions.{asset-least}
 use Rattle.image_parse.specs.Tables.{ReadTo, read_none, read-room, read-turn, read_all, part_room}
 use Rattle.image_parse.proofs.assets_in.Goals as goal
-use Rattle.image_parse.proofs.assets_in.Goals.{In-loop-i}
 
 pub loop-i-init : goal.loop-i-init
 loop-i-init c = let a = c.args in read_none (asset_in a.v) no_asset 64 (asset_size a.v) a.at a.n
     a.s.now _ (ap (replicate 64) c.blank_asset-table.ensures)
 
--- record i is there
-room : (c : In-loop-i)
-    → c.loop-i.o + asset_size c.args.v ≤ length
-    c.args.s.now
-room c =
-    let a = c.args in
-    let l = c.loop-i in
-    read-room (asset_in a.v) no_asset 64 (asset_size a.v) a.at a.n a.s.now _ l.i l.o
-    c.requires.3 l.invariant c.loop-i-test.true
-
 pub slice_bounds-asset_in-count : goal.slice_bounds-asset_in-count
-slice_bounds-asset_in-count c = let r = room c in omega (arith, r)
+slice_bounds-asset_in-count c = let r = read-room (asset_in c.args.v) no_asset 64 (asset_size c.args.v) c.args.at c.args.n c.args.s.now _ c.loop-i.i c.loop-i.o c.requires.3 c.loop-i.invariant c.loop-i-test.true in omega (arith, r)
 
 pub asset_in-a-requires : goal.asset_in-a-requires
 asset_in-a-requires c =
     let p = c.requires in
     let a = c.args in
-    let r = part_room a.s.now c.loop-i.o (asset_size a.v) (room c.before.before) in
+    let r = part_room a.s.now c.loop-i.o (asset_size a.v) (read-room (asset_in c.args.v) no_asset 64 (asset_size c.args.v) c.args.at c.args.n c.args.s.now _ c.loop-i.i c.loop-i.o c.requires.3 c.loop-i.invariant c.loop-i-test.true) in
     (p.0, p.1, omega (arith, r, asset-least a.v p.0 p.1), r)
 
 pub overflow_add-o : goal.overflow_add-o
-overflow_add-o c = let r = room c.before.before.before in omega (arith, r, c.asset_size-width.ensures.0)
+overflow_add-o c = let r = read-room (asset_in c.args.v) no_asset 64 (asset_size c.args.v) c.args.at c.args.n c.args.s.now _ c.loop-i.i c.loop-i.o c.requires.3 c.loop-i.invariant c.loop-i-test.true in omega (arith, r, c.asset_size-width.ensures.0)
 
 pub loop-i-preserved : goal.loop-i-preserved
 loop-i-preserved c =

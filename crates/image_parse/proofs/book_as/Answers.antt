@@ -22,62 +22,49 @@ bounds-s-5 c = let h = stands c.before.before.before.before in omega (arith, h.s
 pub bounds-s-6 : goal.bounds-s-6
 bounds-s-6 c = let h = stands c.before.before.before.before.before in omega (arith, h.start)
 
--- the offsets, once all are reckoned
-places : (c : After-players_from-playersfrom) → Located c.args.s.now
-    c.read16-v.result c.header_size-assetsfrom.result
-    c.entries_from-entriesfrom.result c.players_from-playersfrom.result
-places c =
-    located c.args.s.now
-    c.requires _ _ _ _
-    c.read16-v.ensures c.header_size-assetsfrom.ensures.0
-    c.entries_from-entriesfrom.ensures.0 c.players_from-playersfrom.ensures.0
-
--- what version 5 adds is there
-latest-room : (c : After-players_from-playersfrom) → 5 ≤ c.read16-v.result
-    → 23 ≤ length c.args.s.now
-latest-room c h =
-    let p = stands c.before.before.before.before.before.before.before.before in
-    let l = places c in
-    let e = header-five c.read16-v.result h in
-    omega (arith, p.enough, e, ap header_size l.same)
-
 pub added32-switch-requires : goal.added32-switch-requires
 added32-switch-requires c h =
     let p = stands c.before.before.before.before.before.before.before.before in
-    let l = places c in
+    let l = (located c.args.s.now c.requires _ _ _ _ c.read16-v.ensures c.header_size-assetsfrom.ensures.0 c.entries_from-entriesfrom.ensures.0 c.players_from-playersfrom.ensures.0) in
     let e = header-two c.read16-v.result (omega arith) in
     omega (arith, p.enough, e, ap header_size l.same)
 
 pub added32-player-requires : goal.added32-player-requires
-added32-player-requires c h = let r = latest-room c.before.before (omega arith) in omega (arith, r)
+added32-player-requires c h = let p = stands c.before.before.before.before.before.before.before.before.before in
+    let l = (located c.args.s.now c.requires _ _ _ _ c.read16-v.ensures c.header_size-assetsfrom.ensures.0 c.entries_from-entriesfrom.ensures.0 c.players_from-playersfrom.ensures.0) in
+    let e = header-five c.read16-v.result (omega arith) in
+    omega (arith, p.enough, e, ap header_size l.same)
 
 pub added32-started-requires : goal.added32-started-requires
-added32-started-requires c h = let r = latest-room c.before.before.before (omega arith) in omega (arith, r)
+added32-started-requires c h = let p = stands c.before.before.before.before.before.before.before.before.before.before in
+    let l = (located c.args.s.now c.requires _ _ _ _ c.read16-v.ensures c.header_size-assetsfrom.ensures.0 c.entries_from-entriesfrom.ensures.0 c.players_from-playersfrom.ensures.0) in
+    let e = header-five c.read16-v.result (omega arith) in
+    omega (arith, p.enough, e, ap header_size l.same)
 
 pub read32-requires : goal.read32-requires
 read32-requires c =
     let h = stands c.before.before.before.before.before.before.before.before.before.before.before in omega (arith, h.start)
 
 pub overflow_cast-assets : goal.overflow_cast-assets
-overflow_cast-assets c = let l = places c.before.before.before.before.before in omega (arith, l.asset_count)
+overflow_cast-assets c = let l = (located c.args.s.now c.requires _ _ _ _ c.read16-v.ensures c.header_size-assetsfrom.ensures.0 c.entries_from-entriesfrom.ensures.0 c.players_from-playersfrom.ensures.0) in omega (arith, l.asset_count)
 
 pub assets_in-requires : goal.assets_in-requires
-assets_in-requires c = let l = places c.before.before.before.before.before in (l.oldest, l.known, l.asset_count, l.asset_room)
+assets_in-requires c = let l = (located c.args.s.now c.requires _ _ _ _ c.read16-v.ensures c.header_size-assetsfrom.ensures.0 c.entries_from-entriesfrom.ensures.0 c.players_from-playersfrom.ensures.0) in (l.oldest, l.known, l.asset_count, l.asset_room)
 
 pub overflow_cast-entries : goal.overflow_cast-entries
-overflow_cast-entries c = let l = places c.before.before.before.before.before.before in omega (arith, l.entry_count)
+overflow_cast-entries c = let l = (located c.args.s.now c.requires _ _ _ _ c.read16-v.ensures c.header_size-assetsfrom.ensures.0 c.entries_from-entriesfrom.ensures.0 c.players_from-playersfrom.ensures.0) in omega (arith, l.entry_count)
 
 pub entries_in-requires : goal.entries_in-requires
-entries_in-requires c = let l = places c.before.before.before.before.before.before in
+entries_in-requires c = let l = (located c.args.s.now c.requires _ _ _ _ c.read16-v.ensures c.header_size-assetsfrom.ensures.0 c.entries_from-entriesfrom.ensures.0 c.players_from-playersfrom.ensures.0) in
     (l.oldest, l.known, l.entry_count, l.entry_room)
 
 pub players_in-requires : goal.players_in-requires
-players_in-requires c = let l = places c.before.before.before.before.before.before.before in (l.oldest, l.known, l.player_room)
+players_in-requires c = let l = (located c.args.s.now c.requires _ _ _ _ c.read16-v.ensures c.header_size-assetsfrom.ensures.0 c.entries_from-entriesfrom.ensures.0 c.players_from-playersfrom.ensures.0) in (l.oldest, l.known, l.player_room)
 
 pub returns : goal.returns
 unfolding version_in
 returns c =
-    read-there _ _ _ _ _ _ _ _ _ _ _ _ (places c.before.before.before.before.before.before.before.before)
+    read-there _ _ _ _ _ _ _ _ _ _ _ _ ((located c.args.s.now c.requires _ _ _ _ c.read16-v.ensures c.header_size-assetsfrom.ensures.0 c.entries_from-entriesfrom.ensures.0 c.players_from-playersfrom.ensures.0))
     c.added32-switch.ensures
     c.added32-player.ensures c.added32-started.ensures
     c.read32.ensures c.assets_in.ensures c.entries_in.ensures

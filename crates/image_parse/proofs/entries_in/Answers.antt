@@ -7,34 +7,23 @@ use Rattle.model.specs.Image.{entry_size, entry_in, entry_table}
 use borrow.Author.Rules.{rules}
 use Rattle.image_parse.specs.Tables.{ReadTo, read_none, read-room, read-turn, read_all, part_room}
 use Rattle.image_parse.proofs.entries_in.Goals as goal
-use Rattle.image_parse.proofs.entries_in.Goals.{In-loop-i}
 
 pub loop-i-init : goal.loop-i-init
 loop-i-init c = let a = c.args in read_none (entry_in a.v) no_entry 64 (entry_size a.v) a.at a.n
     a.s.now _ (ap (replicate 64) c.blank_entry-table.ensures)
 
--- record i is there
-room : (c : In-loop-i)
-    → c.loop-i.o + entry_size c.args.v ≤ length
-    c.args.s.now
-room c =
-    let a = c.args in
-    let l = c.loop-i in
-    read-room (entry_in a.v) no_entry 64 (entry_size a.v) a.at a.n a.s.now _ l.i l.o
-    c.requires.3 l.invariant c.loop-i-test.true
-
 pub slice_bounds-entry_in-count : goal.slice_bounds-entry_in-count
-slice_bounds-entry_in-count c = let r = room c in omega (arith, r)
+slice_bounds-entry_in-count c = let r = read-room (entry_in c.args.v) no_entry 64 (entry_size c.args.v) c.args.at c.args.n c.args.s.now _ c.loop-i.i c.loop-i.o c.requires.3 c.loop-i.invariant c.loop-i-test.true in omega (arith, r)
 
 pub entry_in-e-requires : goal.entry_in-e-requires
 entry_in-e-requires c =
     let p = c.requires in
     let a = c.args in
-    let r = part_room a.s.now c.loop-i.o (entry_size a.v) (room c.before.before) in
+    let r = part_room a.s.now c.loop-i.o (entry_size a.v) (read-room (entry_in c.args.v) no_entry 64 (entry_size c.args.v) c.args.at c.args.n c.args.s.now _ c.loop-i.i c.loop-i.o c.requires.3 c.loop-i.invariant c.loop-i-test.true) in
     (p.0, p.1, r)
 
 pub overflow_add-o : goal.overflow_add-o
-overflow_add-o c = let r = room c.before.before.before in omega (arith, r, c.entry_size-width.ensures.0)
+overflow_add-o c = let r = read-room (entry_in c.args.v) no_entry 64 (entry_size c.args.v) c.args.at c.args.n c.args.s.now _ c.loop-i.i c.loop-i.o c.requires.3 c.loop-i.invariant c.loop-i-test.true in omega (arith, r, c.entry_size-width.ensures.0)
 
 pub loop-i-preserved : goal.loop-i-preserved
 loop-i-preserved c =
