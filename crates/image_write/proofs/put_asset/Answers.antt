@@ -6,6 +6,10 @@ use Rattle.image_pieces.specs.Pieces.{asset-shut, asset-length}
 use Rattle.image_write.specs.Puts.{piece}
 use Rattle.image_write.proofs.put_asset.Goals as goal
 
+pub put-requires : goal.put-requires
+unfolding asset_size
+put-requires c = search rules
+
 pub returns : goal.returns
 returns c =
     let at-asset = c.before in

@@ -34,5 +34,6 @@ pub returns : goal.returns
 returns c =
     let a = c.args in
     let l = c.loop-i in
-    written_all (λ k. asset_bytes (asset_at a.table k)) (asset_size newest) a.buf.now a.at a.n _ l.i l.o l.invariant
-    c.loop-i-test.false
+    let w = written_all (λ k. asset_bytes (asset_at a.table k)) (asset_size newest) a.buf.now a.at a.n _ l.i l.o l.invariant
+    c.loop-i-test.false in
+    record { value = w.0; buf_after = w.1 }

@@ -35,5 +35,6 @@ pub returns : goal.returns
 returns c =
     let a = c.args in
     let l = c.loop-i in
-    written_all (λ k. entry_bytes (get_or a.table k no_entry)) (entry_size newest) a.buf.now a.at a.n _ l.i l.o l.invariant
-    c.loop-i-test.false
+    let w = written_all (λ k. entry_bytes (get_or a.table k no_entry)) (entry_size newest) a.buf.now a.at a.n _ l.i l.o l.invariant
+    c.loop-i-test.false in
+    record { value = w.0; buf_after = w.1 }

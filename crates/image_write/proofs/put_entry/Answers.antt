@@ -9,6 +9,22 @@ use Rattle.image_pieces.specs.Pieces.{limits-length, meters-length, track-length
 use Rattle.image_write.specs.Puts.{piece, joint}
 use Rattle.image_write.proofs.put_entry.Goals as goal
 
+pub put-o-requires : goal.put-o-requires
+unfolding entry_size
+put-o-requires c = search rules
+
+pub put-o-requires-2 : goal.put-o-requires-2
+unfolding entry_size
+put-o-requires-2 c = search rules
+
+pub put-o-requires-3 : goal.put-o-requires-3
+unfolding entry_size
+put-o-requires-3 c = search rules
+
+pub put-requires : goal.put-requires
+unfolding entry_size
+put-requires c = search rules
+
 pub returns : goal.returns
 unfolding entry_size
 returns c =

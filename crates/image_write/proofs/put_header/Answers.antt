@@ -7,6 +7,18 @@ use Rattle.image_pieces.specs.Pieces.{start-shut, number-shut, latest-shut, star
 use Rattle.image_write.specs.Puts.{piece, joint}
 use Rattle.image_write.proofs.put_header.Goals as goal
 
+pub put-o-requires : goal.put-o-requires
+unfolding header_size
+put-o-requires c = search rules
+
+pub put-o-requires-2 : goal.put-o-requires-2
+unfolding header_size
+put-o-requires-2 c = search rules
+
+pub put-requires : goal.put-requires
+unfolding header_size
+put-requires c = search rules
+
 pub returns : goal.returns
 unfolding header_size
 returns c =

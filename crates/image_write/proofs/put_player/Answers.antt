@@ -8,6 +8,18 @@ use Rattle.image_pieces.specs.Pieces.{last-shut, open-shut, number-shut, last-le
 use Rattle.image_write.specs.Puts.{piece, joint}
 use Rattle.image_write.proofs.put_player.Goals as goal
 
+pub put-o-requires : goal.put-o-requires
+unfolding player_size
+put-o-requires c = search rules
+
+pub put-o-requires-2 : goal.put-o-requires-2
+unfolding player_size
+put-o-requires-2 c = search rules
+
+pub put-requires : goal.put-requires
+unfolding player_size
+put-requires c = search rules
+
 pub returns : goal.returns
 unfolding player_size
 returns c =

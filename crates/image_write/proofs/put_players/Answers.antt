@@ -34,5 +34,6 @@ pub returns : goal.returns
 returns c =
     let a = c.args in
     let l = c.loop-i in
-    written_all (λ k. player_bytes (player_at a.table k)) (player_size newest) a.buf.now a.at 16 _ l.i l.o l.invariant
-    c.loop-i-test.false
+    let w = written_all (λ k. player_bytes (player_at a.table k)) (player_size newest) a.buf.now a.at 16 _ l.i l.o l.invariant
+    c.loop-i-test.false in
+    record { value = w.0; buf_after = w.1 }

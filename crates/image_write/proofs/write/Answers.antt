@@ -23,6 +23,22 @@ returns-then-buf-len c =
     omega (arith, c.if-buf-len.true, c.image_length-len.ensures ∙ counted a.b) in
     (rw (lt-leb _ _ short), rw (lt-leb _ _ short))
 
+pub put_header-o-requires : goal.put_header-o-requires
+unfolding image_length header_size asset_size entry_size player_size
+put_header-o-requires c = search rules
+
+pub put_assets-o-requires : goal.put_assets-o-requires
+unfolding image_length header_size asset_size entry_size player_size
+put_assets-o-requires c = search rules
+
+pub put_entries-o-requires : goal.put_entries-o-requires
+unfolding image_length header_size asset_size entry_size player_size
+put_entries-o-requires c = search rules
+
+pub put_players-requires : goal.put_players-requires
+unfolding image_length header_size asset_size entry_size player_size
+put_players-requires c = search rules
+
 pub returns : goal.returns
 unfolding write_answer write_buffer header_size asset_size entry_size player_size assets_in entries_in
 returns c =
@@ -52,8 +68,8 @@ returns c =
     let o₃ : pe.result ≡ players_from b = pe.ensures.value ∙ (rw (o₂, ne) refl) in
     let one : ph.new.buf ≡ with_header b old = ph.ensures.buf_after ∙ ap (lay old 0) head in
     let two : pa.new.buf ≡ with_assets b old = pa.ensures.buf_after ∙ (rw (one, o₁, na) refl) in
-    let three : pe.new.0 ≡ with_entries b old = pe.ensures.1 ∙ (rw (two, o₂, ne) refl) in
-    let four : pp.new.0 ≡ with_players b old = pp.ensures.1 ∙ (rw (three, o₃) refl) in (
-      rw (le-leb _ _ fits) (pp.ensures.0 ∙ ap (λ (k : ℕ). k + player_size newest * 16) o₃ ∙ sym (length-is b)),
+    let three : pe.new.buf ≡ with_entries b old = pe.ensures.buf_after ∙ (rw (two, o₂, ne) refl) in
+    let four : pp.new.buf ≡ with_players b old = pp.ensures.buf_after ∙ (rw (three, o₃) refl) in (
+      rw (le-leb _ _ fits) (pp.ensures.value ∙ ap (λ (k : ℕ). k + player_size newest * 16) o₃ ∙ sym (length-is b)),
       rw (le-leb _ _ fits) (four ∙ laid-image b old room),
     )
