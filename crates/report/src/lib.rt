@@ -48,7 +48,7 @@ pub fn raise_one(l: Line, seconds: u64, counted: bool) -> Line
     q[0]
 }
 
-// The proofs of the two functions below step through their code by hand, and can do so with functions of this crate only.
+// The smaller of two lengths.
 fn lesser(a: usize, b: usize) -> usize
     ensures { result ≡ min a b }
 {

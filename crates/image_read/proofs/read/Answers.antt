@@ -10,8 +10,7 @@ use Rattle.model.specs.Book.{rule_broken}
 use Rattle.model.specs.Image.{book_in, header_broken, read_code, read_book}
 use Rattle.model.proofs.Image.Header.{accepted-stages, accepted-book, refused-book}
 use borrow.Author.Rules.{rules}
-use Rattle.image_read.proofs.read.Statement.{statement}
-use Rattle.image_read.proofs.read.Tie as tie
+use Rattle.image_read.proofs.read.Goals as goal
 
 -- the code of what was parsed is the code of the bytes: if the header is refused, the book is not judged
 once : (w : Bool) (x y : Book) (k : ℕ) → cond w (rule_broken (cond w x y)) k ≡ cond w (rule_broken x) k
@@ -26,25 +25,16 @@ told s p q = rw (p, q) (once (eqb (header_broken s) 0) (book_in s) no_book (head
 accepted : (held : Book) (s : List ℕ) → read_code s ≡ 0 → cond (eqb (header_broken s) 0) (book_in s) no_book ≡ read_book held s
 accepted held s z = rw ((accepted-stages s z).0, accepted-book held s z)
 
-parse-requires : tie.Need-parse-requires
-parse-requires c κs = search rules
+pub returns-then-code-ne0 : goal.returns-then-code-ne0
+returns-then-code-ne0 c =
+    let a = c.args in
+    let p = c.parse-parsed.ensures in
+    let code = c.code_of-code.ensures ∙ told a.s.now p.code_value p.book_value in
+    (code, sym (refused-book a.held a.s.now (λ e. c.if-code-ne0.true (code ∙ e))))
 
-code-of-requires : tie.Need-code-of-requires
-code-of-requires c κs = search rules
-
-returns : tie.Need-returns
+pub returns : goal.returns
 returns c =
-    let a = c.before.before.before.before.before.args in
-    let p = c.before.before.before.parse.ensures in
-    let code = c.before.code_of.ensures ∙ told a.s.now p.0 p.1 in
-    (code, sym (refused-book a.held a.s.now (λ e. c.if1.true (code ∙ e))))
-
-returns-2 : tie.Need-returns-2
-returns-2 c =
-    let a = c.before.before.before.before.before.args in
-    let p = c.before.before.before.parse.ensures in
-    let code = sym (c.before.code_of.ensures ∙ told a.s.now p.0 p.1) ∙ c.if1.false in
-    (sym code, p.1 ∙ accepted a.held a.s.now code)
-
-pub read_spec : {M : Type 1} → statement M
-read_spec = tie.close (tie.spec parse-requires code-of-requires returns returns-2)
+    let a = c.args in
+    let p = c.parse-parsed.ensures in
+    let code = sym (c.code_of-code.ensures ∙ told a.s.now p.code_value p.book_value) ∙ c.if-code-ne0.false in
+    (sym code, p.book_value ∙ accepted a.held a.s.now code)
