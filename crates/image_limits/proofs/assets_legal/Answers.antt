@@ -1,13 +1,10 @@
 use mathlib.Core.Path.{◌≡◌, refl, sym, ap, ap₂, ◌∙◌}
-use mathlib.Core.Bool.{Bool, ◌&&◌}
-use mathlib.Core.List.{List}
-use Prim.Native.Nat.{ℕ, ◌-◌, ◌≤◌}
+use mathlib.Core.Bool.{◌&&◌}
+use Prim.Native.Nat.{ℕ}
 use native.Mathlib.Omega.{arith}
 use Rattle.numbers.specs.Count.{all}
 use Rattle.numbers.proofs.Loops.{all-turn}
-use Rattle.book.specs.declared.Asset.{Asset}
-use Rattle.model.specs.Book.{asset_at, assets_in, asset_legal, assets_legal}
-use borrow.Author.Rules.{rules}
+use Rattle.model.specs.Book.{assets_in, assets_legal}
 use Rattle.image_limits.proofs.assets_legal.Invariants.{judged}
 use Rattle.image_limits.proofs.assets_legal.Goals as goal
 
@@ -21,13 +18,13 @@ loop-i-preserved c =
     let l = c.loop-i in (
       omega arith,
       ap₂ ◌&&◌ l.invariant.1 c.asset_legal-w.ensures ∙ sym
-          (all-turn (judged c.args.b.assets-1 n) l.i),
+          (all-turn (judged c.args.b.assets n) l.i),
     )
 
 pub returns : goal.returns
 unfolding assets_legal assets_in
 returns c =
-    let assets = c.args.b.assets-1 in
+    let assets = c.args.b.assets in
     let n = c.at_most_64-n in
     let l = c.loop-i in
     let e : l.i ≡ n.result = omega arith in
