@@ -7,6 +7,7 @@ ghost use Rattle.model.specs.Record.{kind_of, request_of, decoded};
 
 use book::{Decoded, Event, Kind, RECORD_SIZE, Request};
 
+#[tactic(auto, unfolding(model::specs::Record::kind_of))]
 fn kind_of(kind: u8) -> Kind
     ensures { result ≡ kind_of kind }
 {
@@ -19,6 +20,7 @@ fn kind_of(kind: u8) -> Kind
     }
 }
 
+#[tactic(auto, unfolding(model::specs::Record::request_of))]
 fn request_of(operation: u8, asset: u16, kind: u8) -> Request
     ensures { result ≡ request_of operation asset kind }
 {

@@ -10,9 +10,10 @@ use native.Mathlib.Omega.{arith}
 use mathlib.Core.Path.{◌≡◌, refl, sym, ap, ◌∙◌}
 use Prim.Native.Nat.{ℕ, ◌≤◌, ◌<◌, ◌-◌}
 use Rattle.choice.proofs.chosen.Goals as goal
+use Rattle.choice.proofs.chosen.Goals.{Start}
 
 -- the asker's time fits 32 bits
-time-fits : (c : goal.Start invariant-loop decreases-loop) → c.args.ask.time < no_end
+time-fits : (c : Start) → c.args.ask.time < no_end
 time-fits c = omega arith
 
 pub at_most_64-n-requires : goal.at_most_64-n-requires
@@ -39,7 +40,7 @@ loop-i-preserved c =
       c.consider_row-best.ensures
           ∙ ap (λ (x : Row). row_considered a.asset a.parent a.kind a.ask l.i x l.best) c.row_of-row.ensures
           ∙ row-considered a.asset a.parent a.kind a.ask l.i lim m l.best (time-fits
-          c.before)
+          c.before.before.before.before.before.before.before.before)
           ∙ ap (λ (x : Best). considered a.asset a.parent a.kind a.ask l.i (limits_at a.es l.i)
           (meters_at a.es l.i) x) l.invariant.2
           ∙ sym (best-turn a.es a.asset a.parent a.kind a.ask l.i),

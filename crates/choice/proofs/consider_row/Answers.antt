@@ -38,7 +38,7 @@ returns-then-not-row_open c =
     rw (
       eq-eqb _ _ c.if-row-kind.false,
       not-false (row_belongs a.asset a.parent a.row) c.if-not-row-asset.false-raw,
-      sym c.row-Open.ensures ∙ not-true _ c.if-not-row_open.true-raw,
+      sym c.row_open.ensures ∙ not-true _ c.if-not-row_open.true-raw,
       and-false (ranks_before (row_rank a.asset a.row) a.best.rank),
       or-false a.best.switched,
     )
@@ -51,7 +51,7 @@ returns-then-row-ask c =
     rw (
       eq-eqb _ _ c.if-row-kind.false,
       not-false (row_belongs a.asset a.parent a.row) c.if-not-row-asset.false-raw,
-      sym c.row-Open.ensures ∙ not-false _ c.if-not-row_open.false-raw,
+      sym c.row_open.ensures ∙ not-false _ c.if-not-row_open.false-raw,
       c.if-row-ask.true,
       and-false (ranks_before (row_rank a.asset a.row) a.best.rank),
       or-true a.best.switched,
@@ -67,7 +67,7 @@ returns-then-not-ranks_before c =
       eq-eqb _ _ c.if-row-kind.false,
       not-false (row_belongs a.asset a.parent a.row) c.if-not-row-asset.false-raw,
       ranks ∙ not-true _ c.if-not-ranks_before.true-raw,
-      sym c.row-Open.ensures
+      sym c.row_open.ensures
           ∙ not-false _ c.if-not-row_open.false-raw,
       c.if-row-ask.false,
       or-false a.best.switched,
@@ -83,7 +83,7 @@ returns c =
       eq-eqb _ _ c.if-row-kind.false,
       not-false (row_belongs a.asset a.parent a.row) c.if-not-row-asset.false-raw,
       ranks ∙ not-false _ c.if-not-ranks_before.false-raw,
-      sym c.row-Open.ensures
+      sym c.row_open.ensures
           ∙ not-false _ c.if-not-row_open.false-raw,
       c.if-row-ask.false,
       c.one.ensures,

@@ -23,9 +23,6 @@ loop-i-preserved c =
       simp length-set l.invariant.2,
     )
 
-pub UNKNOWN-same-length : goal.UNKNOWN-same-length
-UNKNOWN-same-length c = c.loop-i.invariant.2
-
 pub returns : goal.returns
 returns c =
     let a = c.args in

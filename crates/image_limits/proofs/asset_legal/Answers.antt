@@ -1,5 +1,6 @@
 -- `image_limits::asset_legal` meets its contract: its tests are the definition's.
 use Rattle.model.specs.Book.{asset_legal}
+use borrow.Author.Rules.{rules}
 use Rattle.image_limits.proofs.asset_legal.Goals as goal
 
 pub returns : goal.returns

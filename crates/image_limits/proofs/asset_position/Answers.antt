@@ -1,10 +1,11 @@
 use mathlib.Core.Path.{◌≡◌, refl, sym, ap, ◌∙◌}
 use mathlib.Core.Bool.{Bool}
 use mathlib.Core.List.{List}
-use Prim.Native.Nat.{ℕ, ◌≤◌, min}
+use Prim.Native.Nat.{ℕ, ◌-◌, ◌≤◌, min}
 use native.Mathlib.Decide.{le_ind}
 use native.Mathlib.Numerals.{add-one}
 use native.Mathlib.Omega.{arith}
+use lib.Dec.{eqb}
 use lib.ListN.{length, get_or-eq_default}
 use borrow.Author.Tests.{eq-eqb, ne_eqb}
 use Rattle.numbers.specs.Count.{first}
@@ -13,8 +14,10 @@ use Rattle.numbers.proofs.TableLaws.{below_or_not}
 use Rattle.book.specs.Blank.{no_asset}
 use Rattle.book.specs.declared.Asset.{Asset}
 use Rattle.model.specs.Book.{asset_at, asset_position}
+use borrow.Author.Rules.{rules}
 use Rattle.image_limits.proofs.asset_position.Invariants.{numbered}
 use Rattle.image_limits.proofs.asset_position.Goals as goal
+use Rattle.image_limits.proofs.asset_position.Goals.{Start}
 
 module _ (ats : List Asset) (number n m : ℕ) (slots : length ats ≡ 64) (e : m ≡ min n 64)
     (none : first (numbered ats number) m ≡ m) where
@@ -36,6 +39,9 @@ module _ (ats : List Asset) (number n m : ℕ) (slots : length ats ≡ 64) (e : 
       (ne_eqb _ _ (λ r. z (sym r ∙ past k (omega arith))))))
       n (omega arith))
       (λ h. let q : n ≡ m = omega arith in ap (first (numbered ats number)) q ∙ none ∙ sym q)
+
+table : (c : Start) → length c.args.assets ≡ 64
+table c = search length-mapped
 
 pub loop-i-init : goal.loop-i-init
 unfolding first
@@ -64,8 +70,7 @@ returns-then-number-eq0 c =
     let a = c.args in
     let m = c.min_size-m in
     let l = c.loop-i in
-    let table : length a.assets ≡ 64 = search length-mapped in
-    sym (blank-found a.assets a.number a.n m.result table m.ensures
+    sym (blank-found a.assets a.number a.n m.result (table c.before.before.before.before) m.ensures
     (ended (numbered a.assets a.number) l.i m.result (omega arith) l.invariant.1) c.if-number-eq0.true)
 
 pub returns : goal.returns
@@ -74,6 +79,5 @@ returns c =
     let a = c.args in
     let m = c.min_size-m in
     let l = c.loop-i in
-    let table : length a.assets ≡ 64 = search length-mapped in
-    sym (not_found a.assets a.number a.n m.result table m.ensures
+    sym (not_found a.assets a.number a.n m.result (table c.before.before.before.before) m.ensures
     (ended (numbered a.assets a.number) l.i m.result (omega arith) l.invariant.1) c.if-number-eq0.false)

@@ -1,10 +1,13 @@
 use mathlib.Core.Path.{◌≡◌, refl, sym, ap, ap₂, ◌∙◌}
-use mathlib.Core.Bool.{◌&&◌}
-use Prim.Native.Nat.{ℕ}
+use mathlib.Core.Bool.{Bool, ◌&&◌}
+use mathlib.Core.List.{List}
+use Prim.Native.Nat.{ℕ, ◌-◌, ◌≤◌}
 use native.Mathlib.Omega.{arith}
 use Rattle.numbers.specs.Count.{all}
 use Rattle.numbers.proofs.Loops.{all-turn}
-use Rattle.model.specs.Book.{assets_in, assets_legal}
+use Rattle.book.specs.declared.Asset.{Asset}
+use Rattle.model.specs.Book.{asset_at, assets_in, asset_legal, assets_legal}
+use borrow.Author.Rules.{rules}
 use Rattle.image_limits.proofs.assets_legal.Invariants.{judged}
 use Rattle.image_limits.proofs.assets_legal.Goals as goal
 

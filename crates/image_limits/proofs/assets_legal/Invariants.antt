@@ -1,11 +1,14 @@
 -- `image_limits::assets_legal` meets its contract. The invariant: `legal` tells whether the first i assets are legal.
-use mathlib.Core.Path.{◌≡◌}
-use mathlib.Core.Bool.{Bool}
+use mathlib.Core.Path.{◌≡◌, refl, sym, ap, ap₂, ◌∙◌}
+use mathlib.Core.Bool.{Bool, ◌&&◌}
 use mathlib.Core.List.{List}
 use Prim.Native.Nat.{ℕ, ◌-◌, ◌≤◌}
+use native.Mathlib.Omega.{arith}
 use Rattle.numbers.specs.Count.{all}
+use Rattle.numbers.proofs.Loops.{all-turn}
 use Rattle.book.specs.declared.Asset.{Asset}
-use Rattle.model.specs.Book.{asset_at, asset_legal}
+use Rattle.model.specs.Book.{asset_at, assets_in, asset_legal, assets_legal}
+use borrow.Author.Rules.{rules}
 use Rattle.image_limits.proofs.assets_legal.Given as goal
 
 abbrev pub judged : List Asset → ℕ → ℕ → Bool

@@ -1,11 +1,15 @@
 use mathlib.Core.Path.{◌≡◌, refl, sym, ap, ap₂, ◌∙◌}
-use mathlib.Core.Bool.{◌&&◌}
-use Prim.Native.Nat.{ℕ}
+use mathlib.Core.Bool.{Bool, ◌&&◌}
+use mathlib.Core.List.{List}
+use Prim.Native.Nat.{ℕ, ◌-◌, ◌≤◌}
 use native.Mathlib.Omega.{arith}
 use Rattle.numbers.specs.Count.{all}
 use Rattle.numbers.proofs.Loops.{all-turn}
 use lib.Dec.{ltb}
-use Rattle.model.specs.Book.{limits_at, assets_in, entries_in, in_book, limits_legal, entries_legal}
+use Rattle.book.specs.declared.Asset.{Asset}
+use Rattle.book.specs.declared.Entry.{Entry}
+use Rattle.model.specs.Book.{limits_at, assets_in, entries_in, asset_position, in_book, limits_legal, entries_legal}
+use borrow.Author.Rules.{rules}
 use Rattle.image_limits.proofs.entries_legal.Invariants.{judged}
 use Rattle.image_limits.proofs.entries_legal.Goals as goal
 

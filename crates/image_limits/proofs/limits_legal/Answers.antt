@@ -1,6 +1,7 @@
 -- `image_limits::limits_legal` meets its contract: its tests are the definition's.
 use Rattle.model.specs.Book.{threshold_legal, limits_legal}
 use Rattle.rules.specs.Rules.{flags_of}
+use borrow.Author.Rules.{rules}
 use Rattle.image_limits.proofs.limits_legal.Goals as goal
 
 pub returns : goal.returns

@@ -15,7 +15,7 @@ pub returns-then-n-lt10 : goal.returns-then-n-lt10
 returns-then-n-lt10 c =
     let a = c.args in
     let p = places-one a.n c.if-n-lt10.true in
-    (omega arith, one-laid a.out-1.now a.at a.n c.if-n-lt10.true (omega arith))
+    (omega arith, one-laid a.out.now a.at a.n c.if-n-lt10.true (omega arith))
 
 pub put_two-requires : goal.put_two-requires
 put_two-requires c =
@@ -26,7 +26,7 @@ pub returns-then-n-lt100 : goal.returns-then-n-lt100
 returns-then-n-lt100 c =
     let a = c.args in
     let p = places-more 1 a.n (omega arith) (omega arith) (omega arith) in
-    (omega arith, c.put_two.ensures ∙ ap (lay a.out-1.now a.at) (two_digits a.n (omega arith) (omega arith)))
+    (omega arith, c.put_two.ensures ∙ ap (lay a.out.now a.at) (two_digits a.n (omega arith) (omega arith)))
 
 pub bounds-out-at-2 : goal.bounds-out-at-2
 bounds-out-at-2 c = omega (arith, places-more 2 c.args.n (omega arith) (omega arith) (omega arith))
@@ -36,13 +36,8 @@ put_two-requires-2 c =
     let p = places-more 2 c.args.n (omega arith) (omega arith) (omega arith) in
     (simp length-set (omega arith), omega arith)
 
-pub UNKNOWN-same-length-3 : goal.UNKNOWN-same-length-3
-UNKNOWN-same-length-3 c =
-    let a = c.args in
-    omega (arith, length-set a.out-1.now a.at (48 + a.n / 100))
-
 pub returns : goal.returns
 returns c =
     let a = c.args in
     let p = places-more 2 a.n (omega arith) (omega arith) (omega arith) in
-    (omega arith, c.put_two-2.ensures ∙ three-laid a.out-1.now a.at a.n (omega arith) (omega arith) (omega arith))
+    (omega arith, c.put_two-2.ensures ∙ three-laid a.out.now a.at a.n (omega arith) (omega arith) (omega arith))

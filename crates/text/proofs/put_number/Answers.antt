@@ -33,7 +33,7 @@ places-count-requires c = tt
 pub loop-left-init : goal.loop-left-init
 loop-left-init c =
     let a = c.args in
-    let s = digits-start a.n a.out-1.now a.at c.places-count.result (omega arith) c.places-count.ensures in
+    let s = digits-start a.n a.out.now a.at c.places-count.result (omega arith) c.places-count.ensures in
     (omega arith, refl, s.0, s.1)
 
 pub loop-left-preserved : goal.loop-left-preserved
@@ -41,12 +41,9 @@ loop-left-preserved c =
     let a = c.args in
     let l = c.loop-left in
     let k : l.left - 1 + 1 ≡ l.left = omega arith in
-    let t = digits-laid a.n a.out-1.now l.out-1 a.at (l.left - 1) l.rest (omega arith) (omega arith) (rw k l.invariant.2)
+    let t = digits-laid a.n a.out.now l.out a.at (l.left - 1) l.rest (omega arith) (omega arith) (rw k l.invariant.2)
     (rw k l.invariant.3) in
-    (omega arith, length-set l.out-1 (a.at + (l.left - 1)) (48 + l.rest % 10) ∙ l.invariant.1, t.0, t.1)
-
-pub UNKNOWN-same-length-2 : goal.UNKNOWN-same-length-2
-UNKNOWN-same-length-2 c = c.loop-left.invariant.1
+    (omega arith, length-set l.out (a.at + (l.left - 1)) (48 + l.rest % 10) ∙ l.invariant.1, t.0, t.1)
 
 pub returns : goal.returns
 returns c =

@@ -23,8 +23,5 @@ bounds-out-at-6 c = simp length-set (omega arith)
 pub bounds-out-at-7 : goal.bounds-out-at-7
 bounds-out-at-7 c = simp length-set (omega arith)
 
-pub UNKNOWN-same-length : goal.UNKNOWN-same-length
-UNKNOWN-same-length c = simp length-set
-
 pub returns : goal.returns
 returns c = refused-laid c.args.out.now c.args.at (omega arith)

@@ -14,4 +14,4 @@ returns c =
       c.put_two-2.ensures,
       c.put_two.ensures,
     )
-    (ten-laid a.out-1.now a.at a.n (omega arith) (omega arith) (omega arith))
+    (ten-laid a.out.now a.at a.n (omega arith) (omega arith) (omega arith))

@@ -1,0 +1,71 @@
+-- `image_parse::book_as` meets its contract: each table is read where the sizes of the version and the counts of the header put it.
+use mathlib.Core.Path.{ap}
+use native.Mathlib.Omega.{arith}
+use Rattle.model.specs.Image.{header_size, version_in}
+use Rattle.image_parse.specs.Versions.{header-two, header-five}
+use Prim.Native.Nat.{◌≤◌}
+use lib.ListN.{length}
+use Rattle.image_parse.specs.Header.{HeaderStands, header-stands, Located, located, read-there}
+use borrow.Author.Rules.{rules}
+use Rattle.image_parse.proofs.book_as.Goals as goal
+use Rattle.image_parse.proofs.book_as.Goals.{After-players_from-playersfrom, Start}
+
+stands : (c : Start) → HeaderStands c.args.s.now
+stands c = header-stands c.args.s.now c.requires
+
+pub read16-v-requires : goal.read16-v-requires
+read16-v-requires c = let h = stands c.before.before in omega (arith, h.start)
+
+pub bounds-s-5 : goal.bounds-s-5
+bounds-s-5 c = let h = stands c.before.before.before.before in omega (arith, h.start)
+
+pub bounds-s-6 : goal.bounds-s-6
+bounds-s-6 c = let h = stands c.before.before.before.before.before in omega (arith, h.start)
+
+pub added32-switch-requires : goal.added32-switch-requires
+added32-switch-requires c h =
+    let p = stands c.before.before.before.before.before.before.before.before in
+    let l = (located c.args.s.now c.requires _ _ _ _ c.read16-v.ensures c.header_size-assetsfrom.ensures.0 c.entries_from-entriesfrom.ensures.0 c.players_from-playersfrom.ensures.0) in
+    let e = header-two c.read16-v.result (omega arith) in
+    omega (arith, p.enough, e, ap header_size l.same)
+
+pub added32-player-requires : goal.added32-player-requires
+added32-player-requires c h = let p = stands c.before.before.before.before.before.before.before.before.before in
+    let l = (located c.args.s.now c.requires _ _ _ _ c.read16-v.ensures c.header_size-assetsfrom.ensures.0 c.entries_from-entriesfrom.ensures.0 c.players_from-playersfrom.ensures.0) in
+    let e = header-five c.read16-v.result (omega arith) in
+    omega (arith, p.enough, e, ap header_size l.same)
+
+pub added32-started-requires : goal.added32-started-requires
+added32-started-requires c h = let p = stands c.before.before.before.before.before.before.before.before.before.before in
+    let l = (located c.args.s.now c.requires _ _ _ _ c.read16-v.ensures c.header_size-assetsfrom.ensures.0 c.entries_from-entriesfrom.ensures.0 c.players_from-playersfrom.ensures.0) in
+    let e = header-five c.read16-v.result (omega arith) in
+    omega (arith, p.enough, e, ap header_size l.same)
+
+pub read32-requires : goal.read32-requires
+read32-requires c =
+    let h = stands c.before.before.before.before.before.before.before.before.before.before.before in omega (arith, h.start)
+
+pub overflow_cast-assets : goal.overflow_cast-assets
+overflow_cast-assets c = let l = (located c.args.s.now c.requires _ _ _ _ c.read16-v.ensures c.header_size-assetsfrom.ensures.0 c.entries_from-entriesfrom.ensures.0 c.players_from-playersfrom.ensures.0) in omega (arith, l.asset_count)
+
+pub assets_in-requires : goal.assets_in-requires
+assets_in-requires c = let l = (located c.args.s.now c.requires _ _ _ _ c.read16-v.ensures c.header_size-assetsfrom.ensures.0 c.entries_from-entriesfrom.ensures.0 c.players_from-playersfrom.ensures.0) in (l.oldest, l.known, l.asset_count, l.asset_room)
+
+pub overflow_cast-entries : goal.overflow_cast-entries
+overflow_cast-entries c = let l = (located c.args.s.now c.requires _ _ _ _ c.read16-v.ensures c.header_size-assetsfrom.ensures.0 c.entries_from-entriesfrom.ensures.0 c.players_from-playersfrom.ensures.0) in omega (arith, l.entry_count)
+
+pub entries_in-requires : goal.entries_in-requires
+entries_in-requires c = let l = (located c.args.s.now c.requires _ _ _ _ c.read16-v.ensures c.header_size-assetsfrom.ensures.0 c.entries_from-entriesfrom.ensures.0 c.players_from-playersfrom.ensures.0) in
+    (l.oldest, l.known, l.entry_count, l.entry_room)
+
+pub players_in-requires : goal.players_in-requires
+players_in-requires c = let l = (located c.args.s.now c.requires _ _ _ _ c.read16-v.ensures c.header_size-assetsfrom.ensures.0 c.entries_from-entriesfrom.ensures.0 c.players_from-playersfrom.ensures.0) in (l.oldest, l.known, l.player_room)
+
+pub returns : goal.returns
+unfolding version_in
+returns c =
+    read-there _ _ _ _ _ _ _ _ _ _ _ _ ((located c.args.s.now c.requires _ _ _ _ c.read16-v.ensures c.header_size-assetsfrom.ensures.0 c.entries_from-entriesfrom.ensures.0 c.players_from-playersfrom.ensures.0))
+    c.added32-switch.ensures
+    c.added32-player.ensures c.added32-started.ensures
+    c.read32.ensures c.assets_in.ensures c.entries_in.ensures
+    c.players_in.ensures

@@ -1,0 +1,16 @@
+-- `image_parse::entries_in` meets its contract. After i turns the first i slots are read, and the others are blank.
+use Prim.Native.Nat.{ℕ, ◌+◌, ◌-◌, ◌≤◌}
+use mathlib.Core.Path.{ap}
+use native.Mathlib.Omega.{arith}
+use lib.ListN.{length, replicate}
+use Rattle.book.specs.Blank.{no_entry}
+use Rattle.model.specs.Image.{entry_size, entry_in, entry_table}
+use borrow.Author.Rules.{rules}
+use Rattle.image_parse.specs.Tables.{ReadTo, read_none, read-room, read-turn, read_all, part_room}
+use Rattle.image_parse.proofs.entries_in.Given as goal
+
+abbrev pub invariant-loop-i : goal.invariant-loop-i
+invariant-loop-i l = ReadTo (entry_in l.v) no_entry 64 (entry_size l.v) l.at l.n l.s l.table l.i l.o
+
+abbrev pub decreases-loop-i : goal.decreases-loop-i
+decreases-loop-i l = l.n - l.i
