@@ -1,5 +1,5 @@
 -- What becomes of a text and a buffer lent for the image of its book.
-use Rattle.std.specs.Prelude.{ℕ, cond, List, length, eqb, leb}
+use Rattle.std.specs.Prelude.{ℕ, cond, List, eqb, leb}
 use Rattle.model.specs.Image.{length_of, write_buffer}
 use Rattle.fill.specs.Fill.{no_room}
 use Rattle.xml_model.specs.declared.Reading.{Reading}

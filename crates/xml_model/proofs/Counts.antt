@@ -89,7 +89,7 @@ module _ (s : List ℕ) where
   unit-adds : (p : ℕ) (k : List Frame) (st : State) → Leads From (record { at = p; stack = k; state = st }) (unit_step s p k st)
   unfolding unit_step ruled From Adds
   unit-adds p [] st = λ _. refl
-  unit-adds p (e ∷ k) st = leads-cond From _ (eqb (judge s t e k st).code 0) _ _
+  unit-adds p (e ∷ k) st = leads-cond From (record { at = p; stack = e ∷ k; state = st }) (eqb (judge s t e k st).code 0) _ _
       (λ q. onwards (eqb-true _ _ q)) (λ q. refusal-adds p _ _ _ (eqb-false _ _ q))
     where
       t : Tag

@@ -121,7 +121,7 @@ module _ (s : List ℕ) where
   unit-within : (p : ℕ) (k : List Frame) (st : State) → Leads Within (record { at = p; stack = k; state = st }) (unit_step s p k st)
   unfolding unit_step ruled refusal Within
   unit-within p [] st = λ h _. h
-  unit-within p (e ∷ k) st = leads-cond Within _ (eqb (judge s (unit_at s p) e k st).code 0) _ _
+  unit-within p (e ∷ k) st = leads-cond Within (record { at = p; stack = e ∷ k; state = st }) (eqb (judge s (unit_at s p) e k st).code 0) _ _
       (λ q r f _ c. f (unit-lies s p (judge-scanned s (unit_at s p) e k st (eqb-true _ _ q))).next c) (λ q _ c. absurd (eqb-false _ _ q c))
 
   follow-within : (p : ℕ) (v : Verdict) → p ≤ length s → (follow s p v).code ≡ 0 → (follow s p v).at ≤ length s

@@ -17,7 +17,7 @@ use Rattle.xml_model.specs.Tags.{unit_at}
 use Rattle.xml_model.specs.State.{no}
 use Rattle.xml_model.specs.Text.{Frame, Verdict, Config, leads_to, judge, refusal, ruled, unit_step, go, follow}
 use Rattle.xml_model.proofs.Repeats.{repeat-stop, repeat-more}
-use Rattle.xml_model.proofs.Units.{Lies, unit-lies}
+use Rattle.xml_model.proofs.Units.{unit-lies}
 use Rattle.xml_read.specs.Nesting.{reached, after}
 
 -- a unit that is no fault has been scanned

@@ -1,14 +1,14 @@
 -- Laws of numbers in a text: that saturation changes no accepted value, and how large the number is that a few digits are.
 use Prim.Native.Nat.{ℕ, zero, suc, ◌+◌, ◌-◌, ◌*◌, ◌<◌, ◌≤◌, min}
 use mathlib.Core.Path.{◌≡◌, refl, sym, ap, ◌∙◌}
-use mathlib.Core.Bool.{Bool, true, false, cond, not, ◌&&◌, and-false}
+use mathlib.Core.Bool.{Bool, true, false, cond, ◌&&◌, and-false}
 use mathlib.Core.List.{List, [], ◌∷◌}
 use native.Mathlib.Numerals.{add-one}
 use native.Mathlib.Omega.{arith}
 use lib.ListN.{length, get_or, take, drop, drop_of_length-le}
 use lib.Seq.{drop-cons}
 use lib.Dec.{leb, eqb}
-use borrow.Author.Tests.{leb-true, not-false}
+use borrow.Author.Tests.{leb-true}
 use Rattle.numbers.proofs.Tests.{on_test, and_right, row-passed}
 use Rattle.numbers.proofs.TableLaws.{below_or_not}
 use Rattle.model.specs.Book.{most_seconds}
@@ -130,12 +130,12 @@ digits-inside v i n p h =
     omega (arith, e, run_inside digits v i (omega (arith, e)))
 
 -- where the digits of a time are
-pub time-digits : (v : List ℕ) {w : Bool} → w ≡ time_formed v → not w ≡ false
+pub time-digits : (v : List ℕ) {w : Bool} → w ≡ time_formed v → w ≡ true
     → (digits_at v 0 4 ≡ true) × (digits_at v 5 2 ≡ true) × (digits_at v 8 2 ≡ true) × (digits_at v 11 2 ≡ true)
     × (digits_at v 14 2 ≡ true) × (digits_at v 17 2 ≡ true)
 unfolding time_formed
 time-digits v {w} q f =
-    let h = sym q ∙ not-false w f in
+    let h = sym q ∙ f in
     let p = (row-passed (eqb (length v) 20)
     (digits_at v 0 4 ∷ eqb (byte_at v 4) 45
     ∷ digits_at v 5 2 ∷ eqb (byte_at v 7) 45
