@@ -68,42 +68,49 @@ use Rattle.batch.specs.StepCases.{rows_next, admit, admitted-few, reported-as, c
 use Rattle.batch.specs.StepCases.{lines-kept, acted-raised, acted-kept, case-refused, case-resent}
 use Rattle.batch.proofs.answer_block.Invariants.{rows_for, ends_for, Going}
 use Rattle.batch.proofs.answer_block.Goals as goal
-use Rattle.batch.proofs.answer_block.Goals.{After-gate_of, After-received, In-Take, In-loop-i, Joined-code-eq0, Joined-next-t, Joined-request, Start}
+use Rattle.batch.proofs.answer_block.Goals.{then-next-t+else-loop-p-test, else-next-t, in-Begin+else-loop-e-test, in-Continue, in-Stop}
+use Rattle.batch.proofs.answer_block.Goals.{in-Cancel, then-code-eq0, else-code-eq0, then-k-lt64-2, else-k-lt64-2, in-Begin-request}
+use Rattle.batch.proofs.answer_block.Goals.{in-Continue-request, in-Stop-request, in-Cancel-request, then-k-lt64-3, else-k-lt64-3}
+use Rattle.batch.proofs.answer_block.Goals.{then-w-lt64-2, else-w-lt64-2, then-end-t, else-end-t, then-k-lt64+then-w-lt64}
+use Rattle.batch.proofs.answer_block.Goals.{then-k-lt64+else-w-lt64, else-k-lt64}
+use Rattle.batch.proofs.answer_block.Tie as tie
+use Rattle.batch.proofs.answer_block.Lts as lts
+use Rattle.batch.proofs.answer_block.Reads as reads
 
 abbrev Entered : Type 0
-Entered = Start decreases-loop
+Entered = lts.Start tie.the-claims reads.Pre reads.Post goal.the-invariant-loop-p goal.the-decreases-loop-p goal.the-invariant-loop-e goal.the-decreases-loop-e goal.the-invariant-loop-i goal.the-decreases-loop-i
 
 abbrev Turn : Type 0
-Turn = In-loop-i decreases-loop
+Turn = lts.In-loop tie.the-claims reads.Pre reads.Post goal.the-invariant-loop-p goal.the-decreases-loop-p goal.the-invariant-loop-e goal.the-decreases-loop-e goal.the-invariant-loop-i goal.the-decreases-loop-i
 
 -- the record is decoded, and admitted if the list is good
 abbrev Read : Type 0
-Read = After-received decreases-loop
+Read = lts.After-received tie.the-claims reads.Pre reads.Post goal.the-invariant-loop-p goal.the-decreases-loop-p goal.the-invariant-loop-e goal.the-decreases-loop-e goal.the-invariant-loop-i goal.the-decreases-loop-i
 
 -- it holds an event, and the gate has judged it
 abbrev Judged : Type 0
-Judged = After-gate_of decreases-loop
+Judged = lts.After-gate_of tie.the-claims reads.Pre reads.Post goal.the-invariant-loop-p goal.the-decreases-loop-p goal.the-invariant-loop-e goal.the-decreases-loop-e goal.the-invariant-loop-i goal.the-decreases-loop-i
 
 -- the event is taken
 abbrev Taken : Type 0
-Taken = In-Take decreases-loop
+Taken = lts.Past-After-enum_told2 tie.the-claims reads.Pre reads.Post goal.the-invariant-loop-p goal.the-decreases-loop-p goal.the-invariant-loop-e goal.the-decreases-loop-e goal.the-invariant-loop-i goal.the-decreases-loop-i
 
 -- every use that is due has ended
 abbrev AllSettled : Type 0
-AllSettled = Joined-next-t decreases-loop
+AllSettled = lts.Joined2 tie.the-claims reads.Pre reads.Post goal.the-invariant-loop-p goal.the-decreases-loop-p goal.the-invariant-loop-e goal.the-decreases-loop-e goal.the-invariant-loop-i goal.the-decreases-loop-i
 
 -- the entry and the code are known
 abbrev Chosen : Type 0
-Chosen = Joined-request decreases-loop
+Chosen = lts.At-match3-branch tie.the-claims reads.Pre reads.Post goal.the-invariant-loop-p goal.the-decreases-loop-p goal.the-invariant-loop-e goal.the-decreases-loop-e goal.the-invariant-loop-i goal.the-decreases-loop-i
 
 abbrev entered : Turn → Entered
-entered c = c.before
+entered c = c.before.before.before.before.before.before.before.before.before.before.before.before.before.before
 
 abbrev turn : Read → Turn
-turn c = c.before
+turn c = c.before.before.before
 
 abbrev read : Judged → Read
-read c = c.before
+read c = c.before.before.before.before.before.before.before
 
 abbrev judged : Taken → Judged
 judged c = c.before
@@ -112,7 +119,7 @@ abbrev taken : AllSettled → Taken
 taken c = c.before
 
 abbrev all_settled : Chosen → AllSettled
-all_settled c = c.before
+all_settled c = c.before.before.before.before.before.before
 
 entries-64 : (c : Entered) → length c.args.b.entries ≡ 64
 entries-64 c = search length-mapped
@@ -146,10 +153,10 @@ is-decoded c =
     (record-part (entered (turn c)).args.records.now i (c.min_size-to.result - record_size * i) (omega arith))
 
 abbrev event-at : Judged → Event
-event-at c = c.event.given.0.0
+event-at c = c.in-Valid.event
 
 is-valid : (c : Judged) → admitted-at (turn (read c)) ≡ Valid (event-at c)
-is-valid c = sym (is-decoded (read c)) ∙ c.event.given.1
+is-valid c = sym (is-decoded (read c)) ∙ c.in-Valid.is
 
 is-few : (c : Judged) → (event-at c).player ≤ 15
 is-few c = admitted-few (turn (read c)).loop-i.good (record-at (turn (read c))) (event-at c) (is-valid c)
@@ -158,7 +165,7 @@ is-admitted : (c : Taken) → Admitted (book-at (turn (read (judged c)))) (admit
 is-admitted c =
     let j = judged c in
     admitted (book-at (turn (read j))) (admitted-at (turn (read j))) (turn (read j)).loop-i.report (event-at j) (is-valid j)
-    (is-few j) j.gate_of.result j.gate_of.ensures c.enum_told-in-Take-1.given.1
+    (is-few j) j.gate_of.result j.gate_of.ensures c.in-Take.is
 
 is-player : (c : Taken) → (event-at (judged c)).player % 16 ≡ (event-at (judged c)).player
 is-player c = let h = (is-admitted c).few-players in omega arith
@@ -175,25 +182,25 @@ after-settle c =
     let l = (turn (read (judged (taken c)))).loop-i in
     let t = (event-at (judged (taken c))).time in
     let start = (entered (turn (read (judged (taken c))))).args in
-    ⊎_elim
-    (λ w. (
-      settled-by t l.book c.if-next-t.book l.inv.3 l.inv.4 c.if-next-t.next w.1.p w.1.inv.0 w.2.left
-          (w.3 ∙ w.1.inv.1) (w.8 ∙ w.1.inv.2),
-      w.5 ∙ w.1.inv.3 ∙ ap rows_for (sym w.3),
-      w.6 ∙ w.1.inv.4 ∙ ap ends_for (sym w.3),
-      w.4 ∙ recorded-by l.book l.report t w.1.p w.1.report (omega (arith, w.2.left, l.inv.4)) w.1.inv.6,
-      w.7 ∙ w.1.inv.7 ∙ ap₂ (λ (n : ℕ) (ms : List Line). good_lines start.b.assets n ms start.lent) l.inv.7 (sym w.4),
-      ap length w.4 ∙ w.1.inv.8,
-    ))
-    (λ w. (
-      settled-still t l.book c.if-next-t.book l.inv.3 l.inv.4 l.next c.if-next-t.next l.inv.2 w.0.left w.1 w.6,
-      w.3 ∙ l.inv.5 ∙ ap rows_for (sym w.1),
-      w.4 ∙ l.inv.8 ∙ ap ends_for (sym w.1),
-      w.2 ∙ recorded-still l.book l.report t l.next l.inv.2 w.0.left,
-      w.5 ∙ l.inv.9 ∙ ap (λ (ms : List Line). good_lines start.b.assets start.b.assetcount ms start.lent) (sym w.2),
-      ap length w.2 ∙ l.inv.10,
-    ))
-    c.if-next-t.branch
+    elim c.if-next-t.branch [
+      | then-next-t+else-loop-p-test w ↦ (
+        settled-by t l.book c.if-next-t.book l.invariant.3 l.invariant.4 c.if-next-t.next w.loop-p.p w.loop-p.invariant.0 w.loop-p-test.false
+            (w.book-is ∙ w.loop-p.invariant.1) (w.next-is ∙ w.loop-p.invariant.2),
+        w.rows-is ∙ w.loop-p.invariant.3 ∙ ap rows_for (sym w.book-is),
+        w.ends-is ∙ w.loop-p.invariant.4 ∙ ap ends_for (sym w.book-is),
+        w.report-is ∙ recorded-by l.book l.report t w.loop-p.p w.loop-p.report (omega (arith, w.loop-p-test.false, l.invariant.4)) w.loop-p.invariant.6,
+        w.good-is ∙ w.loop-p.invariant.7 ∙ ap₂ (λ (n : ℕ) (ms : List Line). good_lines start.b.assets n ms start.lent) l.invariant.7 (sym w.report-is),
+        ap length w.report-is ∙ w.loop-p.invariant.8,
+      )
+      | else-next-t w ↦ (
+        settled-still t l.book c.if-next-t.book l.invariant.3 l.invariant.4 l.next c.if-next-t.next l.invariant.2 w.if-next-t.false w.book-is w.next-is,
+        w.rows-is ∙ l.invariant.5 ∙ ap rows_for (sym w.book-is),
+        w.ends-is ∙ l.invariant.8 ∙ ap ends_for (sym w.book-is),
+        w.report-is ∙ recorded-still l.book l.report t l.next l.invariant.2 w.if-next-t.false,
+        w.good-is ∙ l.invariant.9 ∙ ap (λ (ms : List Line). good_lines start.b.assets start.b.assetcount ms start.lent) (sym w.report-is),
+        ap length w.report-is ∙ l.invariant.10,
+      )
+    ]
 
 -- settling leaves the assets
 assets-kept : (c : AllSettled) → (c.if-next-t.book.assets ≡ (entered (turn (read (judged (taken c))))).args.b.assets) ×
@@ -202,13 +209,17 @@ unfolding settled_book
 assets-kept c =
     let z = (after-settle c).0.is-settled in
     let l = (turn (read (judged (taken c)))).loop-i in
-    (ap (λ (m : Book). m.assets) z ∙ l.inv.6, ap (λ (m : Book). m.assetcount) z ∙ l.inv.7)
+    (ap (λ (m : Book). m.assets) z ∙ l.invariant.6, ap (λ (m : Book). m.assetcount) z ∙ l.invariant.7)
 
 -- the match leaves the request
 request-kept : (c : Chosen) → c.match-request.request ≡ (event-at (judged (taken (all_settled c)))).request
 request-kept c =
-    ⊎_elim (λ w. w.14 ∙ sym w.1.given.1) (λ v. ⊎_elim (λ w. w.2) (λ u. ⊎_elim (λ w. w.2) (λ w. w.2) u) v)
-    c.match-request.branch
+    elim c.match-request.branch [
+      | in-Begin+else-loop-e-test w ↦ w.request-is ∙ sym w.in-Begin.is
+      | in-Continue w ↦ w.request-is
+      | in-Stop w ↦ w.request-is
+      | in-Cancel w ↦ w.request-is
+    ]
 
 -- the use that the asking player has open
 abbrev open-at : Chosen → Open
@@ -226,33 +237,27 @@ planned c =
     let o = open-at c in
     let ho : o ≡ open_at n.players e.player = ap (open_at n.players) (is-player (taken s)) in
     let ht : e.time ≤ latest_time = came.early in
-    ⊎_elim
-    (λ w.
-    let sort = w.1.given.0.0 in
-    let asset = w.1.given.0.1.0 in
-    let kind = w.3.result in
-    let r = w.6.result in
-    let tables = c.fill_places.ensures in
-    let hr = w.6.ensures ∙ ap₂ (λ (x y : List ℕ). reach_at x y asset) tables.0 tables.1 in
-    let end : w.10.e ≡ w.9.result = omega (arith, w.10.inv.0, w.11.left) in
-    planned-begin n e o sort asset kind c.match-request.k c.match-request.code w.9.result r w.10.best
-    ho w.1.given.1 w.3.ensures
-    (usable-is n start.args.b.assets start.args.b.assetcount asset r kept.0 kept.1 (omega arith) hr)
-    (parent_is n start.args.b.assets start.args.b.assetcount asset r kept.0 kept.1 (omega arith) hr)
-    (w.9.ensures ∙ ap (looked (is_on o) r.usable) w.8.ensures)
-    (w.10.inv.2 ∙ ap (best_after n.entries asset r.parent kind (asks n e)) end)
-    ht w.15 (w.16 ∙ w.13.ensures
-    ∙ ap (λ (k : ℕ). begin_code (is_on o) r.usable w.10.best.suits (ltb k 64) w.10.best.switched) (sym w.15)))
-    (λ v.
-    let code = c.further_code-code.ensures in
-    ⊎_elim
-    (λ w. planned-continue n e o ho c.match-request.k c.match-request.code w.3 (w.4 ∙ code) ht w.1.given.1)
-    (λ u. ⊎_elim
-    (λ w. planned-stop n e o ho c.match-request.k c.match-request.code w.3 (w.4 ∙ code) w.1.given.1)
-    (λ w. planned-cancel n e o ho c.match-request.k c.match-request.code w.3 (w.4 ∙ code) w.1.given.1)
-    u)
-    v)
-    c.match-request.branch
+    elim c.match-request.branch [
+      | in-Begin+else-loop-e-test w ↦
+          let sort = w.in-Begin.sort in
+          let asset = w.in-Begin.asset in
+          let kind = w.kind_number-kind.result in
+          let r = w.reach_at-reach.result in
+          let tables = c.fill_places.ensures in
+          let hr = w.reach_at-reach.ensures ∙ ap₂ (λ (x y : List ℕ). reach_at x y asset) tables.0 tables.1 in
+          let end : w.loop-e.e ≡ w.looked_at-n.result = omega (arith, w.loop-e.invariant.0, w.loop-e-test.false) in
+          planned-begin n e o sort asset kind c.match-request.k c.match-request.code w.looked_at-n.result r w.loop-e.best
+          ho w.in-Begin.is w.kind_number-kind.ensures
+          (usable-is n start.args.b.assets start.args.b.assetcount asset r kept.0 kept.1 (omega arith) hr)
+          (parent_is n start.args.b.assets start.args.b.assetcount asset r kept.0 kept.1 (omega arith) hr)
+          (w.looked_at-n.ensures ∙ ap (looked (is_on o) r.usable) w.at_most_64.ensures)
+          (w.loop-e.invariant.2 ∙ ap (best_after n.entries asset r.parent kind (asks n e)) end)
+          ht w.k-is (w.code-is ∙ w.begin_code-code.ensures
+          ∙ ap (λ (k : ℕ). begin_code (is_on o) r.usable w.loop-e.best.suits (ltb k 64) w.loop-e.best.switched) (sym w.k-is))
+      | in-Continue w ↦ planned-continue n e o ho c.match-request.k c.match-request.code w.k-is (w.code-is ∙ c.further_code-code.ensures) ht w.in-Continue.is
+      | in-Stop w ↦ planned-stop n e o ho c.match-request.k c.match-request.code w.k-is (w.code-is ∙ c.further_code-code.ensures) w.in-Stop.is
+      | in-Cancel w ↦ planned-cancel n e o ho c.match-request.k c.match-request.code w.k-is (w.code-is ∙ c.further_code-code.ensures) w.in-Cancel.is
+    ]
 
 -- what a cancel reads of the event taken last, at the remainder, which is the player
 recent-is : (c : Chosen) → recent_of (all_settled c).if-next-t.book.latest (event-at (judged (taken (all_settled c)))).player
@@ -266,27 +271,30 @@ recent-is c =
 
 -- the operation is done, or refused
 abbrev Acted : Type 0
-Acted = Joined-code-eq0 decreases-loop
+Acted = lts.Joined6 tie.the-claims reads.Pre reads.Post goal.the-invariant-loop-p goal.the-decreases-loop-p goal.the-invariant-loop-e goal.the-decreases-loop-e goal.the-invariant-loop-i goal.the-decreases-loop-i
 
 abbrev chosen : Acted → Chosen
-chosen c = c.before
+chosen c = c.before.before
 
 -- the way on which the operation is done, and not refused
-abbrev First : {A B : Type 0} → A ⊎ B → Type 0
-First {A = A} s = A
-
 abbrev Worked : Acted → Type 0
-Worked c = First c.if-code-eq0.branch
+Worked c =
+    lts.By-7-Joined6-then-code-eq0 tie.the-claims reads.Pre reads.Post goal.the-invariant-loop-p goal.the-decreases-loop-p
+    goal.the-invariant-loop-e goal.the-decreases-loop-e goal.the-invariant-loop-i goal.the-decreases-loop-i c.before
+    c.if-code-eq0.book c.if-code-eq0.report c.if-code-eq0.rows c.if-code-eq0.ends c.if-code-eq0.good c.if-code-eq0.next
+    c.if-code-eq0.answer c.if-code-eq0.current
 
 -- the entry that it works on
-entry-is : (c : Acted) (w : Worked c) → w.2.x ≡ get_or (all_settled (chosen c)).if-next-t.book.entries (chosen c).match-request.k no_entry
+entry-is : (c : Acted) (w : Worked c) → w.if-k-lt64-2.x ≡ get_or (all_settled (chosen c)).if-next-t.book.entries (chosen c).match-request.k no_entry
 entry-is c w =
     let s = all_settled (chosen c) in
     let es = s.if-next-t.book.entries in
     let z = after-settle s in
-    ⊎_elim (λ v. v.3)
-    (λ v. v.1 ∙ w.1.ensures ∙ sym (get_or-eq_default es no_entry (omega (arith, v.0.left, z.0.entries))))
-    w.2.came
+    elim w.if-k-lt64-2.branch [
+      | then-k-lt64-2 v ↦ v.x-is
+      | else-k-lt64-2 v ↦ v.x-is ∙ w.blank_entry-x.ensures
+          ∙ sym (get_or-eq_default es no_entry (omega (arith, v.if-k-lt64-2.false, z.0.entries)))
+    ]
 
 -- a request's effect on an entry
 abbrev acts : Chosen → Request → Entry → Effect
@@ -296,21 +304,22 @@ acts c y x =
     act_on y (c.match-request.k % 256) (asks n e) (recent_on n e) x.limits x.meters (open-at c)
 
 -- what it does there
-part-is : (c : Acted) (w : Worked c) → w.6.part
+part-is : (c : Acted) (w : Worked c) → w.match-request-2.part
     ≡ acts (chosen c) (event-at (judged (taken (all_settled (chosen c))))).request
     (get_or (all_settled (chosen c)).if-next-t.book.entries (chosen c).match-request.k no_entry)
 part-is c w =
     let d = chosen c in
     let e = event-at (judged (taken (all_settled d))) in
-    let x = w.2.x in
-    let is-part : w.6.part ≡ acts d d.match-request.request x =
-    ⊎_elim (λ v. v.6 ∙ v.4.ensures ∙ ap (λ (y : Request). acts d y x) (sym v.1.given.1))
-    (λ u. ⊎_elim (λ v. v.4 ∙ v.2.ensures ∙ ap (λ (y : Request). acts d y x) (sym v.1.given.1))
-    (λ t. ⊎_elim (λ v. v.4 ∙ v.2.ensures ∙ ap (λ (y : Request). acts d y x) (sym v.1.given.1))
-    (λ v. v.8 ∙ v.6.ensures
-    ∙ ap (λ (r : Recent). cancel_on e.player r x.limits x.meters (open-at d)) (v.5.ensures ∙ recent-is d)
-    ∙ ap (λ (y : Request). acts d y x) (sym v.1.given.1)) t) u)
-    w.6.came in
+    let x = w.if-k-lt64-2.x in
+    let is-part : w.match-request-2.part ≡ acts d d.match-request.request x =
+    elim w.match-request-2.branch [
+      | in-Begin-request v ↦ v.part-is ∙ v.begin_on-part.ensures ∙ ap (λ (y : Request). acts d y x) (sym v.in-Begin-request.is)
+      | in-Continue-request v ↦ v.part-is ∙ v.continue_on-part.ensures ∙ ap (λ (y : Request). acts d y x) (sym v.in-Continue-request.is)
+      | in-Stop-request v ↦ v.part-is ∙ v.stop_on-part.ensures ∙ ap (λ (y : Request). acts d y x) (sym v.in-Stop-request.is)
+      | in-Cancel-request v ↦ v.part-is ∙ v.cancel_on-part.ensures
+          ∙ ap (λ (r : Recent). cancel_on e.player r x.limits x.meters (open-at d)) (v.recent_of-recent.ensures ∙ recent-is d)
+          ∙ ap (λ (y : Request). acts d y x) (sym v.in-Cancel-request.is)
+    ] in
     is-part ∙ ap₂ (acts d) (request-kept d) (entry-is c w)
 
 -- the settled book at the event's time, with that event taken last and those entries
@@ -361,48 +370,48 @@ left_by c =
     let o = open-at d in
     let k = d.match-request.k in
     let z = after-settle s in
-    ⊎_elim
-    (λ w.
-    let x = w.2.x in
-    let is_x = entry-is c w in
-    let part = w.6.part in
-    let hd = (planned d).acts w.0.taken part (part-is c w) in
-    let es' = set es k (record { limits = limits_at es k; meters = part.meters }) in
-    let done : (w.7.book ≡ timed c n.latest es') × (w.7.rows ≡ map row_of_entry es') =
-    ⊎_elim
-    (λ v.
-    let rs = s.if-next-t.rows in
-    let row : get_or rs k no_row ≡ row_of (limits_at es k) (meters_at es k) =
-    ap (λ (x : List Row). get_or x k no_row) z.1 ∙ row_at es k (omega (arith, v.0.taken, z.0.entries)) in (
-      v.6,
-      v.7 ∙ rows_next es rs k (record { limits = limits_at es k; meters = part.meters }) v.5.result z.1
-          (v.5.ensures
-          ∙ ap₂ (λ (u : Entry) (r : Row). refreshed_row u.limits part.meters r) is_x row
-          ∙ row-refreshed (limits_at es k) (meters_at es k) part.meters),
-    ))
-    (λ v.
-    let same : es ≡ es' = sym (set_out es k _ (omega (arith, v.0.left, z.0.entries))) in (
-      v.1 ∙ ap (timed c n.latest) same,
-      v.2 ∙ z.1 ∙ ap (map row_of_entry) same,
-    ))
-    w.7.came in
-    let is-book : c.if-code-eq0.book ≡ marked c part.started es' =
-    w.15
-    ∙ ap (λ (m : Book). changed m m.time w.10.result m.entries m.players) done.0
-    ∙ ap (λ (x : Latest). timed c x es') w.10.ensures in (
-      part.started,
-      leaves c es' part.answer part.current part.started is-book (w.17 ∙ done.1) w.21 w.22 hd
-          (length-set es k _ ∙ z.0.entries),
-    ))
-    (λ w. (
-      false,
-      leaves c es c.refusal-answer.result o false (w.2 ∙ ap (λ (x : Latest). timed c x es) w.1.ensures) (w.4 ∙ z.1) w.8
-          w.9
-          (ap (λ (x : Answer). record { answer = x; entries = es; current = o; started = false }) c.refusal-answer.ensures
-          ∙ (planned d).refuses w.0.left)
-          z.0.entries,
-    ))
-    c.if-code-eq0.branch
+    elim c.if-code-eq0.branch [
+      | then-code-eq0 w ↦
+          let x = w.if-k-lt64-2.x in
+          let is_x = entry-is c w in
+          let part = w.match-request-2.part in
+          let hd = (planned d).acts w.if-code-eq0.true part (part-is c w) in
+          let es' = set es k (record { limits = limits_at es k; meters = part.meters }) in
+          let done : (w.if-k-lt64-3.book ≡ timed c n.latest es') × (w.if-k-lt64-3.rows ≡ map row_of_entry es') =
+          elim w.if-k-lt64-3.branch [
+            | then-k-lt64-3 v ↦
+                let rs = s.if-next-t.rows in
+                let row : get_or rs k no_row ≡ row_of (limits_at es k) (meters_at es k) =
+                ap (λ (x : List Row). get_or x k no_row) z.1 ∙ row_at es k (omega (arith, v.if-k-lt64-3.true, z.0.entries)) in (
+                  v.book-is,
+                  v.rows-is ∙ rows_next es rs k (record { limits = limits_at es k; meters = part.meters }) v.refreshed-row.result z.1
+                      (v.refreshed-row.ensures
+                      ∙ ap₂ (λ (u : Entry) (r : Row). refreshed_row u.limits part.meters r) is_x row
+                      ∙ row-refreshed (limits_at es k) (meters_at es k) part.meters),
+                )
+            | else-k-lt64-3 v ↦
+                let same : es ≡ es' = sym (set_out es k _ (omega (arith, v.if-k-lt64-3.false, z.0.entries))) in (
+                  v.book-is ∙ ap (timed c n.latest) same,
+                  v.rows-is ∙ z.1 ∙ ap (map row_of_entry) same,
+                )
+          ] in
+          let is-book : c.if-code-eq0.book ≡ marked c part.started es' =
+          w.book-is
+          ∙ ap (λ (m : Book). changed m m.time w.latest_by-header.result m.entries m.players) done.0
+          ∙ ap (λ (x : Latest). timed c x es') w.latest_by-header.ensures in (
+            part.started,
+            leaves c es' part.answer part.current part.started is-book (w.rows-is ∙ done.1) w.answer-is w.current-is hd
+                (length-set es k _ ∙ z.0.entries),
+          )
+      | else-code-eq0 w ↦ (
+        false,
+        leaves c es c.refusal-answer.result o false (w.book-is ∙ ap (λ (x : Latest). timed c x es) w.latest_by-unmarked.ensures) (w.rows-is ∙ z.1) w.answer-is
+            w.current-is
+            (ap (λ (x : Answer). record { answer = x; entries = es; current = o; started = false }) c.refusal-answer.ensures
+            ∙ (planned d).refuses w.if-code-eq0.false)
+            z.0.entries,
+      )
+    ]
 
 -- the lines after the operation, by its answer
 abbrev LinesLeft : Acted → List Line → Bool → Answer → Type 0
@@ -432,61 +441,67 @@ lines-by c =
     let Good : Bool → List Line → Type 0 = λ v ms. v ≡ good_lines start.b.assets start.b.assetcount ms start.lent in
     let moved : (v w : Bool) (ms ns : List Line) → v ≡ w → ms ≡ ns → Good w ns → Good v ms = λ v w ms ns p q g.
     p ∙ g ∙ ap (λ (x : List Line). good_lines start.b.assets start.b.assetcount x start.lent) (sym q) in
-    ⊎_elim
-    (λ w.
-    let x = w.2.x in
-    let is_x = entry-is c w in
-    let part = w.6.part in
-    let names = (planned d).names w.0.taken part (part-is c w) in
-    let same-book : (w.7.book.switch ≡ n.switch) × (w.7.book.assetcount ≡ n.assetcount) =
-    ⊎_elim (λ v. (ap (λ (m : Book). m.switch) v.6, ap (λ (m : Book). m.assetcount) v.6))
-    (λ v. (ap (λ (m : Book). m.switch) v.1, ap (λ (m : Book). m.assetcount) v.1)) w.7.came in
-    let same-request : w.6.request ≡ e.request =
-    ⊎_elim (λ v. v.5 ∙ sym v.1.given.1) (λ u. ⊎_elim (λ v. v.3) (λ t. ⊎_elim (λ v. v.3) (λ v. v.7) t) u)
-    w.6.came ∙ request-kept d in
-    let line = w.11.result in
-    let hw : line ≡ request_line e.request part.answer o n.switch (limits_at es k) start.b.assets n.assetcount =
-    w.11.ensures
-    ∙ ap₂ (λ (v m : ℕ). request_line w.6.request part.answer o v x.limits start.b.assets m) same-book.0 same-book.1
-    ∙ ap₂ (λ (y : Request) (u : Entry). request_line y part.answer o n.switch u.limits start.b.assets n.assetcount)
-    same-request is_x in
-    let ha : start.b.assets ≡ b.assets = sym l.inv.6 in
-    let after : (w.12.report ≡ recorded_all b A (ended_by e.request e.time o part.answer)) × (Good w.12.good w.12.report) ×
-    (length w.12.report ≡ 64) =
-    ⊎_elim
-    (λ u.
-    let r : Line = u.3.result in
-    let sec = u.1.result in
-    let y : Line = raised (limits_at es k) sec (line_at A line) in
-    let hs : sec ≡ request_seconds e.request e.time o = u.1.ensures ∙ ap
-    (λ (q : Request). request_seconds q e.time o) same-request in
-    let hr : r ≡ y = u.3.ensures ∙ ap (λ (v : Entry). raised v.limits sec (line_at A line)) is_x in
-    let to : w.12.report ≡ set A line y = u.5 ∙ ap (set A line) hr in (
-      to ∙ acted-raised b n e.time z.0.is-settled A start.b.assets ha o part.answer e.request k names line hw sec hs
-          u.0.taken,
-      moved w.12.good _ w.12.report (set A line y) (u.6 ∙ u.4.ensures ∙ ap₂ good_after z.4 hr) to
-          (good-raised start.b.assets start.b.assetcount A start.lent line (limits_at es k) sec
-          (omega (arith, u.0.taken, z.5)) u.0.taken),
-      ap length to ∙ length-set A line y ∙ z.5,
-    ))
-    (λ u. (
-      u.1 ∙ acted-kept b n e.time z.0.is-settled A start.b.assets ha o part.answer e.request k names line hw u.0.left,
-      moved w.12.good s.if-next-t.good w.12.report A u.2 u.1 z.4,
-      ap length u.1 ∙ z.5,
-    ))
-    w.12.came in (
-      w.16 ∙ after.0 ∙ ap (λ (a : Answer). recorded_all b A (ended_by e.request e.time o a)) (sym w.21),
-      moved c.if-code-eq0.good w.12.good c.if-code-eq0.report w.12.report w.19 w.16 after.1,
-      ap length w.16 ∙ after.2,
-    ))
-    (λ w.
-    let off : eqb c.if-code-eq0.answer.code 0 ≡ false = ap (λ (a : Answer). eqb a.code 0) (w.8 ∙ c.refusal-answer.ensures)
-    ∙ ne_eqb d.match-request.code 0 w.0.left in (
-      w.3 ∙ refused-kept b A e.time o c.if-code-eq0.answer e.request off,
-      moved c.if-code-eq0.good s.if-next-t.good c.if-code-eq0.report A w.6 w.3 z.4,
-      ap length w.3 ∙ z.5,
-    ))
-    c.if-code-eq0.branch
+    elim c.if-code-eq0.branch [
+      | then-code-eq0 w ↦
+          let x = w.if-k-lt64-2.x in
+          let is_x = entry-is c w in
+          let part = w.match-request-2.part in
+          let names = (planned d).names w.if-code-eq0.true part (part-is c w) in
+          let same-book : (w.if-k-lt64-3.book.switch ≡ n.switch) × (w.if-k-lt64-3.book.assetcount ≡ n.assetcount) =
+          elim w.if-k-lt64-3.branch [
+            | then-k-lt64-3 v ↦ (ap (λ (m : Book). m.switch) v.book-is, ap (λ (m : Book). m.assetcount) v.book-is)
+            | else-k-lt64-3 v ↦ (ap (λ (m : Book). m.switch) v.book-is, ap (λ (m : Book). m.assetcount) v.book-is)
+          ] in
+          let same-request : w.match-request-2.request ≡ e.request =
+          elim w.match-request-2.branch [
+            | in-Begin-request v ↦ v.request-is ∙ sym v.in-Begin-request.is
+            | in-Continue-request v ↦ v.request-is
+            | in-Stop-request v ↦ v.request-is
+            | in-Cancel-request v ↦ v.request-is
+          ] ∙ request-kept d in
+          let line = w.request_line-w.result in
+          let hw : line ≡ request_line e.request part.answer o n.switch (limits_at es k) start.b.assets n.assetcount =
+          w.request_line-w.ensures
+          ∙ ap₂ (λ (v m : ℕ). request_line w.match-request-2.request part.answer o v x.limits start.b.assets m) same-book.0 same-book.1
+          ∙ ap₂ (λ (y : Request) (u : Entry). request_line y part.answer o n.switch u.limits start.b.assets n.assetcount)
+          same-request is_x in
+          let ha : start.b.assets ≡ b.assets = sym l.invariant.6 in
+          let after : (w.if-w-lt64-2.report ≡ recorded_all b A (ended_by e.request e.time o part.answer)) × (Good w.if-w-lt64-2.good w.if-w-lt64-2.report) ×
+          (length w.if-w-lt64-2.report ≡ 64) =
+          elim w.if-w-lt64-2.branch [
+            | then-w-lt64-2 u ↦
+                let r : Line = u.raised_for-raised-then-w-lt64-2.result in
+                let sec = u.request_seconds-seconds.result in
+                let y : Line = raised (limits_at es k) sec (line_at A line) in
+                let hs : sec ≡ request_seconds e.request e.time o = u.request_seconds-seconds.ensures ∙ ap
+                (λ (q : Request). request_seconds q e.time o) same-request in
+                let hr : r ≡ y = u.raised_for-raised-then-w-lt64-2.ensures ∙ ap (λ (v : Entry). raised v.limits sec (line_at A line)) is_x in
+                let to : w.if-w-lt64-2.report ≡ set A line y = u.report-is ∙ ap (set A line) hr in (
+                  to ∙ acted-raised b n e.time z.0.is-settled A start.b.assets ha o part.answer e.request k names line hw sec hs
+                      u.if-w-lt64-2.true,
+                  moved w.if-w-lt64-2.good _ w.if-w-lt64-2.report (set A line y) (u.good-is ∙ u.good_after-good-then-w-lt64-2.ensures ∙ ap₂ good_after z.4 hr) to
+                      (good-raised start.b.assets start.b.assetcount A start.lent line (limits_at es k) sec
+                      (omega (arith, u.if-w-lt64-2.true, z.5)) u.if-w-lt64-2.true),
+                  ap length to ∙ length-set A line y ∙ z.5,
+                )
+            | else-w-lt64-2 u ↦ (
+              u.report-is ∙ acted-kept b n e.time z.0.is-settled A start.b.assets ha o part.answer e.request k names line hw u.if-w-lt64-2.false,
+              moved w.if-w-lt64-2.good s.if-next-t.good w.if-w-lt64-2.report A u.good-is u.report-is z.4,
+              ap length u.report-is ∙ z.5,
+            )
+          ] in (
+            w.report-is ∙ after.0 ∙ ap (λ (a : Answer). recorded_all b A (ended_by e.request e.time o a)) (sym w.answer-is),
+            moved c.if-code-eq0.good w.if-w-lt64-2.good c.if-code-eq0.report w.if-w-lt64-2.report w.good-is w.report-is after.1,
+            ap length w.report-is ∙ after.2,
+          )
+      | else-code-eq0 w ↦
+          let off : eqb c.if-code-eq0.answer.code 0 ≡ false = ap (λ (a : Answer). eqb a.code 0) (w.answer-is ∙ c.refusal-answer.ensures)
+          ∙ ne_eqb d.match-request.code 0 w.if-code-eq0.false in (
+            w.report-is ∙ refused-kept b A e.time o c.if-code-eq0.answer e.request off,
+            moved c.if-code-eq0.good s.if-next-t.good c.if-code-eq0.report A w.good-is w.report-is z.4,
+            ap length w.report-is ∙ z.5,
+          )
+    ]
 
 -- the ends and the next expiry fit the player that is stored: a granted one's end is stored, a refused one keeps its use
 ends_by :
@@ -503,19 +518,19 @@ ends_by c q hq =
     let ps = s.if-next-t.book.players in
     let j = (event-at (judged (taken s))).player % 16 in
     let small : j < length ps = omega (arith, z.0.players) in
-    ⊎_elim
-    (λ w.
-    let end : w.13.result ≡ end_of q.current = w.13.ensures ∙ ap end_of (sym w.22) ∙ ap end_of (sym hq) in (
-      w.18 ∙ ends_next ps s.if-next-t.ends z.2 j q w.13.result end,
-      subst (λ (v : ℕ). NextExpiry v (set ps j q)) (sym (w.20 ∙ w.14.ensures ∙ ap (min s.if-next-t.next) end))
-          (expiry-store s.if-next-t.next ps j q z.0.expiry small),
-    ))
-    (λ w.
-    let same : q.current ≡ open_at ps j = hq ∙ w.9 in (
-      w.5 ∙ ends_same ps s.if-next-t.ends z.2 j q same,
-      subst (λ (v : ℕ). NextExpiry v (set ps j q)) (sym w.7) (expiry-keep s.if-next-t.next ps j q z.0.expiry small same),
-    ))
-    c.if-code-eq0.branch
+    elim c.if-code-eq0.branch [
+      | then-code-eq0 w ↦
+          let end : w.end_of-end.result ≡ end_of q.current = w.end_of-end.ensures ∙ ap end_of (sym w.current-is) ∙ ap end_of (sym hq) in (
+            w.ends-is ∙ ends_next ps s.if-next-t.ends z.2 j q w.end_of-end.result end,
+            subst (λ (v : ℕ). NextExpiry v (set ps j q)) (sym (w.next-is ∙ w.min_time-next-then-code-eq0.ensures ∙ ap (min s.if-next-t.next) end))
+                (expiry-store s.if-next-t.next ps j q z.0.expiry small),
+          )
+      | else-code-eq0 w ↦
+          let same : q.current ≡ open_at ps j = hq ∙ w.current-is in (
+            w.ends-is ∙ ends_same ps s.if-next-t.ends z.2 j q same,
+            subst (λ (v : ℕ). NextExpiry v (set ps j q)) (sym w.next-is) (expiry-keep s.if-next-t.next ps j q z.0.expiry small same),
+          )
+    ]
 
 -- the step on the record, by what it does to what was admitted
 stepped :
@@ -565,19 +580,6 @@ returns-then-out-count c =
     let h : length a.out.now < 19 * record_count a.records.now = omega arith in
     rw (lt-leb (19 * record_count a.records.now) (length a.out.now) h) (refl, refl, refl, refl, refl)
 
-fill-places-requires :
-    tie.Need-fill-places-requires
-fill-places-requires c κs = tt
-
-pub rows_of-rows-requires : goal.rows_of-rows-requires
-rows_of-rows-requires c = tt
-
-pub ends_of-ends-requires : goal.ends_of-ends-requires
-ends_of-ends-requires c = tt
-
-pub good_lines-good-requires : goal.good_lines-good-requires
-good_lines-good-requires c = tt
-
 pub loop-i-init : goal.loop-i-init
 loop-i-init c =
     let start = c.before in
@@ -585,164 +587,71 @@ loop-i-init c =
       omega arith,
       progress-none a.b a.lines a.lent a.records.now a.out.now,
       expiry-start a.b.players,
-      entries-64 start,
-      players-16 start,
+      entries-64 start.before.before.before.before.before.before.before.before.before.before.before.before,
+      players-16 start.before.before.before.before.before.before.before.before.before.before.before.before,
       c.rows_of-rows.ensures,
       refl,
       refl,
       c.ends_of-ends.ensures,
       c.good_lines-good.ensures,
-      lines-64 start,
+      lines-64 start.before.before.before.before.before.before.before.before.before.before.before.before,
     )
-
-pub min_size-to-requires : goal.min_size-to-requires
-min_size-to-requires c = tt
-
-pub received-requires : goal.received-requires
-received-requires c = tt
-
-pub refusal-requires : goal.refusal-requires
-refusal-requires c = tt
-
-pub put_line-at-requires : goal.put_line-at-requires
-put_line-at-requires c = tt
 
 pub loop-i-preserved-in-Invalid : goal.loop-i-preserved-in-Invalid
 loop-i-preserved-in-Invalid c =
-    let r = c.before in
+    let r = c.before.before.before.before.before.before.before in
     let x = c.refusal in
     let p = c.put_line-at in
     let z = case-invalid (book-at (turn r)) (admitted-at (turn r)) (turn r).loop-i.report
-    c.code.given.0.0
-    (sym (is-decoded r) ∙ c.code.given.1) in
-    kept-turn (turn r) x.result p.new.0 p.result
+    c.in-Invalid.code
+    (sym (is-decoded r) ∙ c.in-Invalid.is) in
+    kept-turn (turn r) x.result p.new.out p.result
     (z.0 ∙ ap (λ (a : Answer). record { answer = a; book = book-at (turn r) }) (sym x.ensures), z.1)
     p.ensures
 
-pub refusal-requires-in-Valid : goal.refusal-requires-in-Valid
-refusal-requires-in-Valid c = tt
-
-noted-last-requires :
-    tie.Need-noted-last-requires
-noted-last-requires c κs = tt
-
-element-copy-out-asking :
-    tie.Need-element-copy-out-asking
-element-copy-out-asking c = search rules
-
-pub gate_of-requires : goal.gate_of-requires
-gate_of-requires c = tt
-
-pub refusal-requires-in-Refuse : goal.refusal-requires-in-Refuse
-refusal-requires-in-Refuse c = tt
-
-put-line-requires-2 :
-    tie.Need-put-line-requires-2
-put-line-requires-2 c κs = tt
-
-pub loop-i-smaller-in-Refuse : goal.loop-i-smaller-in-Refuse
-loop-i-smaller-in-Refuse c = let r = read c.before in omega (arith, (turn r).loop-i-test.taken)
-
 pub loop-i-preserved-in-Refuse : goal.loop-i-preserved-in-Refuse
 loop-i-preserved-in-Refuse c =
-    let j = c.before in
+    let j = c.before.before.before.before.before.before.before in
     let x = c.refusal-in-Refuse in
     let p = c.put_line-at-in-Refuse in
     let b = book-at (turn (read j)) in
     let z = case-refused b (admitted-at (turn (read j))) (turn (read j)).loop-i.report (event-at j) (is-valid j) (is-few j)
-    j.gate_of.result c.code-in-Refuse-1.given.0.0 j.gate_of.ensures
-    c.code-in-Refuse-1.given.1 in
-    kept-turn (turn (read j)) x.result p.new.0 p.result
+    j.gate_of.result c.in-Refuse.code j.gate_of.ensures
+    c.in-Refuse.is in
+    kept-turn (turn (read j)) x.result p.new.out p.result
     (z.0 ∙ ap (λ (a : Answer). record { answer = a; book = b }) (sym x.ensures), z.1)
     p.ensures
 
-put-line-requires-3 :
-    tie.Need-put-line-requires-3
-put-line-requires-3 c κs = tt
-
-pub loop-i-smaller-in-Resend : goal.loop-i-smaller-in-Resend
-loop-i-smaller-in-Resend c = let r = read c.before in omega (arith, (turn r).loop-i-test.taken)
-
 pub loop-i-preserved-in-Resend : goal.loop-i-preserved-in-Resend
 loop-i-preserved-in-Resend c =
-    let j = c.before in
+    let j = c.before.before.before.before.before.before.before in
     let p = c.put_line-at-in-Resend in
-    kept-turn (turn (read j)) _ p.new.0 p.result
+    kept-turn (turn (read j)) _ p.new.out p.result
     (case-resent (book-at (turn (read j))) (admitted-at (turn (read j))) (turn (read j)).loop-i.report (event-at j) (is-valid j)
-    (is-few j) j.gate_of.result j.gate_of.ensures c.enum_told.given.1)
+    (is-few j) j.gate_of.result j.gate_of.ensures c.in-Resend.is)
     p.ensures
 
 pub loop-p-init : goal.loop-p-init
 unfolding least_end
 loop-p-init c =
-    let l = (turn (read (judged c.before))).loop-i in
-    let start = (entered (turn (read (judged c.before)))).args in (
+    let l = (turn (read (judged c.before.before))).loop-i in
+    let start = (entered (turn (read (judged c.before.before)))).args in (
       omega arith,
       settle-none _ _,
       refl,
-      l.inv.5,
-      l.inv.8,
-      l.inv.4,
+      l.invariant.5,
+      l.invariant.8,
+      l.invariant.4,
       due-none _ _ _,
-      l.inv.9 ∙ ap (λ (n : ℕ). good_lines start.b.assets n l.report start.lent) (sym l.inv.7),
-      l.inv.10,
+      l.invariant.9 ∙ ap (λ (n : ℕ). good_lines start.b.assets n l.report start.lent) (sym l.invariant.7),
+      l.invariant.10,
     )
-
-element-copy-out-player :
-    tie.Need-element-copy-out-player
-element-copy-out-player c = search rules
-
-ended-meters-requires :
-    tie.Need-ended-meters-requires
-ended-meters-requires c κs = tt
-
-pub row_of-row-requires : goal.row_of-row-requires
-row_of-row-requires c = tt
-
-array-set-from-rows :
-    tie.Need-array-set-from-rows
-array-set-from-rows c = search rules
-
-pub line_for-w-requires : goal.line_for-w-requires
-line_for-w-requires c = tt
-
-pub saturating_sub-seconds-requires : goal.saturating_sub-seconds-requires
-saturating_sub-seconds-requires c = tt
-
-pub offset_bounds-report-w : goal.offset_bounds-report-w
-offset_bounds-report-w c = omega (arith, c.if-w-lt64.true)
-
-pub bounds-report-w : goal.bounds-report-w
-bounds-report-w c = omega (arith, c.if-w-lt64.true)
-
-pub raised_for-raised-requires : goal.raised_for-raised-requires
-raised_for-raised-requires c = tt
-
-pub offset_bounds-report-w-then-w-lt64 : goal.offset_bounds-report-w-then-w-lt64
-offset_bounds-report-w-then-w-lt64 c = omega (arith, c.if-w-lt64.true)
-
-pub bounds-report-w-then-w-lt64 : goal.bounds-report-w-then-w-lt64
-bounds-report-w-then-w-lt64 c = omega (arith, c.if-w-lt64.true)
-
-pub good_after-good-requires : goal.good_after-good-requires
-good_after-good-requires c = tt
-
-element-copy-out-shutting :
-    tie.Need-element-copy-out-shutting
-element-copy-out-shutting c = search rules
-
-shut-player-requires :
-    tie.Need-shut-player-requires
-shut-player-requires c κs = tt
-
-pub min_time-next-requires : goal.min_time-next-requires
-min_time-next-requires c = tt
 
 pub loop-p-preserved : goal.loop-p-preserved
 unfolding settled_to
 loop-p-preserved c =
     let l = c.loop-p in
-    let start = c.before in
+    let start = c.before.before.before.before.before in
     let g = (turn (read (judged start))).loop-i in
     let given = (entered (turn (read (judged start)))).args in
     let b = g.book in
@@ -752,8 +661,8 @@ loop-p-preserved c =
     let o = open_at ps l.p in
     let ht = (is-admitted start).early in
     let len : length es ≡ 64 = ap (λ (m : Book). length m.entries) l.invariant.1 ∙ settled-size t (take l.p b.players)
-    b.entries ∙ g.inv.3 in
-    let few : l.p < length b.players = omega (arith, g.inv.4) in
+    b.entries ∙ g.invariant.3 in
+    let few : l.p < length b.players = omega (arith, g.invariant.4) in
     let here : l.p < length ps = omega (arith, l.invariant.5) in
     let due : leb (get_or l.ends l.p 0) t ≡ expired t o = reached ps l.ends l.invariant.4 t l.p ht here in
     let onto : List Line = recorded_all b g.report (overdue t (take (l.p + 1) b.players)) in
@@ -761,87 +670,85 @@ loop-p-preserved c =
     let one : (c.if-end-t.book ≡ settle_one t l.p l.book) × (c.if-end-t.rows ≡ rows_for c.if-end-t.book) ×
     (c.if-end-t.ends ≡ ends_for c.if-end-t.book) × (c.if-end-t.next ≡ least_end t b.players (l.p + 1)) × (c.if-end-t.report ≡ onto) ×
     (Good c.if-end-t.good c.if-end-t.report) =
-    ⊎_elim
-    (λ w.
-    let d : expired t o ≡ true = sym due ∙ le-leb (get_or l.ends l.p 0) t w.0.taken in
-    let put : Meters → Book = λ x. with l.book (set es o.entry (record { limits = limits_at es o.entry; meters = x })) ps in
-    let inner : (w.4.book ≡ with l.book (released t l.p o es) ps) × (w.4.rows ≡ rows_for w.4.book) × (w.4.report ≡ onto) ×
-    (Good w.4.good w.4.report) =
-    ⊎_elim
-    (λ v.
-    let y : Entry = record { limits = limits_at es o.entry; meters = v.4.result } in
-    let line = v.6.result in
-    let r : Line = v.10.result in
-    let z : Line = raised (limits_at es o.entry) (o.until - o.begin) (line_at l.report line) in
-    let hr : r ≡ z = v.10.ensures ∙ ap (λ (m : ℕ). raised (limits_at es o.entry) m (line_at l.report line)) v.8.ensures in
-    let to : w.4.report ≡ set l.report line z = v.13 ∙ ap (set l.report line) hr in (
-      v.12 ∙ ap put v.4.ensures ∙ ap (λ (x : List Entry). with l.book x ps) (released-due t l.p o es d),
-      v.14 ∙ rows_next es l.rows o.entry y v.5.result l.invariant.3 v.5.ensures ∙ ap rows_for (sym v.12),
-      to ∙ lines-raised b g.report t l.p few l.book l.invariant.1 l.report l.invariant.6 given.b.assets (sym g.inv.6) d
-          line v.6.ensures (o.until - o.begin) refl v.7.taken,
-      (
-        v.15 ∙ v.11.ensures ∙ ap₂ good_after l.invariant.7 hr
-            ∙ good-raised given.b.assets b.assetcount l.report given.lent line (limits_at es o.entry) (o.until - o.begin)
-            (omega (arith, v.7.taken, l.invariant.8)) v.7.taken
-            ∙ ap (λ (ms : List Line). good_lines given.b.assets b.assetcount ms given.lent) (sym to),
-        ap length to ∙ length-set l.report line z ∙ l.invariant.8,
-      ),
-    ))
-    (λ x. ⊎_elim
-    (λ v.
-    let y : Entry = record { limits = limits_at es o.entry; meters = v.4.result } in (
-      v.8 ∙ ap put v.4.ensures ∙ ap (λ (x : List Entry). with l.book x ps) (released-due t l.p o es d),
-      v.10 ∙ rows_next es l.rows o.entry y v.5.result l.invariant.3 v.5.ensures ∙ ap rows_for (sym v.8),
-      v.9 ∙ lines-kept b g.report t l.p few l.book l.invariant.1 l.report l.invariant.6 given.b.assets (sym g.inv.6) d
-          v.6.result v.6.ensures v.7.left,
-      (
-        v.11 ∙ l.invariant.7 ∙ ap (λ (ms : List Line). good_lines given.b.assets b.assetcount ms given.lent) (sym v.9),
-        ap length v.9 ∙ l.invariant.8,
-      ),
-    ))
-    (λ v. (
-      v.1 ∙ ap (λ (x : List Entry). with l.book x ps) (released-far t l.p o es (omega (arith, v.0.left, len))),
-      v.3 ∙ l.invariant.3 ∙ ap rows_for (sym v.1),
-      v.2 ∙ lines-out b g.report t l.p few l.book l.invariant.1 l.report l.invariant.6 given.b.assets (sym g.inv.6) d
-          (omega (arith, v.0.left, g.inv.3)),
-      (
-        v.4 ∙ l.invariant.7 ∙ ap (λ (ms : List Line). good_lines given.b.assets b.assetcount ms given.lent) (sym v.2),
-        ap length v.2 ∙ l.invariant.8,
-      ),
-    ))
-    x)
-    w.4.came in
-    let settles : c.if-end-t.book ≡ settle_one t l.p l.book =
-    w.7
-    ∙ ap (λ (x : Player). with w.4.book w.4.book.entries (set w.4.book.players l.p x)) w.6.ensures
-    ∙ ap (λ (x : Book). with x x.entries (set x.players l.p (shut t (player_at x.players l.p)))) inner.0 in (
-      settles,
-      w.9 ∙ inner.1 ∙ ap rows_for (sym w.7),
-      w.10 ∙ ends_next ps l.ends l.invariant.4 l.p (shut t (player_at ps l.p)) never (shut-end t (player_at ps l.p) d) ∙ ap
-          ends_for (sym settles),
-      w.12 ∙ end-due t l.p b l.book l.next l.invariant.1 few l.invariant.2 d,
-      w.8 ∙ inner.2,
-      (
-        w.11 ∙ inner.3.0 ∙ ap (λ (ms : List Line). good_lines given.b.assets b.assetcount ms given.lent) (sym w.8),
-        ap length w.8 ∙ inner.3.1,
-      ),
-    ))
-    (λ w.
-    let d : expired t o ≡ false = sym due ∙ lt-leb (get_or l.ends l.p 0) t w.0.left in (
-      w.2
-          ∙ ap (λ (x : List Entry). with l.book x ps) (released-still t l.p o es d)
-          ∙ ap (with l.book (released t l.p o es)) (shut-not t l.p ps d),
-      w.4 ∙ l.invariant.3 ∙ ap rows_for (sym w.2),
-      w.5 ∙ l.invariant.4 ∙ ap ends_for (sym w.2),
-      w.7 ∙ w.1.ensures ∙ ap (min l.next) (kept-end ps l.ends l.invariant.4 l.p here) ∙ end_on t l.p b l.book l.next
-          l.invariant.1 few l.invariant.2 d,
-      w.3 ∙ lines-still b g.report t l.p few l.book l.invariant.1 l.report l.invariant.6 given.b.assets (sym g.inv.6) d,
-      (
-        w.6 ∙ l.invariant.7 ∙ ap (λ (ms : List Line). good_lines given.b.assets b.assetcount ms given.lent) (sym w.3),
-        ap length w.3 ∙ l.invariant.8,
-      ),
-    ))
-    c.if-end-t.branch in (
+    elim c.if-end-t.branch [
+      | then-end-t w ↦
+          let d : expired t o ≡ true = sym due ∙ le-leb (get_or l.ends l.p 0) t w.if-end-t.true in
+          let put : Meters → Book = λ x. with l.book (set es o.entry (record { limits = limits_at es o.entry; meters = x })) ps in
+          let inner : (w.if-k-lt64.book ≡ with l.book (released t l.p o es) ps) × (w.if-k-lt64.rows ≡ rows_for w.if-k-lt64.book) × (w.if-k-lt64.report ≡ onto) ×
+          (Good w.if-k-lt64.good w.if-k-lt64.report) =
+          elim w.if-k-lt64.branch [
+            | then-k-lt64+then-w-lt64 v ↦
+                let y : Entry = record { limits = limits_at es o.entry; meters = v.ended_meters-ended.result } in
+                let line = v.line_for-w.result in
+                let r : Line = v.raised_for-raised.result in
+                let z : Line = raised (limits_at es o.entry) (o.until - o.begin) (line_at l.report line) in
+                let hr : r ≡ z = v.raised_for-raised.ensures ∙ ap (λ (m : ℕ). raised (limits_at es o.entry) m (line_at l.report line)) v.saturating_sub-seconds.ensures in
+                let to : w.if-k-lt64.report ≡ set l.report line z = v.report-is ∙ ap (set l.report line) hr in (
+                  v.book-is ∙ ap put v.ended_meters-ended.ensures ∙ ap (λ (x : List Entry). with l.book x ps) (released-due t l.p o es d),
+                  v.rows-is ∙ rows_next es l.rows o.entry y v.row_of-row.result l.invariant.3 v.row_of-row.ensures ∙ ap rows_for (sym v.book-is),
+                  to ∙ lines-raised b g.report t l.p few l.book l.invariant.1 l.report l.invariant.6 given.b.assets (sym g.invariant.6) d
+                      line v.line_for-w.ensures (o.until - o.begin) refl v.if-w-lt64.true,
+                  (
+                    v.good-is ∙ v.good_after-good.ensures ∙ ap₂ good_after l.invariant.7 hr
+                        ∙ good-raised given.b.assets b.assetcount l.report given.lent line (limits_at es o.entry) (o.until - o.begin)
+                        (omega (arith, v.if-w-lt64.true, l.invariant.8)) v.if-w-lt64.true
+                        ∙ ap (λ (ms : List Line). good_lines given.b.assets b.assetcount ms given.lent) (sym to),
+                    ap length to ∙ length-set l.report line z ∙ l.invariant.8,
+                  ),
+                )
+            | then-k-lt64+else-w-lt64 v ↦
+                let y : Entry = record { limits = limits_at es o.entry; meters = v.ended_meters-ended.result } in (
+                  v.book-is ∙ ap put v.ended_meters-ended.ensures ∙ ap (λ (x : List Entry). with l.book x ps) (released-due t l.p o es d),
+                  v.rows-is ∙ rows_next es l.rows o.entry y v.row_of-row.result l.invariant.3 v.row_of-row.ensures ∙ ap rows_for (sym v.book-is),
+                  v.report-is ∙ lines-kept b g.report t l.p few l.book l.invariant.1 l.report l.invariant.6 given.b.assets (sym g.invariant.6) d
+                      v.line_for-w.result v.line_for-w.ensures v.if-w-lt64.false,
+                  (
+                    v.good-is ∙ l.invariant.7 ∙ ap (λ (ms : List Line). good_lines given.b.assets b.assetcount ms given.lent) (sym v.report-is),
+                    ap length v.report-is ∙ l.invariant.8,
+                  ),
+                )
+            | else-k-lt64 v ↦ (
+              v.book-is ∙ ap (λ (x : List Entry). with l.book x ps) (released-far t l.p o es (omega (arith, v.if-k-lt64.false, len))),
+              v.rows-is ∙ l.invariant.3 ∙ ap rows_for (sym v.book-is),
+              v.report-is ∙ lines-out b g.report t l.p few l.book l.invariant.1 l.report l.invariant.6 given.b.assets (sym g.invariant.6) d
+                  (omega (arith, v.if-k-lt64.false, g.invariant.3)),
+              (
+                v.good-is ∙ l.invariant.7 ∙ ap (λ (ms : List Line). good_lines given.b.assets b.assetcount ms given.lent) (sym v.report-is),
+                ap length v.report-is ∙ l.invariant.8,
+              ),
+            )
+          ] in
+          let settles : c.if-end-t.book ≡ settle_one t l.p l.book =
+          w.book-is
+          ∙ ap (λ (x : Player). with w.if-k-lt64.book w.if-k-lt64.book.entries (set w.if-k-lt64.book.players l.p x)) w.shut_player-q.ensures
+          ∙ ap (λ (x : Book). with x x.entries (set x.players l.p (shut t (player_at x.players l.p)))) inner.0 in (
+            settles,
+            w.rows-is ∙ inner.1 ∙ ap rows_for (sym w.book-is),
+            w.ends-is ∙ ends_next ps l.ends l.invariant.4 l.p (shut t (player_at ps l.p)) never (shut-end t (player_at ps l.p) d) ∙ ap
+                ends_for (sym settles),
+            w.next-is ∙ end-due t l.p b l.book l.next l.invariant.1 few l.invariant.2 d,
+            w.report-is ∙ inner.2,
+            (
+              w.good-is ∙ inner.3.0 ∙ ap (λ (ms : List Line). good_lines given.b.assets b.assetcount ms given.lent) (sym w.report-is),
+              ap length w.report-is ∙ inner.3.1,
+            ),
+          )
+      | else-end-t w ↦
+          let d : expired t o ≡ false = sym due ∙ lt-leb (get_or l.ends l.p 0) t w.if-end-t.false in (
+            w.book-is
+                ∙ ap (λ (x : List Entry). with l.book x ps) (released-still t l.p o es d)
+                ∙ ap (with l.book (released t l.p o es)) (shut-not t l.p ps d),
+            w.rows-is ∙ l.invariant.3 ∙ ap rows_for (sym w.book-is),
+            w.ends-is ∙ l.invariant.4 ∙ ap ends_for (sym w.book-is),
+            w.next-is ∙ w.min_time-next.ensures ∙ ap (min l.next) (kept-end ps l.ends l.invariant.4 l.p here) ∙ end_on t l.p b l.book l.next
+                l.invariant.1 few l.invariant.2 d,
+            w.report-is ∙ lines-still b g.report t l.p few l.book l.invariant.1 l.report l.invariant.6 given.b.assets (sym g.invariant.6) d,
+            (
+              w.good-is ∙ l.invariant.7 ∙ ap (λ (ms : List Line). good_lines given.b.assets b.assetcount ms given.lent) (sym w.report-is),
+              ap length w.report-is ∙ l.invariant.8,
+            ),
+          )
+    ] in (
       omega arith,
       one.0 ∙ ap (settle_one t l.p) l.invariant.1 ∙ settle-turn t l.p b few,
       one.3,
@@ -853,53 +760,21 @@ loop-p-preserved c =
       one.5.1,
     )
 
-element-copy-out-player-2 :
-    tie.Need-element-copy-out-player-2
-element-copy-out-player-2 c = search rules
-
-further-code-requires :
-    tie.Need-further-code-requires
-further-code-requires c κs = tt
-
-kind-number-requires :
-    tie.Need-kind-number-requires
-kind-number-requires c κs = tt
-
-pub reach_at-reach-requires : goal.reach_at-reach-requires
-reach_at-reach-requires c = tt
-
-at-most-64-requires :
-    tie.Need-at-most-64-requires
-at-most-64-requires c κs = tt
-
-pub looked_at-n-requires : goal.looked_at-n-requires
-looked_at-n-requires c = tt
-
 pub loop-e-init : goal.loop-e-init
 unfolding best_after choice_after choose_of any_of
 loop-e-init c =
     let n = c.if-next-t.book in
     let m = looked-most (is_on (open_at n.players ((event-at (judged
-    (taken c.before))).player % 16))) c.reach_at-reach.result.usable c.at_most_64.result in
+    (taken c.before.before.before.before.before.before.before.before.before.before.before.before.before.before))).player % 16))) c.reach_at-reach.result.usable c.at_most_64.result in
     (omega arith, omega (arith, m, c.looked_at-n.ensures, c.at_most_64.ensures, min-le_right n.entrycount 64), refl)
-
-pub offset_bounds-rows-e : goal.offset_bounds-rows-e
-offset_bounds-rows-e c = omega (arith, c.loop-e-test.true, c.loop-e.invariant.1)
-
-pub bounds-rows-e : goal.bounds-rows-e
-bounds-rows-e c = omega (arith, c.loop-e-test.true, c.loop-e.invariant.1)
-
-consider-row-requires :
-    tie.Need-consider-row-requires
-consider-row-requires c κs = tt
 
 pub loop-e-preserved : goal.loop-e-preserved
 loop-e-preserved c =
     let l = c.loop-e in
-    let s = c.before in
+    let s = c.before.before.before.before.before.before.before.before.before.before.before.before.before.before.before.before.before.before in
     let es = s.if-next-t.book.entries in
     let ask = asks s.if-next-t.book (event-at (judged (taken s))) in
-    let asset = c.request.given.0.1.0 in
+    let asset = c.in-Begin.asset in
     let kind = c.kind_number-kind.result in
     let r = c.reach_at-reach.result in
     let z = after-settle s in
@@ -916,112 +791,10 @@ loop-e-preserved c =
           ∙ sym (best-turn es asset r.parent kind ask l.e),
     )
 
-begin-code-requires :
-    tie.Need-begin-code-requires
-begin-code-requires c κs = tt
-
-refusal-requires-4 :
-    tie.Need-refusal-requires-4
-refusal-requires-4 c κs = tt
-
-blank-entry-requires :
-    tie.Need-blank-entry-requires
-blank-entry-requires c κs = tt
-
-element-copy-out-held :
-    tie.Need-element-copy-out-held
-element-copy-out-held c = search rules
-
-kept-requires :
-    tie.Need-kept-requires
-kept-requires c κs = tt
-
-pub begin_on-part-requires : goal.begin_on-part-requires
-begin_on-part-requires c = tt
-
-continue-on-requires :
-    tie.Need-continue-on-requires
-continue-on-requires c κs = tt
-
-pub stop_on-part-requires : goal.stop_on-part-requires
-stop_on-part-requires c = tt
-
-pub recent_of-recent-requires : goal.recent_of-recent-requires
-recent_of-recent-requires c = tt
-
-pub cancel_on-part-requires : goal.cancel_on-part-requires
-cancel_on-part-requires c = tt
-
-element-set-from-y-2 :
-    tie.Need-element-set-from-y-2
-element-set-from-y-2 c = search rules
-
-pub offset_bounds-rows-k-then-k-lt64-3 : goal.offset_bounds-rows-k-then-k-lt64-3
-offset_bounds-rows-k-then-k-lt64-3 c = omega (arith, c.if-k-lt64-3.true)
-
-pub bounds-rows-k-then-k-lt64-3 : goal.bounds-rows-k-then-k-lt64-3
-bounds-rows-k-then-k-lt64-3 c = omega (arith, c.if-k-lt64-3.true)
-
-pub refreshed-row-requires : goal.refreshed-row-requires
-refreshed-row-requires c = tt
-
-array-set-from-rows-2 :
-    tie.Need-array-set-from-rows-2
-array-set-from-rows-2 c = search rules
-
-pub latest_by-header-requires : goal.latest_by-header-requires
-latest_by-header-requires c = tt
-
-pub request_line-w-requires : goal.request_line-w-requires
-request_line-w-requires c = tt
-
-pub request_seconds-seconds-requires : goal.request_seconds-seconds-requires
-request_seconds-seconds-requires c = tt
-
-pub offset_bounds-report-w-then-w-lt64-2 : goal.offset_bounds-report-w-then-w-lt64-2
-offset_bounds-report-w-then-w-lt64-2 c = omega (arith, c.if-w-lt64-2.true)
-
-pub bounds-report-w-then-w-lt64-2 : goal.bounds-report-w-then-w-lt64-2
-bounds-report-w-then-w-lt64-2 c = omega (arith, c.if-w-lt64-2.true)
-
-pub raised_for-raised-requires-then-w-lt64-2 : goal.raised_for-raised-requires-then-w-lt64-2
-raised_for-raised-requires-then-w-lt64-2 c = tt
-
-pub offset_bounds-report-w-then-w-lt64-2-2 : goal.offset_bounds-report-w-then-w-lt64-2-2
-offset_bounds-report-w-then-w-lt64-2-2 c = omega (arith, c.if-w-lt64-2.true)
-
-pub bounds-report-w-then-w-lt64-2-2 : goal.bounds-report-w-then-w-lt64-2-2
-bounds-report-w-then-w-lt64-2-2 c = omega (arith, c.if-w-lt64-2.true)
-
-pub good_after-good-requires-then-w-lt64-2 : goal.good_after-good-requires-then-w-lt64-2
-good_after-good-requires-then-w-lt64-2 c = tt
-
-pub end_of-end-requires : goal.end_of-end-requires
-end_of-end-requires c = tt
-
-pub min_time-next-requires-then-code-eq0 : goal.min_time-next-requires-then-code-eq0
-min_time-next-requires-then-code-eq0 c = tt
-
-pub latest_by-unmarked-requires : goal.latest_by-unmarked-requires
-latest_by-unmarked-requires c = tt
-
-element-set-from-q-2 :
-    tie.Need-element-set-from-q-2
-element-set-from-q-2 c = search rules
-
-put-line-requires-4 :
-    tie.Need-put-line-requires-4
-put-line-requires-4 c κs = tt
-
-pub loop-i-smaller : goal.loop-i-smaller
-loop-i-smaller c =
-    let r = read (judged (taken (all_settled (chosen c.before)))) in
-    omega (arith, (turn r).loop-i-test.taken)
-
 pub loop-i-preserved : goal.loop-i-preserved
 unfolding lines_taken settled_book
 loop-i-preserved c =
-    let x = c.before in
+    let x = c.before.before.before.before.before in
     let s = all_settled (chosen x) in
     let r = turn (read (judged (taken s))) in
     let a = (entered r).args in
@@ -1060,8 +833,8 @@ loop-i-preserved c =
     (ended_by e.request e.time o answer)) same-open) in
     let beside = ends_by x q refl in (
       i.0,
-      progress-next a.b a.lines a.lent a.records.now a.out.now l.i l.book l.report l.out l.at l.inv.1
-          i.1 answer (store x.if-code-eq0.book) x.if-code-eq0.report p.new.0 p.result
+      progress-next a.b a.lines a.lent a.records.now a.out.now l.i l.book l.report l.out l.at l.invariant.1
+          i.1 answer (store x.if-code-eq0.book) x.if-code-eq0.report p.new.out p.result
           (stepped r answer (store x.if-code-eq0.book) x.if-code-eq0.report f recorded) p.ensures,
       subst (λ (m : Book). NextExpiry x.if-code-eq0.next m.players) (sym is-book) beside.1,
       u.3,

@@ -84,24 +84,24 @@ Going b ls lent s old count out book report rows ends good next at i = (i ≤ co
     (Progress b ls lent s old i book report out at) × (NextExpiry next book.players) × (length book.entries ≡ 64) ×
     (length book.players ≡ 16) × (rows ≡ rows_for book) × (book.assets ≡ b.assets) × (book.assetcount ≡ b.assetcount) ×
     (ends ≡ ends_for book) × (good ≡ good_lines b.assets b.assetcount report lent) × (length report ≡ 64)
--- LEFT abbrev invariant-loop2 : tie.invariant-loop2
-invariant-loop2 records out lent size count book₀ report₀ places parents assets rows₀ ends₀ good₀ next₀ at i from to event request noted j t p₀
-    book report rows ends good next p =
-    (p ≤ 16) × (book ≡ settled_to t p book₀) × (next ≡ least_end t book₀.players p) × (rows ≡ rows_for book) × (ends ≡ ends_for book) ×
-    (length book.players ≡ 16) × (report ≡ recorded_all book₀ report₀ (overdue t (take p book₀.players))) ×
-    (good ≡ good_lines assets book₀.assetcount report lent) × (length report ≡ 64)
--- LEFT abbrev decreases-loop2 : tie.decreases-loop2
-decreases-loop2 records out lent size count book₀ report₀ places parents assets rows₀ ends₀ good₀ next₀ at i from to event request noted j t p₀
-    book report rows ends good next p = 16 - p
--- LEFT abbrev invariant-loop3 : tie.invariant-loop3
-invariant-loop3 records out lent size count book report places parents assets rows ends good next at i from to request noted j t o ask k code
-    asset kind reach n best₀ e₀ best e = (e ≤ n) × (n ≤ 64) × (best ≡ best_after book.entries asset reach.parent kind ask e)
--- LEFT abbrev decreases-loop3 : tie.decreases-loop3
-decreases-loop3 records out lent size count book report places parents assets rows ends good next at i from to request noted j t o ask k code
-    asset kind reach n best₀ e₀ best e = n - e
--- LEFT abbrev invariant-loop : tie.invariant-loop
-invariant-loop records out₀ lent size count book₀ report₀ places parents assets rows₀ ends₀ good₀ next₀ at₀ i₀ out book report rows ends good
-    next at i = Going book₀ report₀ lent records out₀ count out book report rows ends good next at i
--- LEFT abbrev decreases-loop : tie.decreases-loop
-decreases-loop records out₀ lent size count book₀ report₀ places parents assets rows₀ ends₀ good₀ next₀ at₀ i₀ out book report rows ends good
-    next at i = count - i
+
+abbrev pub invariant-loop-p : goal.invariant-loop-p
+invariant-loop-p l =
+    (l.p ≤ 16) × (l.book ≡ settled_to l.t l.p l.initial.book) × (l.next ≡ least_end l.t l.initial.book.players l.p) × (l.rows ≡ rows_for l.book) × (l.ends ≡ ends_for l.book) ×
+    (length l.book.players ≡ 16) × (l.report ≡ recorded_all l.initial.book l.initial.report (overdue l.t (take l.p l.initial.book.players))) ×
+    (l.good ≡ good_lines l.assets l.initial.book.assetcount l.report l.lent) × (length l.report ≡ 64)
+
+abbrev pub decreases-loop-p : goal.decreases-loop-p
+decreases-loop-p l = 16 - l.p
+
+abbrev pub invariant-loop-e : goal.invariant-loop-e
+invariant-loop-e l = (l.e ≤ l.n) × (l.n ≤ 64) × (l.best ≡ best_after l.book.entries l.asset l.reach.parent l.kind l.ask l.e)
+
+abbrev pub decreases-loop-e : goal.decreases-loop-e
+decreases-loop-e l = l.n - l.e
+
+abbrev pub invariant-loop-i : goal.invariant-loop-i
+invariant-loop-i l = Going l.initial.book l.initial.report l.lent l.records l.initial.out l.count l.out l.book l.report l.rows l.ends l.good l.next l.at l.i
+
+abbrev pub decreases-loop-i : goal.decreases-loop-i
+decreases-loop-i l = l.count - l.i
