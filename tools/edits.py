@@ -3,8 +3,8 @@
 Says whether every edit still fits, in a second and without the prover: tools/edits.py --fit [ROOT]
 
 Each edits/CRATE/NAME.edit is an edit of crates/CRATE that the prover must refuse, in the form of those of crates/CRATE/must-fail,
-which the gate tries. In a copy of the repository, target/edits, they stand in place of these, and `rt must-fail` tries them there.
-Crates that are proved in target/ are not proved again. The exit status is that of `rt must-fail`: 0 if all are refused.
+which the gate tries. In a copy of the crates, in a folder of its own, they stand in place of these, and `rt must-fail` tries them there.
+What the crates' folders out/ keep as proved is not proved again. The exit status is that of `rt must-fail`: 0 if all are refused.
 
 --fit is of both sorts, of this repository or of the one at ROOT. An edit fits by the rule of `rt must-fail`: each `file:` names a file
 of its crate, and each `old:` text stands in it exactly once, the pairs before it being made. Misfits are printed, each with its file and
@@ -14,12 +14,11 @@ the reason; the last line is `N fit, M do not`, and the exit status is 1 if any 
 import shutil
 import subprocess
 import sys
+import tempfile
 from pathlib import Path
 
 ROOT = Path(__file__).resolve().parent.parent
 EDITS = ROOT / "edits"
-COPY = ROOT / "target" / "edits"
-KEPT = ("rlib", "stamp", "log")         # what rt keeps of a proved crate
 
 
 def misfit(crate, edit):
@@ -67,15 +66,13 @@ def main(names):
         if name not in known:
             sys.exit(f"there are no edits of `{name}`; there are some of: {', '.join(known)}")
     names = names or known
-    shutil.rmtree(COPY, ignore_errors=True)
-    shutil.copytree(ROOT / "crates", COPY / "crates", ignore=shutil.ignore_patterns("must-fail"))
-    shutil.copy(ROOT / "crates.txt", COPY)
-    for name in names:
-        shutil.copytree(EDITS / name, COPY / "crates" / name / "must-fail")
-    for part in KEPT:
-        if (ROOT / "target" / part).is_dir():
-            shutil.copytree(ROOT / "target" / part, COPY / "target" / part)
-    return subprocess.run(["rt", "must-fail", *names], cwd=COPY).returncode
+    with tempfile.TemporaryDirectory(prefix="edits-") as folder:
+        copy = Path(folder)
+        shutil.copytree(ROOT / "crates", copy / "crates", ignore=shutil.ignore_patterns("must-fail"))   # with what out/ keeps as proved
+        shutil.copy(ROOT / "crates.txt", copy)
+        for name in names:
+            shutil.copytree(EDITS / name, copy / "crates" / name / "must-fail")
+        return subprocess.run(["rt", "must-fail", *names], cwd=copy).returncode
 
 
 if __name__ == "__main__":

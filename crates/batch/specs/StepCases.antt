@@ -53,7 +53,8 @@ use Rattle.choice.specs.Choice.{best-suits, best-switched}
 use Rattle.choice.specs.declared.Row.{Row}
 use Rattle.choice.specs.Row.{row_of}
 use Rattle.index.specs.Rows.{row_of_entry, rows-set}
-use Rattle.index.specs.Places.{places_of, parents_of, reach_at, reach-usable, reach-parent}
+use Rattle.index.specs.Places.{places_of, parents_of, reach_at}
+use Rattle.index.proofs.Places.{reach-usable, reach-parent}
 use Rattle.uses.specs.declared.Effect.{Effect}
 use Rattle.uses.specs.Uses.{kept, placed, stored, begun_on, begin_on, continue_on, stop_on, cancel_on, continue-placed, stop-placed}
 use Rattle.uses.specs.Uses.{cancel-placed}

@@ -5,5 +5,6 @@ pub mod Meters
 pub mod Events
 pub mod Step
 pub mod Exact
+pub mod Blanked
 pub mod Renewed
 pub mod Marked

@@ -8,7 +8,8 @@ use lib.ListN.{set}
 use borrow.Author.Rules.{rules}
 use Rattle.model.specs.Book.{asset_at}
 use Rattle.choice.specs.declared.Reach.{Reach}
-use Rattle.index.specs.Places.{down, put_place, put_parent, places_of, parents_of, slots-new, down_turn, down-none}
+use Rattle.index.specs.Places.{down, put_place, put_parent, places_of, parents_of, slots-new}
+use Rattle.index.proofs.Places.{down_turn, down-none}
 use Rattle.index.proofs.fill_places.Given as goal
 
 abbrev pub invariant-loop-i : goal.invariant-loop-i

@@ -1,0 +1,2 @@
+-- What holds of the tables.
+pub mod Places
