@@ -58,7 +58,7 @@ struct Returned {
     lines: [Line; 64],
 }
 
-// The two parts of it. The proofs of the functions that take the list step through their code by hand, and pass a struct on whole.
+// The two parts of it.
 fn code_in(x: Returned) -> u8
     ensures { result ≡ x.code }
 {
