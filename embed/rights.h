@@ -6,7 +6,7 @@
  * They are lent the list of lines of the usage report too, which the caller keeps, hands on from call to call, and bills from.
  * Image and lines are saved together, in one file: embed/example.c does it.
  * What the functions return and leave in the buffers is proved for every input; this header is not checked against that
- * proof, so its declarations change only with crates/embed/src/lib.rt. docs/EMBEDDING.md shows how to use it, docs/FORMAT.md has the
+ * proof, so its declarations change only with crates/embed_c/src/lib.rt. docs/EMBEDDING.md shows how to use it, docs/FORMAT.md has the
  * bytes of records, images and saved files.
  *
  * What the caller must ensure in every call:

@@ -41,7 +41,7 @@ fails() {
 }
 
 mkdir -p "$work" || exit 2
-rt staticlib embed >"$work/staticlib.log" 2>&1 || { tail -5 "$work/staticlib.log"; exit 1; }
+tools/build embed_c >"$work/staticlib.log" 2>&1 || { tail -5 "$work/staticlib.log"; exit 1; }
 lib=target/staticlib/libembed.a
 flags='-std=c11 -O2 -Wall -Wextra -Werror'
 # shellcheck disable=SC2086

@@ -130,7 +130,7 @@ def main():
     words.add_argument("--program", default=ROOT / "target" / "bin" / "test_images", help="another program that answers like test_images")
     said = words.parse_args()
     if not Path(said.program).exists():
-        sys.exit(f"there is no {said.program}: `rt check test_images` makes it")
+        sys.exit(f"there is no {said.program}: `tools/build test_images` makes it")
     program, counts, began, seed = str(Path(said.program).resolve()), collections.Counter(), time.time(), said.seed
     done = 0
     while done < said.images:

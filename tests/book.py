@@ -1554,8 +1554,9 @@ def test_building(folder):
     root = folder / "root"
     for part in ("tools", "embed", "oracle", "examples"):
         shutil.copytree(ROOT / part, root / part, ignore=shutil.ignore_patterns("__pycache__"))
-    (root / "crates" / "x" / "src").mkdir(parents=True)
-    (root / "crates" / "x" / "src" / "lib.rt").write_text("")
+    for crate, file in (("x", "lib.rt"), ("embed_c", "lib.rt"), ("run", "main.rt")):
+        (root / "crates" / crate / "src").mkdir(parents=True)
+        (root / "crates" / crate / "src" / file).write_text("")
     tool, out = root / "tools" / "book.py", folder / "built.rbk"
     args = ["after", AFTERNOON / "rights.rbk", AFTERNOON / "events.bin", out]
     bare = folder / "bin"
@@ -1565,10 +1566,10 @@ def test_building(folder):
     rt = bare / "rt"
     rt.write_text("#!/bin/sh\necho words of the prover\nexit 1\n")
     rt.chmod(0o755)
-    refused("after: rt fails", "`rt staticlib embed` failed; what it said is in", *args, tool=tool, env=clean)
+    refused("after: rt fails", "`tools/build embed_c` failed; what it said is in", *args, tool=tool, env=clean)
     check("after: what rt said is in the log", "words of the prover" in (root / "target/tools/after.log").read_text())
-    rt.write_text(f"#!/bin/sh\nexport PATH={os.environ['PATH']}\nmkdir -p target/staticlib target/bin\n"
-                  f"[ $1 = check ] && cp {RUN} target/bin/run || cp {library.LIBRARY} target/staticlib/libembed.a\n"
+    rt.write_text(f"#!/bin/sh\nexport PATH={os.environ['PATH']}\nmkdir -p out\n"
+                  f"[ $1 = run ] && cp {RUN} out/run || cp {library.LIBRARY} out/libembed_c.a\n"
                   "echo words of the prover; echo more words >&2\n")
     refused("after: no C compiler", "`cc`, a C compiler, is not found", *args, tool=tool, env=clean)
     check("after: nothing is written before all is built", not out.exists())
@@ -1591,7 +1592,7 @@ def test_building(folder):
     done = Done(subprocess.run([root / "examples" / "try"], env=able, capture_output=True))
     check("try: prints the day and nothing else", done.out == (AFTERNOON / "try.txt").read_bytes(), done)
     check("try: a line for each thing that is built", re.fullmatch(
-        "building the run program, about [0-9]+ minutes .*; log in target/try.log\nbuilding the library .*\nbuilding the program .*\n"
+        "building the run program, some minutes .*; log in target/try.log\nbuilding the library .*\nbuilding the program .*\n"
         ".*events.bin: 22 requests: .*\n",
         done.err) is not None, done)
     shutil.rmtree(root / "target")
@@ -1608,7 +1609,7 @@ def test_building(folder):
     shop.mkdir()
     shutil.copy(AFTERNOON / "rights.rbk", shop)
     done = Done(subprocess.run([root / "tools" / "serve", shop], env=able, input=b"", capture_output=True))
-    check("serve: rt fails, and nothing is written", done.status == 2 and "`rt check run` failed" in done.err
+    check("serve: rt fails, and nothing is written", done.status == 2 and "`tools/build run` failed" in done.err
           and [path.name for path in shop.iterdir()] == ["rights.rbk"], done)
     done = Done(subprocess.run([root / "examples" / "try"], env=able, capture_output=True))
     check("try: rt fails", done.status == 1 and done.out == b"" and "said is in target/try.log" in done.err
@@ -1986,7 +1987,7 @@ def main():
     how_many = int(sys.argv[1]) if len(sys.argv) > 1 else 300
     library.build("after", "why", "read_texts")
     if not RUN.exists():
-        sys.exit(f"there is no {RUN}: `rt check run` makes it")
+        sys.exit(f"there is no {RUN}: `tools/build run` makes it")
     parts = [(test_lines,), (test_inputs,), (test_forgiving,), (test_times,), (test_files,), (test_streams,),
              (test_round_trips, how_many), (test_older,), (test_numbers,), (test_next_number,), (test_which_right,), (test_together,),
              (test_film_did_not_load,), (test_widen,), (test_diff, how_many),

@@ -398,7 +398,7 @@ def test_a_long_input(folder):
 def main():
     library.build("after")
     if not (ROOT / "target" / "bin" / "run").exists():
-        sys.exit("there is no target/bin/run: `rt check run` makes it")
+        sys.exit("there is no target/bin/run: `tools/build run` makes it")
     for name, test in list(globals().items()):
         if name.startswith("test_"):
             with tempfile.TemporaryDirectory() as folder:

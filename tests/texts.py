@@ -201,7 +201,7 @@ def build():
         sys.exit("rt, the command of the Rattle kit, is not found; it is needed to build the programs")
     LOG.parent.mkdir(parents=True, exist_ok=True)
     with open(LOG, "w") as log:
-        done = subprocess.run(["rt", "check", "import"], cwd=ROOT, stdin=subprocess.DEVNULL, stdout=log, stderr=log)
+        done = subprocess.run([sys.executable, "tools/build", "import"], cwd=ROOT, stdin=subprocess.DEVNULL, stdout=log, stderr=log)
     if done.returncode != 0 or not os.access(PROGRAM, os.X_OK):
         print(f"the program import was not built; what the prover said is in {LOG.relative_to(ROOT)}")
         print("0 passed, 1 failed")

@@ -9,7 +9,7 @@ Contracts, types, comments and proofs are never edited.
 
 The edits come from two tables of regular expressions, CODE and DEFINITIONS. --sample draws K of them for each name given, kinds of
 edits and functions in turn; without it all are tried. --list only prints them. What the compiler does not take (it does not parse,
-or has the wrong type) is thrown away and another one drawn. Needs target/ with every crate below proved (`rt check`).
+or has the wrong type) is thrown away and another one drawn. It is quick where every crate below is proved (`rt all check`).
 
 What is said of an edit:
     fact        refused, because a fact no longer holds: the code does not meet its contract, or an example computes to something else
@@ -20,7 +20,6 @@ reach it: `differs` if one of them writes something else. Logs are in target/mut
 """
 import argparse
 import hashlib
-import platform
 import random
 import re
 import shutil
@@ -34,8 +33,7 @@ from pathlib import Path
 
 ROOT = Path(__file__).resolve().parent.parent
 WORK = ROOT / "target" / "mutants"
-KIT = Path(shutil.which("rt") or "/opt/rattle/bin/rt").resolve().parent.parent
-OWN = KIT / "on" / platform.machine()
+PARTS = ("src", "specs", "proofs")      # of a crate, what a check reads
 SECONDS = 900
 
 
@@ -142,7 +140,7 @@ DEFINITIONS = BOTH + [
     ("branch", rf"(?<=\bcond )(?=(?P<c>{ATOM}\s+)(?P<a>{ATOM})(?P<m>\s+)(?P<b>{ATOM}))", [r"\g<c>\g<b>\g<m>\g<a>"]),
     ("fields", r"\b(?=(?P<x>\w+)(?P<is> = )(?P<a>[^;={}]+)(?P<m>;\s+(?P<y>\w+) = )(?P<b>[^;={}]+))", exchanged_fields),
     ("fields", neighbours(r"\s", ATOM, " ∷ "), SWAP), ("fields", neighbours(r"\s", ATOM, r" \+\+ "), SWAP),
-    ("arguments", rf"(?<![\w.′-])(?=(?P<name>[\w′-]+)(?P<opens> )(?P<all>{ATOM}(?: {ATOM})+))", exchanged_arguments),
+    ("arguments", rf"(?<![\w.'-])(?=(?P<name>[\w'-]+)(?P<opens> )(?P<all>{ATOM}(?: {ATOM})+))", exchanged_arguments),
     ("arguments", rf"(?P<a>{ATOM})(?P<m> [-/%] )(?P<b>{ATOM})", SWAP),
 ]
 
@@ -219,39 +217,34 @@ def drawn(edits, seed):
 # ---- The prover
 
 LISTED = (line.split("#")[0].partition(":") for line in (ROOT / "crates.txt").read_text().splitlines())
-DEPS = {name.strip(): rest.split() for name, colon, rest in LISTED if colon}
+DEPS = {name.split()[0]: rest.split() for name, colon, rest in LISTED if colon}
+RUNS = "--run" in sys.argv
 
 
 def copied(edit, where):
-    """A repository whose crates are links, but for the edit's crate, which is a copy with the edit made."""
+    """A repository of the edit's crate with the edit made, and of the crates below it, or of all that a program needs where it is run."""
     shutil.rmtree(where, ignore_errors=True)
-    (where / "crates").mkdir(parents=True)
-    shutil.copy(ROOT / "crates.txt", where)
-    for name in DEPS:
-        if name == edit.crate:
-            shutil.copytree(ROOT / "crates" / name, where / "crates" / name)
-        else:
-            (where / "crates" / name).symlink_to(ROOT / "crates" / name)
+    names = sorted(DEPS) if RUNS else [edit.crate, *reached(edit.crate)]
+    for name in names:
+        for part in PARTS:
+            if (ROOT / "crates" / name / part).is_dir():
+                shutil.copytree(ROOT / "crates" / name / part, where / "crates" / name / part)
+    shutil.copy(ROOT / "HANDLES", where) if (ROOT / "HANDLES").exists() else None
+    rows = [line for line in (ROOT / "crates.txt").read_text().splitlines() if re.split(r"[ :]", line)[0] in names]
+    (where / "crates.txt").write_text("".join(f"{row}\n" for row in rows))
     (where / edit.path).write_text(edit.new_text)
 
 
 def check(edit, where):
-    """(status, log) of the check of the edit's crate, over the proved crates below it, as `rt must-fail` does it."""
-    crate = where / "crates" / edit.crate
-    files = [p for part in ("src", "specs", "proofs") for p in sorted((crate / part).rglob("*")) if p.is_file()]
-    files += [p for p in (ROOT / "target" / "stamp" / name for name in DEPS[edit.crate]) if p.exists()]
+    """(status, log) of the check of the edit's crate. rt takes what other copies on this machine have proved of the same crates."""
+    crates = [where / "crates" / name for name in [edit.crate, *reached(edit.crate)]]
+    files = [p for crate in crates for part in PARTS for p in sorted((crate / part).rglob("*")) if p.is_file()]
     edit.id = hashlib.sha256(b"".join(p.read_bytes() for p in files)).hexdigest()[:10]
     log = WORK / "log" / edit.id
     if not log.exists():
-        main = crate / "src" / "main.rt"
-        words = [OWN / "bin" / "rattle", "check", "--crate-name", edit.crate, main if main.exists() else crate / "src" / "lib.rt"]
-        for name in ["std"] + DEPS[edit.crate]:
-            words += ["--extern", f"{name}={(ROOT / 'target' if name in DEPS else OWN) / 'rlib' / name}.rlib"]
-        words += ["-L", f"dependency={ROOT}/target/rlib", "-L", f"dependency={OWN}/rlib"]
-        words += ["--antt-project", KIT / "logic" / "antt-project.json", "--logic-built", OWN / "logic-built"]
-        status, said = run(words)
+        status, said = run(["rt", "check"], crates[0])
         log.parent.mkdir(parents=True, exist_ok=True)
-        log.write_text(f"{status}\n" + said.replace(f"{crate}/", ""))
+        log.write_text(f"{status}\n" + re.sub(r"(?m)^((?:note: )?)\./(?=src|specs|proofs)", r"\1", said.replace(f"{crates[0]}/", "")))
     status, _, said = log.read_text().partition("\n")
     return status, said
 
@@ -312,9 +305,15 @@ def differs(edit, where):
     programs = [name for name in DEPS if (own / name / "src" / "main.rt").exists() and (own / name / "stdout").exists()
                 and edit.crate in (name, *reached(name)) and not re.search("speed|bench", name)]
     for name in programs:
-        status, said = run([KIT / "bin" / "rt", "try", name], where)
+        cases = where / "cases" / name
+        cases.mkdir(parents=True)
+        stdin = own / name / "stdin"
+        (cases / "case").write_bytes(stdin.read_bytes() if stdin.exists() else b"")
+        shutil.copy(own / name / "stdout", cases / "case.stdout")
+        data = [word for path in sorted((own / name / "data").glob("*")) for word in ("--data", f"{path.name}={path}")]
+        status, said = run(["rt", "try", "--cases", str(cases), *data], where / "crates" / name)
         if status != "0":
-            return f"differs in {name}" if status == "late" or "FAIL" in said else f"not run in {name}"
+            return f"differs in {name}" if status in ("late", "4", "5", "6") else f"not run in {name}"
     return "no run differs" if programs else "no run reaches it"
 
 

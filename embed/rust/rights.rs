@@ -2,7 +2,7 @@
 //!
 //! The library keeps no state between calls. The book is passed as its image, the bytes of `rights.rbk`, and the usage report as its
 //! lines: the caller keeps both and saves them when it likes. What a call returns and leaves in the buffers is proved for every input.
-//! The declarations below are not checked against that proof, so they change only with `crates/embed/src/lib.rt`.
+//! The declarations below are not checked against that proof, so they change only with `crates/embed_c/src/lib.rt`.
 //!
 //! A call needs at most `STACK` bytes of stack, `from_xml` and `fresh_book` at most `XML_STACK`. `docs/FORMAT.md` has the bytes of
 //! records, images and saved files, and the form of XML rights objects.

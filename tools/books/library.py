@@ -1,5 +1,5 @@
 """The answers to a file of events and the book after them, what stands against the entries of a book, and the book of an XML
-rights object, and the report of a day, from the proved library for C (crates/embed).
+rights object, and the report of a day, from the proved library for C (crates/embed, as crates/embed_c exports it).
 
 The library and the small programs on top of it (tools/after.c, why.c, read_texts.c) are built if they are missing or older
 than their sources; the messages of the prover and the compiler go into target/tools/after.log.
@@ -139,13 +139,12 @@ def read_xml(text):
 
 def build(*programs):
     if older(LIBRARY, (ROOT / "crates").glob("*/src/*.rt")):
-        build_step("the library that answers, about 6 minutes on a fresh machine, or 3 where the run program is built",
-                   "the command of the Rattle kit", ["rt", "staticlib", "embed"])
+        build_proved("the library that answers, some minutes on a fresh machine, fewer where the run program is built", "embed_c")
     for name in programs:
         source, made = ROOT / "tools" / f"{name}.c", MADE / f"{name}.{os.getpid()}"
         if older(MADE / name, [LIBRARY, source, HEADER]):
             compiler = (os.environ.get("CC") or "cc").split()
-            build_step("the program over it, a second", "a C compiler",
+            build_step("the program over it, a second", compiler[0], "a C compiler",
                        [*compiler, "-std=c11", "-O2", "-I", str(HEADER.parent), str(source), str(LIBRARY), "-o", str(made)])
             made.replace(MADE / name)
 
@@ -154,9 +153,14 @@ def older(made, sources):
     return not made.exists() or made.stat().st_mtime < max((path.stat().st_mtime for path in sources), default=0)
 
 
-def build_step(what, tool, command):
-    if shutil.which(command[0]) is None:
-        raise Trouble(f"`{command[0]}`, {tool}, is not found; it is needed to build {what.split(',')[0]}")
+def build_proved(what, name):
+    """A program or the library, by tools/build, which calls rt."""
+    build_step(what, "rt", "the command of the Rattle kit", [sys.executable, "tools/build", name])
+
+
+def build_step(what, needed, tool, command):
+    if shutil.which(needed) is None:
+        raise Trouble(f"`{needed}`, {tool}, is not found; it is needed to build {what.split(',')[0]}")
     log_name = os.path.relpath(LOG)
     print(f"building {what}; log in {log_name}", file=sys.stderr, flush=True)
     MADE.mkdir(parents=True, exist_ok=True)
@@ -165,4 +169,5 @@ def build_step(what, tool, command):
         log.flush()
         done = subprocess.run(command, cwd=ROOT, stdin=subprocess.DEVNULL, stdout=log, stderr=log)
     if done.returncode != 0:
-        raise Trouble(f"`{' '.join(command[:3])}` failed; what it said is in {log_name}")
+        shown = command[1:] if command[0] == sys.executable else command[:3]
+        raise Trouble(f"`{' '.join(shown)}` failed; what it said is in {log_name}")

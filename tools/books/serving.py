@@ -16,7 +16,7 @@ from pathlib import Path
 from . import ROOT
 from .closing import closed_with, other_book
 from .files import IMAGE_MOST, alone_in, free_name, read_bytes, reason, sync_folder, umask, write_beside
-from .library import build, build_step, older, played
+from .library import build, build_proved, older, played
 from .records import RECORDED, SIZE, began_with, read_records, same_book
 from .words import Trouble
 
@@ -37,7 +37,7 @@ def serve(folder):
     if sys.stdin is None:
         raise Trouble("serve: standard input is closed")
     if older(RUN, (ROOT / "crates").glob("*/src/*.rt")):
-        build_step("the run program, about 4 minutes on a fresh machine", "the command of the Rattle kit", ["rt", "check", "run"])
+        build_proved("the run program, some minutes on a fresh machine", "run")
     build("after")
     folder = Path(folder)
     try:

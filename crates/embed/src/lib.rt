@@ -1,4 +1,4 @@
-// The book of rights for servers written in C or Rust: functions on numbers and bytes, linked as a static library.
+// The book of rights for servers written in C or Rust: functions on numbers and bytes, which crate `embed_c` exports.
 // No state is kept between calls. The book is passed as its image, which the caller keeps and lends.
 #![tactic(auto)]
 
@@ -44,8 +44,7 @@ fn load_from(buffer: &[u8], size: u64) -> Loaded
 
 // 0 if the image holds a legal book, otherwise the number of the refusal, 20 to 27.
 // Rules out: 0 for an image that breaks a rule, the number of a later rule.
-#[unsafe(no_mangle)]
-pub extern "C" fn rights_check(image: &[u8]) -> u8
+pub fn rights_check(image: &[u8]) -> u8
     ensures { result ≡ read_code image.now }
 {
     let loaded = load(image);
@@ -59,7 +58,7 @@ struct Returned {
     lines: [Line; 64],
 }
 
-// The two parts of it. The proofs of the functions that take the list step through their code by hand, and pass a struct on whole.
+// The two parts of it.
 fn code_in(x: Returned) -> u8
     ensures { result ≡ x.code }
 {
@@ -129,8 +128,7 @@ fn answer_image(
 // 19 bytes per record or the buffer none for the next image.
 // Rules out: a refusal that touches a byte, a number or a line, a next image that is not the image of the book after the last record, a
 // byte touched after the text or after the next image, a length that is not the text's or the next image's.
-#[unsafe(no_mangle)]
-pub extern "C" fn rights_answer(
+pub fn rights_answer(
     image: &mut [u8],
     size: &mut u64,
     records: &[u8],
@@ -212,8 +210,7 @@ fn answer_event(
 // step leaves. image, size and report are those of rights_answer; a list that is not good is answered 30 255 0.
 // Returns 0, or 20 to 27 if the image is refused, or 30 if the buffer has no room for the next image.
 // Rules out: a refusal that touches a byte, a number or a line, the image of the book before the event, an answer other than the record's.
-#[unsafe(no_mangle)]
-pub extern "C" fn rights_answer_one(
+pub fn rights_answer_one(
     image: &mut [u8],
     size: &mut u64,
     player: u8,
@@ -256,8 +253,7 @@ pub extern "C" fn rights_answer_one(
 
 // Writes the 17 bytes of the record that holds these numbers to the start of out. Returns 0, or 30 if out is too short.
 // Rules out: two fields swapped, a byte touched after the record or in a buffer that is too short.
-#[unsafe(no_mangle)]
-pub extern "C" fn rights_record(
+pub fn rights_record(
     player: u8,
     number: u64,
     operation: u8,
@@ -275,8 +271,7 @@ pub extern "C" fn rights_record(
 
 // How many assets and entries the book in the image has, its time, its switch, and the event taken last.
 // Rules out: numbers from an image that is refused.
-#[unsafe(no_mangle)]
-pub extern "C" fn rights_book(image: &[u8], out: &mut [u32]) -> u8
+pub fn rights_book(image: &[u8], out: &mut [u32]) -> u8
     ensures value { result ≡ book_code image.now (length out.old) }
     ensures out_after { out.new ≡ book_out image.now out.old }
 {
@@ -290,8 +285,7 @@ pub extern "C" fn rights_book(image: &[u8], out: &mut [u32]) -> u8
 
 // The entry at a position: its limits and its meters, in the image's order.
 // Rules out: the blank entry after the last one, a neighbouring entry.
-#[unsafe(no_mangle)]
-pub extern "C" fn rights_entry(image: &[u8], position: u32, out: &mut [u32]) -> u8
+pub fn rights_entry(image: &[u8], position: u32, out: &mut [u32]) -> u8
     ensures value { result ≡ entry_code image.now position (length out.old) }
     ensures out_after { out.new ≡ entry_out image.now position out.old }
 {
@@ -310,8 +304,7 @@ pub extern "C" fn rights_entry(image: &[u8], position: u32, out: &mut [u32]) -> 
 
 // The asset at a position: its number, inherit and key.
 // Rules out: the blank asset after the last one, a neighbouring asset.
-#[unsafe(no_mangle)]
-pub extern "C" fn rights_asset(image: &[u8], position: u32, out: &mut [u32]) -> u8
+pub fn rights_asset(image: &[u8], position: u32, out: &mut [u32]) -> u8
     ensures value { result ≡ asset_code image.now position (length out.old) }
     ensures out_after { out.new ≡ asset_out image.now position out.old }
 {
@@ -330,8 +323,7 @@ pub extern "C" fn rights_asset(image: &[u8], position: u32, out: &mut [u32]) -> 
 
 // A player's last event with its answer, and the open use.
 // Rules out: a player above 15.
-#[unsafe(no_mangle)]
-pub extern "C" fn rights_player(image: &[u8], player: u32, out: &mut [u32]) -> u8
+pub fn rights_player(image: &[u8], player: u32, out: &mut [u32]) -> u8
     ensures value { result ≡ player_code image.now player (length out.old) }
     ensures out_after { out.new ≡ player_out image.now player out.old }
 {
@@ -359,8 +351,7 @@ fn entry_then(b: Book, at: usize, when: u32) -> Entry
 
 // What is left of the entry at a position, as an event at that time would find it; at the book's time if that is later.
 // Rules out: still counting a use that is over by then, an entry out of its dates reported as grantable.
-#[unsafe(no_mangle)]
-pub extern "C" fn rights_left(image: &[u8], position: u32, time: u32, out: &mut [u32]) -> u8
+pub fn rights_left(image: &[u8], position: u32, time: u32, out: &mut [u32]) -> u8
     ensures value { result ≡ left_code image.now position time (length out.old) }
     ensures out_after { out.new ≡ left_out image.now position time out.old }
 {
@@ -380,14 +371,7 @@ pub extern "C" fn rights_left(image: &[u8], position: u32, time: u32, out: &mut 
 // What stands against granting the entry at a position to a player, as a begin at that time would find it; at the book's time if that is
 // later: 1 for a ground that stands, otherwise 0.
 // Rules out: the grounds of the book before its uses are settled, those of a neighbouring entry.
-#[unsafe(no_mangle)]
-pub extern "C" fn rights_grounds(
-    image: &[u8],
-    position: u32,
-    player: u8,
-    time: u32,
-    out: &mut [u32],
-) -> u8
+pub fn rights_grounds(image: &[u8], position: u32, player: u8, time: u32, out: &mut [u32]) -> u8
     ensures value { result ≡ grounds_code image.now position player time (length out.old) }
     ensures out_after { out.new ≡ grounds_out image.now position player time out.old }
 {
@@ -413,13 +397,7 @@ pub extern "C" fn rights_grounds(
 // and the number of the text's elements into elements.
 // Returns 0, or 40 to 42 if the text is refused, or 30 if the buffer has no room for the image.
 // Rules out: a refusal that touches a byte or a number, a byte touched after the image, the length and the elements exchanged.
-#[unsafe(no_mangle)]
-pub extern "C" fn rights_from_xml(
-    text: &[u8],
-    image: &mut [u8],
-    size: &mut u64,
-    elements: &mut u64,
-) -> u8
+pub fn rights_from_xml(text: &[u8], image: &mut [u8], size: &mut u64, elements: &mut u64) -> u8
     ensures value { result ≡ xml_code text.now image.old }
     ensures image_after { image.new ≡ xml_image text.now image.old }
     ensures size_after { size.new ≡ xml_size text.now image.old size.old }
