@@ -2,9 +2,8 @@
 // `code elements` on standard error. A text that is refused leaves standard output empty.
 #![tactic(auto)]
 
-use std::env::FillError;
 use std::io;
-use std::rt::{Clock, Env};
+use std::rt::Clock;
 use xml_image::Imported;
 
 // One byte more than the longest text that the program takes: these bytes are enough to refuse a longer one.
@@ -70,14 +69,8 @@ fn import(rt: &(impl Clock + Eprint + Input + Print)) {
     import_into(rt, &mut text);
 }
 
-// Whether the program was started with an argument behind its name.
-fn has_argument(env: &impl Env) -> bool {
-    let mut first = [0u8; 1];
-    !matches!(env.arg(1, &mut first), Err(FillError::NotPresent))
-}
-
 fn main(rt: HostRuntime) {
-    if has_argument(&rt) {
+    if stream::has_argument(&rt) {
         explain(&rt);
         return;
     }

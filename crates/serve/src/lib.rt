@@ -7,7 +7,6 @@
 ghost use Rattle.std.specs.Prelude.{◌+◌, ◌≤◌, length, IfOk};
 
 use book::{Book, Line, at_most_64};
-use std::env::FillError;
 use std::fs;
 use std::io::{self, Cursor, ErrorKind, Read, Write};
 use std::rt::{Clock, Env, Files};
@@ -116,14 +115,8 @@ fn explain(rt: &impl Eprint) {
     );
 }
 
-// Whether the program was started with an argument behind its name.
-fn has_argument(env: &impl Env) -> bool {
-    let mut first = [0u8; 1];
-    !matches!(env.arg(1, &mut first), Err(FillError::NotPresent))
-}
-
 pub fn serve(rt: &(impl Clock + Env + Eprint + Files + Input + Print)) {
-    if has_argument(rt) {
+    if stream::has_argument(rt) {
         explain(rt);
         return;
     }

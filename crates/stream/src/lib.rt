@@ -4,9 +4,10 @@
 
 ghost use Rattle.std.specs.Prelude.{◌+◌, ◌≤◌, length, IfOk};
 
+use std::env::FillError;
 use std::io::{Cursor, Error, ErrorKind, Read, Result, Write};
+use std::rt::{Clock, Env};
 use std::str;
-use std::time::Clock;
 
 // What was read of an input: all of it, or as much as there was room for; good is false if a read failed.
 #[derive(Clone, Copy)]
@@ -187,4 +188,10 @@ pub fn fail(rt: &impl Eprint, name: &[u8], e: Error) {
     let printed = str::from_utf8(&bytes[..n.min(256)]).unwrap_or("");
     let words = reason(printed);
     let _ = eprintln!(rt; "{}: {words}", name.escape_ascii());
+}
+
+// Whether the program was started with an argument behind its name.
+pub fn has_argument(env: &impl Env) -> bool {
+    let mut first = [0u8; 1];
+    !matches!(env.arg(1, &mut first), Err(FillError::NotPresent))
 }
