@@ -1,8 +1,11 @@
 // Reading and writing of the programs. A descriptor that does not block, and a signal that comes first, are waited for.
-// No contract can say what a system call reads or writes: these functions are proved to be safe and to end.
+// No contract can say what a system call reads or writes. Of a reader or a writer whose bytes are known, as one over memory, the
+// contracts say that no byte is lost, doubled or moved; of every one, that no wait and no signal ends a read or a write.
 #![tactic(auto)]
 
-ghost use Rattle.std.specs.Prelude.{◌+◌, ◌≤◌, length, IfOk};
+ghost use Rattle.std.specs.Prelude.{◌≡◌, ◌≢◌, ℕ, ◌+◌, ◌<◌, ◌≤◌, ◌↔◌, ◌⊎◌, pos, length, take, drop, IfOk, IfErr, OnOk, OnErr, IsTrue, false};
+ghost use Rattle.std.specs.Io.KnownBytes.{Appends, Consumes, IsAtEnd, Keeps, WriteAppends};
+ghost use Rattle.std.specs.IoError.{error_kind};
 
 use std::env::FillError;
 use std::io::{Cursor, Error, ErrorKind, Read, Result, Write};
@@ -18,7 +21,9 @@ pub struct Input {
 
 // Whether to retry a read or a write that failed: a non-blocking descriptor was not ready yet, or a
 // signal came first.
-fn waited(clock: &impl Clock, e: Error) -> bool {
+fn waited(clock: &impl Clock, e: Error) -> bool
+    ensures { IsTrue result ↔ ((error_kind e ≡ ErrorKind.WouldBlock) ⊎ (error_kind e ≡ ErrorKind.Interrupted)) }
+{
     let kind = e.kind();
     if kind == ErrorKind::WouldBlock {
         pause::pause(clock);
@@ -29,7 +34,11 @@ fn waited(clock: &impl Clock, e: Error) -> bool {
 
 // One read into s from an offset: how many bytes came, 0 at the end of the input.
 fn read_once<R: Read>(input: &mut R, s: &mut [u8], from: usize) -> Result<usize>
-    ensures { IfOk result (λ n. from + n ≤ length s.new) }
+    ensures fits { IfOk result (λ n. from + n ≤ length s.new) }
+    ensures kept { take from s.new ≡ take from s.old }
+    ensures bytes { IfOk result (λ n. Consumes (R.remaining input.old) (R.remaining input.new) (take n (drop from s.new))) }
+    ensures end { IfOk result (λ n. n ≡ 0 → from < length s.new → IsAtEnd (R.remaining input.new)) }
+    ensures err { OnErr result (Keeps (R.remaining input.old) (R.remaining input.new)) }
 {
     if from > s.len() {
         return Err(Error::from(ErrorKind::InvalidInput));
@@ -45,7 +54,12 @@ pub fn read_more<R: Read>(
     s: &mut [u8],
     from: usize,
 ) -> Result<usize>
-    ensures { IfOk result (λ n. from + n ≤ length s.new) }
+    ensures fits { IfOk result (λ n. from + n ≤ length s.new) }
+    ensures kept { take from s.new ≡ take from s.old }
+    ensures bytes { IfOk result (λ n. Consumes (R.remaining input.old) (R.remaining input.new) (take n (drop from s.new))) }
+    ensures end { IfOk result (λ n. n ≡ 0 → from < length s.new → IsAtEnd (R.remaining input.new)) }
+    ensures err { OnErr result (Keeps (R.remaining input.old) (R.remaining input.new)) }
+    ensures retried { IfErr result (λ e. (error_kind e ≢ ErrorKind.WouldBlock) × (error_kind e ≢ ErrorKind.Interrupted)) }
 {
     for _ in 0..u64::MAX {
         match read_once(input, s, from) {
@@ -62,14 +76,16 @@ pub fn read_more<R: Read>(
 
 // A count brought into what s has room for: 0 for a negative one.
 fn count(got: isize, s: &[u8]) -> usize
-    ensures { result ≤ length s.now }
+    ensures bound { result ≤ length s.now }
+    ensures value { (n : ℕ) → got ≡ pos n → n ≤ length s.now → result ≡ n }
 {
     usize::try_from(got).unwrap_or(0).min(s.len())
 }
 
 // How many bytes s holds after appending `got` bytes to the first ones.
 pub fn filled(s: &[u8], from: usize, got: isize) -> usize
-    ensures { result ≤ length s.now }
+    ensures bound { result ≤ length s.now }
+    ensures value { (n : ℕ) → got ≡ pos n → from + n ≤ length s.now → result ≡ from + n }
 {
     if from > s.len() {
         return s.len();
@@ -84,7 +100,10 @@ pub fn read_all<R: Read>(
     name: &[u8],
     s: &mut [u8],
 ) -> Input
-    ensures { result.length ≤ length s.new }
+    ensures bound { result.length ≤ length s.new }
+    ensures bytes { IsTrue result.good → Consumes (R.remaining input.old) (R.remaining input.new) (take result.length s.new) }
+    ensures end { IsTrue result.good → result.length < length s.new → IsAtEnd (R.remaining input.new) }
+    ensures failed { result.good ≡ false → result.length ≡ 0 }
 {
     let mut n: usize = 0;
     while n < s.len() {
@@ -117,12 +136,17 @@ pub fn read_all<R: Read>(
 // One write of text from an offset: how many bytes were written.
 fn write_once<W: Write>(output: &mut W, text: &[u8], from: usize) -> Result<usize>
     requires { from ≤ length text.now }
+    ensures fits { IfOk result (λ n. from + n ≤ length text.now) }
+    ensures bytes { WriteAppends (W.contents output.old) (W.contents output.new) result (drop from text.now) }
 {
     output.write(&text[from..])
 }
 
 // Writes all of text, in as many writes as it takes.
-fn write_text<W: Write>(clock: &impl Clock, output: &mut W, text: &[u8]) -> Result<()> {
+fn write_text<W: Write>(clock: &impl Clock, output: &mut W, text: &[u8]) -> Result<()>
+    ensures ok { OnOk result (Appends (W.contents output.old) (W.contents output.new) text.now) }
+    ensures retried { IfErr result (λ e. (error_kind e ≢ ErrorKind.WouldBlock) × (error_kind e ≢ ErrorKind.Interrupted)) }
+{
     let mut done: usize = 0;
     for _ in 0..u64::MAX {
         if done >= text.len() {
@@ -142,12 +166,9 @@ fn write_text<W: Write>(clock: &impl Clock, output: &mut W, text: &[u8]) -> Resu
 }
 
 // Writes text, or reports why that failed.
-pub fn send<W: Write>(
-    rt: &(impl Clock + Eprint),
-    output: &mut W,
-    name: &[u8],
-    text: &[u8],
-) -> bool {
+pub fn send<W: Write>(rt: &(impl Clock + Eprint), output: &mut W, name: &[u8], text: &[u8]) -> bool
+    ensures { IsTrue result → Appends (W.contents output.old) (W.contents output.new) text.now }
+{
     match write_text(rt, output, text) {
         Ok(()) => true,
         Err(e) => {
@@ -164,7 +185,9 @@ pub fn send_first<W: Write>(
     name: &[u8],
     text: &[u8],
     n: usize,
-) -> bool {
+) -> bool
+    ensures { IsTrue result → Appends (W.contents output.old) (W.contents output.new) (take n text.now) }
+{
     if n < text.len() {
         return send(rt, output, name, &text[..n]);
     }
