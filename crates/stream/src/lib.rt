@@ -1,6 +1,6 @@
 // Reading and writing of the programs. A descriptor that does not block, and a signal that comes first, are waited for.
 // No contract can say what a system call reads or writes. Of a reader or a writer whose bytes are known, as one over memory, the
-// contracts say that no byte is lost, doubled or moved; of every one, that no wait and no signal ends a read or a write.
+// contracts say that no byte is lost, doubled or moved; of every one, that neither of the two is handed on as a failure.
 #![tactic(auto)]
 
 ghost use Rattle.std.specs.Prelude.{◌≡◌, ◌≢◌, ℕ, ◌+◌, ◌<◌, ◌≤◌, ◌↔◌, ◌⊎◌, pos, length, take, drop, IfOk, IfErr, OnOk, OnErr, IsTrue, false};
