@@ -4,7 +4,9 @@
 // The bytes of one read are answered in one write before the next read, so that a player at a pipe need not wait for others.
 #![tactic(auto)]
 
-ghost use Rattle.std.specs.Prelude.{◌+◌, ◌≤◌, length, IfOk};
+ghost use Rattle.std.specs.Prelude.{◌≡◌, ◌+◌, ◌<◌, ◌≤◌, length, take, drop, IfOk, IsTrue};
+ghost use Rattle.std.specs.Io.KnownBytes.{Appends, Consumes, IsAtEnd};
+ghost use Rattle.serve.specs.Answers.{Answers};
 
 use book::{Book, Line, at_most_64};
 use std::fs;
@@ -41,7 +43,10 @@ fn read_behind<R: Read>(
     kept: usize,
 ) -> io::Result<usize>
     requires { kept ≤ length input.old }
-    ensures { IfOk result (λ n. kept + n ≤ length input.new) }
+    ensures fits { IfOk result (λ n. kept + n ≤ length input.new) }
+    ensures same { take kept input.new ≡ take kept input.old }
+    ensures bytes { IfOk result (λ n. Consumes (R.remaining reader.old) (R.remaining reader.new) (take n (drop kept input.new))) }
+    ensures end { IfOk result (λ n. n ≡ 0 → kept < length input.new → IsAtEnd (R.remaining reader.new)) }
 {
     stream::read_more(clock, reader, input, kept)
 }
@@ -49,11 +54,12 @@ fn read_behind<R: Read>(
 // Writes the first n bytes, which are there.
 fn print_first<W: Write>(rt: &(impl Clock + Eprint), writer: &mut W, out: &[u8], n: usize) -> bool
     requires { n ≤ length out.now }
+    ensures { IsTrue result → Appends (W.contents writer.old) (W.contents writer.new) (take n out.now) }
 {
     stream::send(rt, writer, b"standard output", &out[..n])
 }
 
-// Answers each read until the input ends. An incomplete record is kept and completed by the next read; the lines of the report are
+// Answers each read until the input ends, and then returns true. An incomplete record is kept and completed by the next read; the lines of the report are
 // handed on from read to read.
 // Nothing guarantees that the input ends either: this loop counts to a number that no run uses up, too.
 fn answer_reads<R: Read, W: Write>(
@@ -65,7 +71,9 @@ fn answer_reads<R: Read, W: Write>(
     lent: usize,
     input: &mut [u8; INPUT],
     out: &mut [u8; OUT],
-) {
+) -> bool
+    ensures { IsTrue result → Answers b first lent (R.remaining reader.old) (W.contents writer.old) (W.contents writer.new) }
+{
     let mut book = b;
     let mut lines = first;
     let mut kept: usize = 0;
@@ -76,10 +84,10 @@ fn answer_reads<R: Read, W: Write>(
                 let there = stream::filled(input, kept, got.cast_signed());
                 let t = turn::turn(book, lines, lent, input, there, ended, out);
                 if !print_first(rt, writer, out, t.written) {
-                    return;
+                    return false;
                 }
                 if ended {
-                    return;
+                    return true;
                 }
                 book = t.book;
                 lines = t.lines;
@@ -87,10 +95,11 @@ fn answer_reads<R: Read, W: Write>(
             }
             Err(e) => {
                 stream::fail(rt, b"standard input", e);
-                return;
+                return false;
             }
         }
     }
+    false
 }
 
 // A line for each asset of the book is lent, with zeros before the first event.
