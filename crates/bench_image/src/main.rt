@@ -2,7 +2,11 @@
 // It prints the last answer and the last length.
 #![tactic(auto)]
 
+ghost use Rattle.std.specs.Prelude.{◌≤◌, length};
+
 use book::Book;
+use std::rt::{Clock, Files};
+use std::{fs, io};
 
 const IMAGE: usize = 5399;
 
@@ -28,27 +32,31 @@ fn one_turn(held: Book, image: &[u8]) -> Turn {
 }
 
 fn turns(image: &[u8]) -> Turn {
-    let mut left: u32 = 20000;
     let mut t = Turn {
         code: 0,
         length: 0,
         book: book::blank_book(),
     };
-    while left > 0 {
+    for _ in 0..20000 {
         let held = t.book;
         t = one_turn(held, image);
-        left = left - 1;
     }
     t
 }
 
-fn main() {
+// Reads full.rbk to the start of image, and returns how many bytes. A file that cannot be opened counts as empty.
+fn read_image(rt: &(impl Clock + Eprint + Files), image: &mut [u8; IMAGE]) -> usize
+    ensures { result ≤ length image.new }
+{
+    match fs::open(rt, "full.rbk") {
+        Ok(mut file) => stream::read_all(rt, &mut file, b"full.rbk", image).length,
+        Err(_) => 0,
+    }
+}
+
+fn main(rt: HostRuntime) -> io::Result<()> {
     let mut image = [0u8; IMAGE];
-    let fd = os::open_read(b"full.rbk");
-    let n = io::read_full(fd, &mut image);
+    let n = read_image(&rt, &mut image);
     let t = turns(&image[..n]);
-    io::print_decimal(1, t.code as u64);
-    io::write_all(1, b" ");
-    io::print_decimal(1, t.length as u64);
-    io::write_all(1, b"\n");
+    println!(rt; "{} {}", t.code, t.length)
 }

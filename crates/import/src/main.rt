@@ -2,6 +2,8 @@
 // `code elements` on standard error. A text that is refused leaves standard output empty.
 #![tactic(auto)]
 
+use std::io;
+use std::rt::Clock;
 use xml_image::Imported;
 
 // One byte more than the longest text that the program takes: these bytes are enough to refuse a longer one.
@@ -9,23 +11,19 @@ const TEXT: usize = 4194305;
 
 const IMAGE: usize = 5399;
 
-fn explain() {
-    io::write_all(
-        2,
-        b"import takes no argument. It reads a rights object in XML from standard input: import < rights.xml > rights.rbk\n",
+fn explain(rt: &impl Eprint) {
+    let _ = eprintln!(rt;
+        "import takes no argument. It reads a rights object in XML from standard input: import < rights.xml > rights.rbk"
     );
 }
 
-fn too_long() {
-    io::write_all(2, b"import: the text is longer than 4194304 bytes\n");
+fn too_long(rt: &impl Eprint) {
+    let _ = eprintln!(rt; "import: the text is longer than 4194304 bytes");
 }
 
 // The line `code elements`.
-fn report(code: u8, elements: u16) {
-    io::print_decimal(2, code as u64);
-    io::write_all(2, b" ");
-    io::print_decimal(2, elements as u64);
-    io::write_all(2, b"\n");
+fn report(rt: &impl Eprint, code: u8, elements: u16) {
+    let _ = eprintln!(rt; "{code} {elements}");
 }
 
 // The first n bytes of the text, which are there.
@@ -37,38 +35,44 @@ fn import_first(text: &[u8], n: usize, image: &mut [u8]) -> Imported {
 }
 
 // Writes the image before the line, so that whoever reads the line has the image.
-fn answer(text: &[u8], n: usize) {
+fn answer(rt: &(impl Clock + Eprint + Print), text: &[u8], n: usize) {
     let mut image = [0u8; IMAGE];
     let r = import_first(text, n, &mut image);
     if r.code == 0 {
-        if !stream::send_first(1, b"standard output", &image, r.length) {
+        if !stream::send_first(
+            rt,
+            &mut io::writer(rt),
+            b"standard output",
+            &image,
+            r.length,
+        ) {
             return;
         }
     }
-    report(r.code, r.elements);
+    report(rt, r.code, r.elements);
 }
 
-fn import_into(text: &mut [u8; TEXT]) {
-    let i = stream::read_all(0, b"standard input", text);
+fn import_into(rt: &(impl Clock + Eprint + Input + Print), text: &mut [u8; TEXT]) {
+    let i = stream::read_all(rt, &mut rt.reader(), b"standard input", text);
     if !i.good {
         return;
     }
     if TEXT <= i.length {
-        too_long();
+        too_long(rt);
         return;
     }
-    answer(text, i.length);
+    answer(rt, text, i.length);
 }
 
-fn import() {
+fn import(rt: &(impl Clock + Eprint + Input + Print)) {
     let mut text = [0u8; TEXT];
-    import_into(&mut text);
+    import_into(rt, &mut text);
 }
 
-fn main() {
-    if os::arg_count() > 1 {
-        explain();
+fn main(rt: HostRuntime) {
+    if stream::has_argument(&rt) {
+        explain(&rt);
         return;
     }
-    import();
+    import(&rt);
 }

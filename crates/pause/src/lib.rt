@@ -1,21 +1,19 @@
-// A short wait: the kit has no way to wait for a descriptor, so a non-blocking one is tried again after this.
+// A short wait: std has no way to wait for a descriptor to be ready, so a non-blocking one is tried again after this.
 #![tactic(auto)]
 
-use libc::types::timespec;
+use std::thread;
+use std::time::{Clock, Duration};
 
-fn span(seconds: i64, nanos: i64) -> timespec {
-    timespec {
-        tv_sec: seconds,
-        tv_nsec: nanos,
-    }
+fn span(seconds: u64, nanos: u64) -> Duration {
+    Duration::from_secs(seconds).saturating_add(Duration::from_nanos(nanos))
 }
 
-// Waits for the time asked. If a signal comes first, the time remaining goes to left and is not waited for.
-fn wait_for(asked: timespec, mut left: timespec) {
-    libc::nanosleep(&asked, &mut left);
+// Waits for the time asked, also where a signal comes first.
+fn wait_for(clock: &impl Clock, asked: Duration) {
+    thread::sleep(clock, asked);
 }
 
 // Waits one millisecond.
-pub fn pause() {
-    wait_for(span(0, 1000000), span(0, 0));
+pub fn pause(clock: &impl Clock) {
+    wait_for(clock, span(0, 1000000));
 }

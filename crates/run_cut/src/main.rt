@@ -1,6 +1,6 @@
 // The run program on two events and five bytes of a third.
 #![tactic(auto)]
 
-fn main() {
-    serve::serve();
+fn main(rt: HostRuntime) {
+    serve::serve(&rt);
 }

@@ -2,6 +2,6 @@
 // resends of events from the read before; the last record is cut short.
 #![tactic(auto)]
 
-fn main() {
-    serve::serve();
+fn main(rt: HostRuntime) {
+    serve::serve(&rt);
 }

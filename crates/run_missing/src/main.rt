@@ -1,6 +1,6 @@
 // The run program without a rights.rbk.
 #![tactic(auto)]
 
-fn main() {
-    serve::serve();
+fn main(rt: HostRuntime) {
+    serve::serve(&rt);
 }

@@ -1,6 +1,6 @@
 // The run program on the book of `run_long` with one byte after it: 5,400 bytes, refused with 20, and no record is answered.
 #![tactic(auto)]
 
-fn main() {
-    serve::serve();
+fn main(rt: HostRuntime) {
+    serve::serve(&rt);
 }

@@ -4,90 +4,112 @@
 // The bytes of one read are answered in one write before the next read, so that a player at a pipe need not wait for others.
 #![tactic(auto)]
 
-ghost use Rattle.std.specs.Prelude.{◌≤◌, length};
+ghost use Rattle.std.specs.Prelude.{◌≡◌, ◌+◌, ◌<◌, ◌≤◌, length, take, drop, IfOk, IsTrue};
+ghost use Rattle.std.specs.Io.KnownBytes.{Appends, Consumes, IsAtEnd};
+ghost use Rattle.serve.specs.Answers.{Answers};
 
 use book::{Book, Line, at_most_64};
+use std::fs;
+use std::io::{self, Cursor, ErrorKind, Read, Write};
+use std::rt::{Clock, Env, Files};
 use turn::{IMAGE, INPUT, OUT};
 
 // Reads rights.rbk to the start of image, and returns how many bytes. A missing file counts as empty, and so does one that cannot be read.
-fn read_image(image: &mut [u8; IMAGE]) -> usize {
-    let fd = os::open_read(b"rights.rbk");
-    if fd < 0 {
-        if os::errno() != libc::ENOENT {
-            os::fail(b"rights.rbk");
+fn read_image(rt: &(impl Clock + Eprint + Files), image: &mut [u8; IMAGE]) -> usize {
+    match fs::open(rt, "rights.rbk") {
+        Ok(mut file) => stream::read_all(rt, &mut file, b"rights.rbk", image).length,
+        Err(e) => {
+            if e.kind() != ErrorKind::NotFound {
+                stream::fail(rt, b"rights.rbk", e);
+            }
+            0
         }
-        return 0;
     }
-    let i = stream::read_all(fd, b"rights.rbk", image);
-    libc::close(fd);
-    i.length
 }
 
-fn print_refusal(code: u8) {
-    let mut digits = [0u8; 20];
-    let n = io::decimal(code as u64, &mut digits);
-    if stream::send(1, b"standard output", &digits[..n]) {
-        stream::send(1, b"standard output", b"\n");
-    }
+fn print_refusal(rt: &(impl Clock + Eprint + Print), code: u8) {
+    let mut line = Cursor::new([0u8; 20]);
+    let _ = writeln!(line, "{code}");
+    let n = line.position() as usize;
+    let text = line.into_inner();
+    stream::send_first(rt, &mut io::writer(rt), b"standard output", &text, n);
 }
 
 // One read of the input behind the bytes that are kept, for which there is room.
-fn read_behind(input: &mut [u8], kept: usize) -> isize
+fn read_behind<R: Read>(
+    clock: &impl Clock,
+    reader: &mut R,
+    input: &mut [u8],
+    kept: usize,
+) -> io::Result<usize>
     requires { kept ≤ length input.old }
+    ensures fits { IfOk result (λ n. kept + n ≤ length input.new) }
+    ensures same { take kept input.new ≡ take kept input.old }
+    ensures bytes { IfOk result (λ n. Consumes (R.remaining reader.old) (R.remaining reader.new) (take n (drop kept input.new))) }
+    ensures end { IfOk result (λ n. n ≡ 0 → kept < length input.new → IsAtEnd (R.remaining reader.new)) }
 {
-    stream::read_more(0, input, kept)
+    stream::read_more(clock, reader, input, kept)
 }
 
 // Writes the first n bytes, which are there.
-fn print_first(out: &[u8], n: usize) -> bool
+fn print_first<W: Write>(rt: &(impl Clock + Eprint), writer: &mut W, out: &[u8], n: usize) -> bool
     requires { n ≤ length out.now }
+    ensures { IsTrue result → Appends (W.contents writer.old) (W.contents writer.new) (take n out.now) }
 {
-    stream::send(1, b"standard output", &out[..n])
+    stream::send(rt, writer, b"standard output", &out[..n])
 }
 
-// Answers each read until the input ends. An incomplete record is kept and completed by the next read; the lines of the report are
+// Answers each read until the input ends, and then returns true. An incomplete record is kept and completed by the next read; the lines of the report are
 // handed on from read to read.
-// Nothing guarantees that the input ends either: this loop counts down too.
-fn answer_reads(
+// Nothing guarantees that the input ends either: this loop counts to a number that no run uses up, too.
+fn answer_reads<R: Read, W: Write>(
+    rt: &(impl Clock + Eprint),
+    reader: &mut R,
+    writer: &mut W,
     b: Book,
     first: [Line; 64],
     lent: usize,
     input: &mut [u8; INPUT],
     out: &mut [u8; OUT],
-) {
+) -> bool
+    ensures { IsTrue result → Answers b first lent (R.remaining reader.old) (W.contents writer.old) (W.contents writer.new) }
+{
     let mut book = b;
     let mut lines = first;
     let mut kept: usize = 0;
-    let mut left = u64::MAX;
-    while left > 0 {
-        let got = read_behind(input, kept);
-        if got < 0 {
-            os::fail(b"standard input");
-            return;
+    for _ in 0..u64::MAX {
+        match read_behind(rt, reader, input, kept) {
+            Ok(got) => {
+                let ended = got == 0;
+                let there = stream::filled(input, kept, got.cast_signed());
+                let t = turn::turn(book, lines, lent, input, there, ended, out);
+                if !print_first(rt, writer, out, t.written) {
+                    return false;
+                }
+                if ended {
+                    return true;
+                }
+                book = t.book;
+                lines = t.lines;
+                kept = t.kept;
+            }
+            Err(e) => {
+                stream::fail(rt, b"standard input", e);
+                return false;
+            }
         }
-        let ended = got == 0;
-        let there = stream::filled(input, kept, got);
-        let t = turn::turn(book, lines, lent, input, there, ended, out);
-        if !print_first(out, t.written) {
-            return;
-        }
-        if ended {
-            return;
-        }
-        let next = t.book;
-        book = next;
-        let after = t.lines;
-        lines = after;
-        kept = t.kept;
-        left = left - 1;
     }
+    false
 }
 
 // A line for each asset of the book is lent, with zeros before the first event.
-fn answer_all(b: Book) {
+fn answer_all(rt: &(impl Clock + Eprint + Input + Print), b: Book) {
     let mut input = [0u8; INPUT];
     let mut out = [0u8; OUT];
     answer_reads(
+        rt,
+        &mut rt.reader(),
+        &mut io::writer(rt),
         b,
         turn::zero_lines(b),
         at_most_64(b.assetcount),
@@ -96,25 +118,24 @@ fn answer_all(b: Book) {
     );
 }
 
-fn explain() {
-    io::write_all(
-        2,
-        b"run takes no argument. Start it in the folder of rights.rbk, with event records on standard input: run < events\n",
+fn explain(rt: &impl Eprint) {
+    let _ = eprintln!(rt;
+        "run takes no argument. Start it in the folder of rights.rbk, with event records on standard input: run < events"
     );
 }
 
-pub fn serve() {
-    if os::arg_count() > 1 {
-        explain();
+pub fn serve(rt: &(impl Clock + Env + Eprint + Files + Input + Print)) {
+    if stream::has_argument(rt) {
+        explain(rt);
         return;
     }
     let mut image = [0u8; IMAGE];
-    let n = read_image(&mut image);
+    let n = read_image(rt, &mut image);
     let l = turn::load(&image, n);
     if l.code != 0 {
-        print_refusal(l.code);
+        print_refusal(rt, l.code);
         return;
     }
     let b = l.book;
-    answer_all(b);
+    answer_all(rt, b);
 }

@@ -13,8 +13,12 @@ ghost use Rattle.step.specs.Lines.{outcome_of};
 use batch::Block;
 use book::{Book, Line, Outcome, RECORD_SIZE, Reported, at_most_64};
 use image_read::Loaded;
+use std::fs;
+use std::io::{self, Read};
 use text::put_line;
 use turn::OUT;
+
+const BUFFER: usize = 65536;
 
 #[derive(Clone, Copy)]
 struct Head {
@@ -23,19 +27,19 @@ struct Head {
 }
 
 // The length in the next four bytes of the file, if there are that many.
-fn read_head(fd: i32) -> Head {
+fn read_head<F: Read>(file: &mut F) -> Head {
     let mut h = [0u8; 4];
-    let n = io::read_full(fd, &mut h);
+    let more = file.read_exact(&mut h).is_ok();
     Head {
-        more: n == 4,
+        more: more,
         length: numbers::join32(h[0], h[1], h[2], h[3]) as usize,
     }
 }
 
 // Reads the next n bytes of the file to the start of buf. False if buf has no room for them or the file ends first.
-fn fill(fd: i32, n: usize, buf: &mut [u8]) -> bool {
+fn fill<F: Read>(file: &mut F, n: usize, buf: &mut [u8]) -> bool {
     if n <= buf.len() {
-        return io::read_full(fd, &mut buf[..n]) == n;
+        return file.read_exact(&mut buf[..n]).is_ok();
     }
     false
 }
@@ -49,16 +53,16 @@ fn load(n: usize, buf: &[u8]) -> Loaded {
     image_read::read(blank, buf)
 }
 
-fn print_number(n: u64) {
-    io::print_decimal(1, n);
-    io::write_all(1, b"\n");
+fn print_number(rt: &impl Print, n: u64) -> io::Result<()> {
+    println!(rt; "{n}")
 }
 
 // Writes the first n bytes of text.
-fn send(text: &[u8], n: usize) {
+fn send(rt: &impl Print, text: &[u8], n: usize) -> io::Result<()> {
     if n <= text.len() {
-        io::write_all(1, &text[..n]);
+        rt.write_all(&text[..n])?;
     }
+    Ok(())
 }
 
 // The end offset of the record that begins at `from`.
@@ -159,44 +163,39 @@ fn same_lines(a: [Line; 64], b: [Line; 64]) -> bool {
     same
 }
 
-fn print_line(l: Line) {
-    io::write_all(1, b"used ");
-    io::print_decimal(1, l.content);
-    io::write_all(1, b" ");
-    io::print_decimal(1, l.times);
-    io::write_all(1, b" ");
-    print_number(l.seconds);
+fn print_line(rt: &impl Print, l: Line) -> io::Result<()> {
+    println!(rt; "used {} {} {}", l.content, l.times, l.seconds)
 }
 
 // Prints the lines that differ from what they were.
-fn print_changes(old: [Line; 64], lines: [Line; 64]) {
-    let mut k: usize = 0;
-    while k < 64 {
+fn print_changes(rt: &impl Print, old: [Line; 64], lines: [Line; 64]) -> io::Result<()> {
+    for k in 0..64 {
         let x = old[k];
         let y = lines[k];
         if !same_line(x, y) {
-            print_line(y);
+            print_line(rt, y)?;
         }
-        k = k + 1;
     }
+    Ok(())
 }
 
 // Says where the two ways differ.
-fn compare(r: Block, q: Block) {
+fn compare(rt: &impl Print, r: Block, q: Block) -> io::Result<()> {
     let last = r.book;
     let other = q.book;
     if !same_book(last, other) {
-        io::write_all(1, b"another book one event at a time\n");
+        println!(rt; "another book one event at a time")?;
     }
     let report = r.lines;
     let singly = q.lines;
     if !same_lines(report, singly) {
-        io::write_all(1, b"another report one event at a time\n");
+        println!(rt; "another report one event at a time")?;
     }
+    Ok(())
 }
 
 // Prints the answers to the events in the first n bytes of buf.
-fn print_answers(b: Book, n: usize, buf: &[u8]) {
+fn print_answers(rt: &impl Print, b: Book, n: usize, buf: &[u8]) -> io::Result<()> {
     let mut out = [0u8; OUT];
     let mut singly = [0u8; OUT];
     let lines = turn::zero_lines(b);
@@ -204,59 +203,56 @@ fn print_answers(b: Book, n: usize, buf: &[u8]) {
     if n <= buf.len() {
         let r = batch::answer_block(b, &buf[..n], &mut out, lines, lent);
         let q = answer_singly(b, &buf[..n], &mut singly, lines);
-        send(&out, r.written);
+        send(rt, &out, r.written)?;
         if !(same(&out, &singly)) {
-            io::write_all(1, b"other answers one event at a time\n");
+            println!(rt; "other answers one event at a time")?;
         }
         let report = r.lines;
-        print_changes(lines, report);
-        compare(r, q);
+        print_changes(rt, lines, report)?;
+        compare(rt, r, q)?;
     }
+    Ok(())
 }
 
 // Prints the next day, if there is one.
-fn one_day(fd: i32, number: u64) -> bool {
-    let first = read_head(fd);
+fn one_day<F: Read>(rt: &impl Print, file: &mut F, number: u64) -> io::Result<bool> {
+    let first = read_head(file);
     if !first.more {
-        return false;
+        return Ok(false);
     }
-    io::write_all(1, b"day ");
-    print_number(number);
-    let mut image = io::large_buffer();
-    let mut events = io::large_buffer();
-    let has_image = fill(fd, first.length, &mut image);
-    let second = read_head(fd);
-    let has_events = fill(fd, second.length, &mut events);
+    println!(rt; "day {number}")?;
+    let mut image = [0u8; BUFFER];
+    let mut events = [0u8; BUFFER];
+    let has_image = fill(file, first.length, &mut image);
+    let second = read_head(file);
+    let has_events = fill(file, second.length, &mut events);
     if !(has_image & second.more & has_events) {
-        io::write_all(1, b"cut short or too long\n");
-        return false;
+        println!(rt; "cut short or too long")?;
+        return Ok(false);
     }
     let l = load(first.length, &image);
     if l.code != 0 {
-        print_number(l.code as u64);
-        return true;
+        print_number(rt, l.code as u64)?;
+        return Ok(true);
     }
     let b = l.book;
-    print_answers(b, second.length, &events);
-    true
+    print_answers(rt, b, second.length, &events)?;
+    Ok(true)
 }
 
 // A proved loop has to end, and nothing guarantees that a file does: no more days than this are read.
-fn all_days(fd: i32) {
-    let mut number: u64 = 1;
-    while number < 1000000 {
-        if !one_day(fd, number) {
-            return;
+fn all_days<F: Read>(rt: &impl Print, file: &mut F) -> io::Result<()> {
+    for number in 1..1000000 {
+        if !one_day(rt, file, number)? {
+            break;
         }
-        number = number + 1;
     }
+    Ok(())
 }
 
-fn main() {
-    let fd = os::open_read(b"days.bin");
-    if fd < 0 {
-        io::write_all(1, b"no days.bin\n");
-        return;
+fn main(rt: HostRuntime) -> io::Result<()> {
+    match fs::open(&rt, "days.bin") {
+        Ok(mut file) => all_days(&rt, &mut file),
+        Err(_) => println!(rt; "no days.bin"),
     }
-    all_days(fd);
 }

@@ -4,8 +4,13 @@
 #![tactic(auto)]
 
 use book::Book;
+use std::fs;
+use std::io::{self, Read};
 
 const IMAGE: usize = 5399;
+
+// Room for what a case's length in two bytes can say.
+const BUFFER: usize = 65536;
 
 #[derive(Clone, Copy)]
 struct Turn {
@@ -13,20 +18,16 @@ struct Turn {
     book: Book,
 }
 
-fn print_byte(b: u8) {
-    io::print_hex(1, b as u64, 2);
+fn print_byte(rt: &impl Print, b: u8) -> io::Result<()> {
+    print!(rt; "{b:02x}")
 }
 
 // Prints the first n bytes of s.
-fn print_bytes(s: &[u8], n: usize) {
-    let mut i: usize = 0;
-    while i < n {
-        if i >= s.len() {
-            return;
-        }
-        print_byte(s[i]);
-        i = i + 1;
+fn print_bytes(rt: &impl Print, s: &[u8], n: usize) -> io::Result<()> {
+    for b in &s[..n.min(s.len())] {
+        print_byte(rt, *b)?;
     }
+    Ok(())
 }
 
 fn same_bytes(a: &[u8], b: &[u8]) -> bool {
@@ -55,91 +56,88 @@ fn same_book(a: Book, b: Book) -> bool {
     same_bytes(&left, &right)
 }
 
-fn print_accepted(b: Book) {
+fn print_accepted(rt: &impl Print, b: Book) -> io::Result<()> {
     let mut back = [0u8; IMAGE];
     let n = image_write::write(b, &mut back);
-    io::write_all(1, b"0 ");
-    print_bytes(&back, n);
-    io::write_all(1, b"\n");
+    print!(rt; "0 ")?;
+    print_bytes(rt, &back, n)?;
+    println!(rt; "")
 }
 
-fn print_refused(code: u8, kept: bool) {
-    io::print_decimal(1, code as u64);
+fn print_refused(rt: &impl Print, code: u8, kept: bool) -> io::Result<()> {
+    print!(rt; "{code}")?;
     if !kept {
-        io::write_all(1, b" changed");
+        print!(rt; " changed")?;
     }
-    io::write_all(1, b"\n");
+    println!(rt; "")
 }
 
 // Prints the line for one image and returns the book held from then on.
-fn answer(held: Book, image: &[u8]) -> Book {
+fn answer(rt: &impl Print, held: Book, image: &[u8]) -> io::Result<Book> {
     let got = image_read::read(held, image);
     let code = got.code;
     let after = got.book;
     if code == 0 {
-        print_accepted(after);
-        return after;
+        print_accepted(rt, after)?;
+        return Ok(after);
     }
-    print_refused(code, same_book(held, after));
-    after
+    print_refused(rt, code, same_book(held, after))?;
+    Ok(after)
 }
 
 // Reads the next n bytes of the file to the start of buf.
-fn fill(fd: i32, n: usize, buf: &mut [u8]) {
+fn fill<F: Read>(file: &mut F, n: usize, buf: &mut [u8]) {
     if n <= buf.len() {
-        io::read_full(fd, &mut buf[..n]);
+        let _ = file.read_exact(&mut buf[..n]);
     }
 }
 
 // Prints the line for the image in the first n bytes of buf.
-fn judge(held: Book, n: usize, buf: &[u8]) -> Book {
+fn judge(rt: &impl Print, held: Book, n: usize, buf: &[u8]) -> io::Result<Book> {
     if n <= buf.len() {
-        return answer(held, &buf[..n]);
+        return answer(rt, held, &buf[..n]);
     }
-    held
+    Ok(held)
 }
 
 // One case: its length in two bytes, then the image.
-fn one_case(fd: i32, held: Book) -> Turn {
+fn one_case<F: Read>(rt: &impl Print, file: &mut F, held: Book) -> io::Result<Turn> {
     let mut head = [0u8; 2];
-    if io::read_full(fd, &mut head) < 2 {
-        return Turn {
+    if file.read_exact(&mut head).is_err() {
+        return Ok(Turn {
             more: false,
             book: held,
-        };
+        });
     }
     let n = numbers::join16(head[0], head[1]) as usize;
-    let mut buf = io::large_buffer();
-    fill(fd, n, &mut buf);
-    let next = judge(held, n, &buf);
-    Turn {
+    let mut buf = [0u8; BUFFER];
+    fill(file, n, &mut buf);
+    let next = judge(rt, held, n, &buf)?;
+    Ok(Turn {
         more: true,
         book: next,
-    }
+    })
 }
 
 // A proved loop has to end, and nothing guarantees that a file does: no more cases than this are read.
-fn cases(fd: i32) {
-    let mut left: u32 = 1000000;
+fn cases<F: Read>(rt: &impl Print, file: &mut F) -> io::Result<()> {
     let mut t = Turn {
         more: true,
         book: book::blank_book(),
     };
-    while left > 0 {
+    for _ in 0..1000000 {
         if !t.more {
-            return;
+            break;
         }
         let held = t.book;
-        t = one_case(fd, held);
-        left = left - 1;
+        t = one_case(rt, file, held)?;
     }
+    Ok(())
 }
 
-fn main() {
-    let fd = os::open_read(b"cases.bin");
-    if fd < 0 {
-        io::write_all(1, b"no cases.bin\n");
-        return;
+fn main(rt: HostRuntime) -> io::Result<()> {
+    match fs::open(&rt, "cases.bin") {
+        Ok(mut file) => cases(&rt, &mut file),
+        Err(_) => println!(rt; "no cases.bin"),
     }
-    cases(fd);
 }

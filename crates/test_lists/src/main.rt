@@ -7,7 +7,11 @@
 
 use book::{Book, Line, RECORD_SIZE};
 use image_read::Loaded;
+use std::fs;
+use std::io::{self, Read};
 use text::put_line;
+
+const BUFFER: usize = 65536;
 
 #[derive(Clone, Copy)]
 struct Head {
@@ -30,28 +34,28 @@ struct Next {
 }
 
 // The number in the next four bytes of the file, if there are that many.
-fn read_head(fd: i32) -> Head {
+fn read_head<F: Read>(file: &mut F) -> Head {
     let mut h = [0u8; 4];
-    let n = io::read_full(fd, &mut h);
+    let more = file.read_exact(&mut h).is_ok();
     Head {
-        more: n == 4,
+        more: more,
         number: numbers::join32(h[0], h[1], h[2], h[3]) as usize,
     }
 }
 
 // The number in the next eight bytes of the file.
-fn read_number(fd: i32) -> u64 {
+fn read_number<F: Read>(file: &mut F) -> u64 {
     let mut h = [0u8; 8];
-    io::read_full(fd, &mut h);
+    let _ = file.read_exact(&mut h);
     let high = numbers::join32(h[0], h[1], h[2], h[3]);
     let low = numbers::join32(h[4], h[5], h[6], h[7]);
     numbers::join64(high, low)
 }
 
-fn read_line(fd: i32) -> Line {
-    let content = read_number(fd);
-    let times = read_number(fd);
-    let seconds = read_number(fd);
+fn read_line<F: Read>(file: &mut F) -> Line {
+    let content = read_number(file);
+    let times = read_number(file);
+    let seconds = read_number(file);
     Line {
         content: content,
         times: times,
@@ -60,12 +64,12 @@ fn read_line(fd: i32) -> Line {
 }
 
 // The next lines of the file, the first 64 of count.
-fn read_lines(fd: i32, count: usize) -> [Line; 64] {
+fn read_lines<F: Read>(file: &mut F, count: usize) -> [Line; 64] {
     let n = numbers::min_size(count, 64);
     let mut lines = [book::blank_line(); 64];
     let mut k: usize = 0;
     while k < n {
-        let l = read_line(fd);
+        let l = read_line(file);
         lines[k] = l;
         k = k + 1;
     }
@@ -73,9 +77,9 @@ fn read_lines(fd: i32, count: usize) -> [Line; 64] {
 }
 
 // Reads the next n bytes of the file to the start of buf. False if buf has no room for them or the file ends first.
-fn fill(fd: i32, n: usize, buf: &mut [u8]) -> bool {
+fn fill<F: Read>(file: &mut F, n: usize, buf: &mut [u8]) -> bool {
     if n <= buf.len() {
-        return io::read_full(fd, &mut buf[..n]) == n;
+        return file.read_exact(&mut buf[..n]).is_ok();
     }
     false
 }
@@ -126,10 +130,11 @@ fn same(a: &[u8], b: &[u8]) -> bool {
 }
 
 // Writes the first n bytes of text.
-fn send(text: &[u8], n: usize) {
+fn send(rt: &impl Print, text: &[u8], n: usize) -> io::Result<()> {
     if n <= text.len() {
-        io::write_all(1, &text[..n]);
+        rt.write_all(&text[..n])?;
     }
+    Ok(())
 }
 
 // Whether the record as a block of its own leaves the same text and the same lines. Bytes that are no record, or more than one, are left
@@ -153,43 +158,53 @@ fn same_block(
 }
 
 // The answer to a record that is lent these lines.
-fn answer(b: Book, record: &[u8], lines: [Line; 64], lent: usize, expected: [Line; 64]) {
+fn answer(
+    rt: &impl Print,
+    b: Book,
+    record: &[u8],
+    lines: [Line; 64],
+    lent: usize,
+    expected: [Line; 64],
+) -> io::Result<()> {
     let mut line = [0u8; 19];
     let o = step::step_lines(b, record, lines, lent);
     let a = o.answer;
     let n = put_line(&mut line, 0, a);
-    send(&line, n);
+    send(rt, &line, n)?;
     let after = o.lines;
     if !same_lines(after, expected) {
-        io::write_all(1, b"another list\n");
+        println!(rt; "another list")?;
     }
     if !same_block(b, record, lines, lent, &line, after) {
-        io::write_all(1, b"another block\n");
+        println!(rt; "another block")?;
     }
+    Ok(())
 }
 
 // The answer to the record in the first n bytes of buf.
 fn answer_first(
+    rt: &impl Print,
     b: Book,
     n: usize,
     buf: &[u8],
     lines: [Line; 64],
     lent: usize,
     expected: [Line; 64],
-) {
+) -> io::Result<()> {
     if n <= buf.len() {
-        answer(b, &buf[..n], lines, lent, expected);
+        answer(rt, b, &buf[..n], lines, lent, expected)?;
     }
+    Ok(())
 }
 
 // The next list of the file, or the one before.
-fn read_list(fd: i32, before: Lent) -> Lent {
-    let follows = read_head(fd);
+fn read_list<F: Read>(file: &mut F, before: Lent) -> Lent {
+    let follows = read_head(file);
     if follows.number == 0 {
         return before;
     }
-    let count = read_head(fd);
-    let lines = read_lines(fd, count.number);
+    let count = read_head(file);
+    let lines = read_lines(file, count.number);
     Lent {
         lines: lines,
         count: count.number,
@@ -197,53 +212,52 @@ fn read_list(fd: i32, before: Lent) -> Lent {
 }
 
 // The lines after a record, if it changes them.
-fn read_after(fd: i32, lines: [Line; 64], count: usize) -> [Line; 64] {
-    let changed = read_head(fd);
+fn read_after<F: Read>(file: &mut F, lines: [Line; 64], count: usize) -> [Line; 64] {
+    let changed = read_head(file);
     if changed.number == 0 {
         return lines;
     }
-    read_lines(fd, count)
+    read_lines(file, count)
 }
 
 // Answers the next case, if there is one.
-fn one_case(fd: i32, held: Book, before: Lent) -> Next {
-    let first = read_head(fd);
+fn one_case<F: Read>(rt: &impl Print, file: &mut F, held: Book, before: Lent) -> io::Result<Next> {
+    let first = read_head(file);
     if !first.more {
-        return Next {
+        return Ok(Next {
             more: false,
             book: held,
             list: before,
-        };
+        });
     }
-    let mut image = io::large_buffer();
-    let mut record = io::large_buffer();
-    let has_image = fill(fd, first.number, &mut image);
-    let second = read_head(fd);
-    let has_record = fill(fd, second.number, &mut record);
+    let mut image = [0u8; BUFFER];
+    let mut record = [0u8; BUFFER];
+    let has_image = fill(file, first.number, &mut image);
+    let second = read_head(file);
+    let has_record = fill(file, second.number, &mut record);
     if !(has_image & second.more & has_record) {
-        io::write_all(1, b"cut short or too long\n");
-        return Next {
+        println!(rt; "cut short or too long")?;
+        return Ok(Next {
             more: false,
             book: held,
             list: before,
-        };
+        });
     }
     let l = load(held, first.number, &image);
     let b = l.book;
-    let list = read_list(fd, before);
+    let list = read_list(file, before);
     let lines = list.lines;
-    let expected = read_after(fd, lines, list.count);
-    answer_first(b, second.number, &record, lines, list.count, expected);
-    Next {
+    let expected = read_after(file, lines, list.count);
+    answer_first(rt, b, second.number, &record, lines, list.count, expected)?;
+    Ok(Next {
         more: true,
         book: b,
         list: list,
-    }
+    })
 }
 
 // A proved loop has to end, and nothing guarantees that a file does: no more cases than this are read.
-fn cases(fd: i32) {
-    let mut left: u32 = 1000000;
+fn cases<F: Read>(rt: &impl Print, file: &mut F) -> io::Result<()> {
     let mut t = Next {
         more: true,
         book: book::blank_book(),
@@ -252,22 +266,20 @@ fn cases(fd: i32) {
             count: 0,
         },
     };
-    while left > 0 {
+    for _ in 0..1000000 {
         if !t.more {
-            return;
+            break;
         }
         let held = t.book;
         let before = t.list;
-        t = one_case(fd, held, before);
-        left = left - 1;
+        t = one_case(rt, file, held, before)?;
     }
+    Ok(())
 }
 
-fn main() {
-    let fd = os::open_read(b"lists.bin");
-    if fd < 0 {
-        io::write_all(1, b"no lists.bin\n");
-        return;
+fn main(rt: HostRuntime) -> io::Result<()> {
+    match fs::open(&rt, "lists.bin") {
+        Ok(mut file) => cases(&rt, &mut file),
+        Err(_) => println!(rt; "no lists.bin"),
     }
-    cases(fd);
 }

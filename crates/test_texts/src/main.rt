@@ -2,9 +2,13 @@
 // the bytes, in hexadecimal, of the image of the text's book.
 #![tactic(auto)]
 
+use std::fs;
+use std::io::{self, Read};
 use xml_image::Imported;
 
 const IMAGE: usize = 5399;
+
+const BUFFER: usize = 65536;
 
 #[derive(Clone, Copy)]
 struct Head {
@@ -13,92 +17,86 @@ struct Head {
 }
 
 // The length in the next four bytes of the file, if there are that many.
-fn read_head(fd: i32) -> Head {
+fn read_head<F: Read>(file: &mut F) -> Head {
     let mut h = [0u8; 4];
-    let n = io::read_full(fd, &mut h);
+    let more = file.read_exact(&mut h).is_ok();
     Head {
-        more: n == 4,
+        more: more,
         length: numbers::join32(h[0], h[1], h[2], h[3]) as usize,
     }
 }
 
 // Reads the next n bytes of the file to the start of buf.
-fn fill(fd: i32, n: usize, buf: &mut [u8]) {
+fn fill<F: Read>(file: &mut F, n: usize, buf: &mut [u8]) {
     if n <= buf.len() {
-        io::read_full(fd, &mut buf[..n]);
+        let _ = file.read_exact(&mut buf[..n]);
     }
 }
 
-fn print_byte(b: u8) {
-    io::print_hex(1, b as u64, 2);
+fn print_byte(rt: &impl Print, b: u8) -> io::Result<()> {
+    print!(rt; "{b:02x}")
 }
 
 // Prints the first n bytes of s.
-fn print_bytes(s: &[u8], n: usize) {
-    let mut i: usize = 0;
-    while i < n {
-        if i >= s.len() {
-            return;
-        }
-        print_byte(s[i]);
-        i = i + 1;
+fn print_bytes(rt: &impl Print, s: &[u8], n: usize) -> io::Result<()> {
+    for b in &s[..n.min(s.len())] {
+        print_byte(rt, *b)?;
     }
+    Ok(())
 }
 
 // Prints the line of a text and the image of its book.
-fn print_line(r: Imported, image: &[u8]) {
-    io::print_decimal(1, r.code as u64);
-    if r.code == 0 {
-        io::write_all(1, b" ");
-        io::print_decimal(1, r.elements as u64);
-        io::write_all(1, b" ");
-        print_bytes(image, r.length);
+fn print_line(rt: &impl Print, r: Imported, image: &[u8]) -> io::Result<()> {
+    let code = r.code;
+    print!(rt; "{code}")?;
+    if code == 0 {
+        let elements = r.elements;
+        print!(rt; " {elements} ")?;
+        print_bytes(rt, image, r.length)?;
     }
-    io::write_all(1, b"\n");
+    println!(rt; "")
 }
 
 // Prints the line for one text.
-fn answer(text: &[u8]) {
+fn answer(rt: &impl Print, text: &[u8]) -> io::Result<()> {
     let mut image = [0u8; IMAGE];
     let r = xml_image::import_text(text, &mut image);
-    print_line(r, &image);
+    print_line(rt, r, &image)
 }
 
 // Prints the line for the text in the first n bytes of buf.
-fn judge(n: usize, buf: &[u8]) {
+fn judge(rt: &impl Print, n: usize, buf: &[u8]) -> io::Result<()> {
     if n <= buf.len() {
-        answer(&buf[..n]);
+        answer(rt, &buf[..n])?;
     }
+    Ok(())
 }
 
 // One case: its length in four bytes, then the text. Whether there was one.
-fn one_case(fd: i32) -> bool {
-    let h = read_head(fd);
+fn one_case<F: Read>(rt: &impl Print, file: &mut F) -> io::Result<bool> {
+    let h = read_head(file);
     if !h.more {
-        return false;
+        return Ok(false);
     }
-    let mut buf = io::large_buffer();
-    fill(fd, h.length, &mut buf);
-    judge(h.length, &buf);
-    true
+    let mut buf = [0u8; BUFFER];
+    fill(file, h.length, &mut buf);
+    judge(rt, h.length, &buf)?;
+    Ok(true)
 }
 
 // A proved loop has to end, and nothing guarantees that a file does: no more cases than this are read.
-fn cases(fd: i32) {
-    let mut left: u32 = 1000000;
-    while left > 0 {
-        if !one_case(fd) {
-            return;
+fn cases<F: Read>(rt: &impl Print, file: &mut F) -> io::Result<()> {
+    for _ in 0..1000000 {
+        if !one_case(rt, file)? {
+            break;
         }
-        left = left - 1;
     }
+    Ok(())
 }
 
-fn main() {
-    let fd = os::open_read(b"cases.bin");
-    if fd < 0 {
-        io::write_all(1, b"no cases.bin\n");
-        return;
+fn main(rt: HostRuntime) -> io::Result<()> {
+    match fs::open(&rt, "cases.bin") {
+        Ok(mut file) => cases(&rt, &mut file),
+        Err(_) => println!(rt; "no cases.bin"),
     }
-    cases(fd);
 }

@@ -1,5 +1,6 @@
 -- The loop of the run program: turns over any reads print what the whole input would, and leave its book and its lines.
--- A turn here is what the contract of `turn` says; that a program makes these turns and writes their text is not stated here.
+-- A turn here is what the contract of `turn` says; that the run program makes these turns and writes their text is what `answer_reads` of
+-- crate serve promises, of an input and an output whose bytes are known.
 use Rattle.std.specs.Prelude.{ℕ, ◌+◌, ◌*◌, ◌-◌, ◌/◌, ◌≤◌, ◌≡◌, refl, Bool, true, cond, take, drop}
 use Rattle.std.proofs.Math.Path.{sym, ap}
 use Rattle.std.proofs.Common.{ap₂, subst, ◌∙◌, length-append, length-drop, take-append-drop, take_all, take-add, take_at, drop_at, le-leb}
@@ -86,11 +87,11 @@ start b i o = record { book = b; lines = taken_lines (zero_lines b); count = ass
 
 -- ## One turn
 
-abbrev held : Between → List ℕ
+abbrev pub held : Between → List ℕ
 held l = take l.kept l.input
 
 -- the lines by value are those of a list
-abbrev Lends : Between → List Line → Type 0
+abbrev pub Lends : Between → List Line → Type 0
 Lends l ls = (l.lines ≡ taken_lines ls) × (l.count ≡ length ls)
 
 left-size : (b : Book) (ls : List Line) (rs : List (List ℕ)) → length (record_lines b ls rs) ≡ length ls
@@ -109,11 +110,11 @@ module _ (ended : Bool) (l : Between) (ls : List Line) (of : Lends l ls) (r : Re
   there-is : take (l.kept + r.got) r.buffer ≡ held l ++ came l r
   there-is = take-add l.kept r.got r.buffer ∙ ap (λ (x : List ℕ). x ++ came l r) h.0
 
-  next-book : (turn_on ended l r).book ≡ run_book l.book ls now
+  pub next-book : (turn_on ended l r).book ≡ run_book l.book ls now
   unfolding turn_on book_after run_book
   next-book = rw (inside_is, there-is, of.0, of.1) (book-taken (records_in now) l.book ls)
 
-  next-lends : Lends (turn_on ended l r) (run_lines l.book ls now)
+  pub next-lends : Lends (turn_on ended l r) (run_lines l.book ls now)
   unfolding turn_on lines_after run_lines
   next-lends = (
     rw (inside_is, there-is, of.0, of.1) (lines-taken (records_in now) l.book ls),
@@ -124,13 +125,13 @@ module _ (ended : Bool) (l : Between) (ls : List Line) (of : Lends l ls) (r : Re
   unfolding text_after run_text
   text-is = rw (there-is, of.0, of.1) (ap lines (answers-taken (records_in now) l.book ls))
 
-  next-text : (turn_on ended l r).text ≡ l.text ++ run_text l.book ls now
+  pub next-text : (turn_on ended l r).text ≡ l.text ++ run_text l.book ls now
   unfolding turn_on written_after out_after
   next-text =
       rw (inside_is, text-is)
       (ap (λ (x : List ℕ). l.text ++ x) (take-append_seam (run_text l.book ls now) _))
 
-  next-held : held (turn_on ended l r) ≡ kept_of ended (held l ++ came l r)
+  pub next-held : held (turn_on ended l r) ≡ kept_of ended (held l ++ came l r)
   unfolding turn_on kept_after input_after
   next-held =
       let n : length (take (l.kept + r.got) r.buffer) ≡ l.kept + r.got = length-take-le (l.kept + r.got) r.buffer h.1 in
@@ -165,10 +166,10 @@ module _ (s t : List ℕ) where
     split-lines : run_lines b ls (s ++ t) ≡ run_lines (run_book b ls first) (run_lines b ls first) then
     split-lines = ap (run_lines b ls) split ∙ block-lines first then (length s / record_size) whole b ls
 
-    split_text : run_text b ls (s ++ t) ≡ run_text b ls first ++ run_text (run_book b ls first) (run_lines b ls first) then
+    pub split_text : run_text b ls (s ++ t) ≡ run_text b ls first ++ run_text (run_book b ls first) (run_lines b ls first) then
     split_text = ap (run_text b ls) split ∙ block-text first then (length s / record_size) whole b ls
 
-all-answered : (s : List ℕ) → answered_of true s ≡ s
+pub all-answered : (s : List ℕ) → answered_of true s ≡ s
 unfolding answered_of kept_count
 all-answered s = take_all (length s - 0) s (omega arith)
 

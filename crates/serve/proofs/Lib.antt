@@ -1,0 +1,2 @@
+-- Reads are answered one after another.
+pub mod Reading

@@ -1,0 +1,2 @@
+-- What the run program writes for what it reads.
+pub mod Answers
