@@ -2,7 +2,7 @@
 -- of `answer_image` leaves is what `ByValue` says.
 use Prim.Native.Nat.{ℕ, ◌*◌, ◌≤◌, ◌<◌}
 use mathlib.Core.Path.{◌≡◌, refl, sym, ap, ◌∙◌}
-use mathlib.Core.Bool.{true, false, cond}
+use mathlib.Core.Bool.{true, false}
 use mathlib.Core.List.{List, [], ◌∷◌}
 use native.Mathlib.Omega.{arith}
 use lib.ListN.{length}
@@ -13,7 +13,7 @@ use Rattle.book.specs.declared.Line.{Line}
 use Rattle.book.specs.declared.Book.{Book}
 use Rattle.book.specs.declared.Decoded.{Decoded}
 use Rattle.model.specs.Book.{assets_in, entries_in}
-use Rattle.model.specs.Image.{newest, image_length, length_of, write_buffer, read_code}
+use Rattle.model.specs.Image.{length_of, write_buffer, read_code}
 use Rattle.model.specs.Record.{decoded}
 use Rattle.model.specs.Step.{arrive}
 use Rattle.model.specs.Report.{receive, lines_left, lent, admitted}

@@ -1,6 +1,6 @@
 -- The lines that were taken from a list, answered with by value and stored back: what is left is what `Calls` and `One` say of the list.
 use Prim.Native.Nat.{ℕ}
-use mathlib.Core.Path.{◌≡◌, refl, sym, ap, ap₂, ◌∙◌}
+use mathlib.Core.Path.{◌≡◌, refl, ap, ap₂, ◌∙◌}
 use mathlib.Core.Bool.{Bool, true, false, cond}
 use mathlib.Core.List.{List, [], ◌∷◌, ◌++◌}
 use lib.ListN.{length, drop}
@@ -23,7 +23,7 @@ use Rattle.batch.specs.Block.{fits, block_book, block_text, block_lines, block_w
 use Rattle.embed.specs.Calls.{image_in, lent_book, call_code, if_answered, answer_code, image_after, size_after, out_after, written_after}
 use Rattle.embed.specs.Calls.{report_after}
 use Rattle.embed.specs.One.{one_step, one_result, one_image, one_size, one_code, one_entry, one_until, one_report}
-use Rattle.embed.specs.ByValue.{book_by, code_by, AnsweredBy, step_by, result_by, OneBy}
+use Rattle.embed.specs.ByValue.{code_by, AnsweredBy, step_by, OneBy}
 
 -- ## The lines of a run
 

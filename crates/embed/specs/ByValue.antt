@@ -1,6 +1,6 @@
 -- The two calls that answer, with the lines by value in 64 places: `count` of them were lent. What they leave is in the words of the
 -- block and of the step by value; with the lines of a list it is what `Calls` and `One` say of that list.
-use Rattle.std.specs.Prelude.{ℕ, ◌≡◌, true, cond, List, length, eqb}
+use Rattle.std.specs.Prelude.{ℕ, ◌≡◌, true, List, length}
 use Rattle.book.specs.declared.Line.{Line}
 use Rattle.book.specs.declared.Book.{Book}
 use Rattle.book.specs.declared.Reported.{Reported}

@@ -1,7 +1,7 @@
 -- What a call of `rights_answer_one` returns and leaves: the step of one record, with numbers in place of text. buffer is what is
 -- lent for the image, size how many of its bytes are the image, ls the list of lines that is lent, r the record that holds the event's
 -- numbers (`record_bytes` of `encode`).
-use Rattle.std.specs.Prelude.{ℕ, true, cond, List, eqb}
+use Rattle.std.specs.Prelude.{ℕ, true, List}
 use Rattle.book.specs.declared.Line.{Line}
 use Rattle.book.specs.declared.Outcome.{Outcome}
 use Rattle.model.specs.Image.{length_of, write_buffer}

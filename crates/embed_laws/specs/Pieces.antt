@@ -13,7 +13,7 @@ use Rattle.book.specs.declared.Book.{Book}
 use Rattle.book.specs.Blank.{no_book}
 use Rattle.model.specs.Book.{Legal}
 use Rattle.model.specs.Image.{newest, version_in, Typed, Bytes, image, length_of, write_buffer, header_broken, read_code}
-use Rattle.model.specs.Record.{record_size, decoded}
+use Rattle.model.specs.Record.{record_size}
 use Rattle.model.specs.Report.{receive, lines_left, lent}
 use Rattle.model.specs.History.{record_final}
 use Rattle.model.specs.Run.{record_at, record_count, records_in, run_text, run_book, run_lines}

@@ -7,7 +7,6 @@ use Rattle.numbers.proofs.Tests.{on_test, both_zero}
 use Rattle.book.specs.declared.Book.{Book}
 use Rattle.book.specs.Blank.{no_book}
 use Rattle.model.specs.Image.{image, length_of, read_code}
-use Rattle.model.proofs.Image.RoundTrip.{demand2}
 use Rattle.xml_model.specs.Text.{reading_of}
 use Rattle.xml_model.proofs.Import.{import}
 use Rattle.xml_image.specs.Imported.{import_code, imported_from, buffer_from, imported, import_buffer}
