@@ -1,7 +1,6 @@
 // One player's record, lent and settled in place.
 // The rule is the one for settling by value: the lent record is copied out, settled and stored back. The event loops own their players
-// and settle them through `shut_player`, which lends a record to `settle_in_place`, so that the proofs of the loops need not step
-// through the code by hand.
+// and settle them through `shut_player`, which lends a record to `settle_in_place`.
 #![tactic(auto)]
 
 ghost use Rattle.std.specs.Prelude.{◌≡◌};

@@ -59,8 +59,8 @@ fn print_first<W: Write>(rt: &(impl Clock + Eprint), writer: &mut W, out: &[u8],
     stream::send(rt, writer, b"standard output", &out[..n])
 }
 
-// Answers each read until the input ends, and then returns true. An incomplete record is kept and completed by the next read; the lines of the report are
-// handed on from read to read.
+// Answers each read until the input ends, and then returns true. An incomplete record is kept and completed by the next read; the lines
+// of the report are handed on from read to read.
 // Nothing guarantees that the input ends either: this loop counts to a number that no run uses up, too.
 fn answer_reads<R: Read, W: Write>(
     rt: &(impl Clock + Eprint),

@@ -319,7 +319,7 @@ pub fn step_lines(b: Book, s: &[u8], lines: [Line; 64], count: usize) -> Reporte
     }
 }
 
-// The two parts of what an event left. The proof of the function below steps through its code by hand, and passes a struct on whole.
+// The two parts of what an event left.
 fn lines_in(x: Reported) -> [Line; 64]
     ensures { result ≡ x.lines }
 {

@@ -77,7 +77,7 @@ fn record_end(from: usize, size: usize) -> usize
     }
 }
 
-// The proof of the function below steps through its code by hand, and passes a struct on whole.
+// What an event left, with the lines by value.
 fn reported(o: Outcome, lines: [Line; 64]) -> Reported
     ensures { result ≡ record { answer = o.answer; book = o.book; lines = lines } }
 {
