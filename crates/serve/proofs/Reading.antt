@@ -4,10 +4,10 @@ use Rattle.std.specs.declared.option.Option.{Option}
 use Rattle.std.specs.Io.KnownBytes.{Appends, Consumes, IsAtEnd}
 use Rattle.book.specs.declared.Book.{Book}
 use Rattle.book.specs.declared.Line.{Line}
-use Rattle.model.specs.Run.{run_text, run_book, run_lines}
+use Rattle.model.specs.Run.{run_text, run_lines}
 use Rattle.report.specs.Report.{taken_lines}
-use Rattle.turn.specs.Turn.{answered_of, kept_of, book_after, lines_after, written_after, out_after, kept_after, input_after}
-use Rattle.turn.specs.Loop.{Between, Read, Delivered, Lends, turn_on, held, came, next-book, next-lends, next-text, next-held, split_text, all-answered}
+use Rattle.turn.specs.Turn.{answered_of, book_after, lines_after, written_after, out_after, kept_after, input_after}
+use Rattle.turn.specs.Loop.{Between, Read, turn_on, next-book, next-lends, next-text, next-held, split_text, all-answered}
 
 -- ## Bytes that are known
 

@@ -1,8 +1,7 @@
 -- Putting a line into a buffer does not change the buffer's length.
-use Rattle.std.specs.Prelude.{ℕ, ◌+◌, ◌≤◌, ◌≡◌, refl, true, false, List, length, leb}
-use Rattle.std.proofs.Common.{ap, ◌∙◌, arith, leb-true}
+use Rattle.std.specs.Prelude.{ℕ, ◌+◌, ◌≤◌, ◌≡◌, refl, List, length, leb}
+use Rattle.std.proofs.Common.{◌∙◌, arith, leb-true}
 use Rattle.numbers.proofs.Tests.{on_test}
-use Rattle.numbers.specs.Buffer.{lay}
 use Rattle.book.specs.declared.Answer.{Answer}
 use Rattle.model.specs.Run.{line}
 use Rattle.text.specs.Lines.{line_end, line_buffer}

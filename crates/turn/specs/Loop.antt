@@ -1,12 +1,11 @@
 -- The loop of the run program: turns over any reads print what the whole input would, and leave its book and its lines.
 -- A turn here is what the contract of `turn` says; that the run program makes these turns and writes their text is what `answer_reads` of
 -- crate serve promises, of an input and an output whose bytes are known.
-use Rattle.std.specs.Prelude.{ℕ, ◌+◌, ◌*◌, ◌-◌, ◌/◌, ◌≤◌, ◌≡◌, refl, Bool, true, cond, take, drop}
+use Rattle.std.specs.Prelude.{ℕ, ◌+◌, ◌*◌, ◌-◌, ◌/◌, ◌≤◌, ◌≡◌, refl, Bool, true, take, drop}
 use Rattle.std.proofs.Math.Path.{sym, ap}
-use Rattle.std.proofs.Common.{ap₂, subst, ◌∙◌, length-append, length-drop, take-append-drop, take_all, take-add, take_at, drop_at, le-leb}
+use Rattle.std.proofs.Common.{ap₂, subst, ◌∙◌, length-append, take-append-drop, take_all, take-add, take_at, drop_at, le-leb}
 use Rattle.std.proofs.Math.Bool.{false}
 use mathlib.Core.List.{List, [], ◌∷◌, ◌++◌, append_assoc}
-use Rattle.std.proofs.Math.Nat.{sub-zero}
 use native.Mathlib.Omega.{arith}
 use Rattle.std.proofs.Math.ListN.{length}
 use Rattle.std.proofs.Math.Seq.{length-take-le, take-append_seam}
@@ -19,11 +18,11 @@ use Rattle.model.specs.History.{record_lines}
 use Rattle.model.specs.Run.{lines, records_in, run_text, run_book, run_lines, zero_lines}
 use Rattle.report.specs.Report.{taken_lines}
 use Rattle.step.specs.Given.{left-length}
-use Rattle.batch.specs.Block.{answers_on, book_on, lines_on, answers-taken, book-taken, lines-taken}
+use Rattle.batch.specs.Block.{answers-taken, book-taken, lines-taken}
 use Rattle.blocks.specs.Blocks.{block-book, block-lines, block-text}
 use Rattle.turn.specs.Turn.{kept_count, answered_of, kept_of, inside, book_after, lines_after, text_after, written_after, out_after}
 use Rattle.turn.specs.Turn.{kept_after, input_after}
-use Rattle.turn.specs.Kept.{kept_less, length-kept}
+use Rattle.turn.specs.Kept.{length-kept}
 use Rattle.turn.specs.Zeros.{zeros-length}
 
 -- ## Definitions

@@ -1,7 +1,6 @@
 -- `load`: the bytes in image are the first of the file, as many as image holds, and they decide the answer (the laws of `Load`).
 use Prim.Native.Nat.{ℕ, ◌≤◌, min}
 use native.Mathlib.Omega.{arith}
-use borrow.Author.Rules.{rules}
 use mathlib.Core.Path.{◌≡◌, sym, ap, ◌∙◌}
 use mathlib.Core.List.{List}
 use lib.ListN.{length, take}

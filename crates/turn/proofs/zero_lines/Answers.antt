@@ -1,9 +1,7 @@
-use Prim.Native.Nat.{ℕ, ◌-◌, ◌≤◌}
-use mathlib.Core.Path.{◌≡◌, refl, sym, ap, ◌∙◌}
+use mathlib.Core.Path.{◌≡◌, ap, ◌∙◌}
 use mathlib.Core.List.{List}
 use native.Mathlib.Omega.{arith}
 use lib.ListN.{set, replicate}
-use borrow.Author.Rules.{rules}
 use Rattle.numbers.specs.Count.{listed}
 use Rattle.numbers.proofs.Loops.{listed-turn}
 use Rattle.book.specs.declared.Line.{Line}
