@@ -5,6 +5,8 @@
 
 ghost use Rattle.std.specs.Prelude.{◌≡◌, min, get_or};
 ghost use Rattle.book.specs.Blank.{no_asset, no_entry, no_player, no_book, closed, no_line};
+ghost use Rattle.book.specs.Codes.{kind_code, event_code, image_code};
+ghost use Rattle.book.specs.declared.TheConstants.{NO_ROOM};
 
 // The latest time that an event can have.
 pub const LATEST_TIME: u32 = 4000000000;
@@ -26,7 +28,7 @@ pub const RECORD_SIZE: usize = 17;
 
 pub const RECORD_LAST: usize = RECORD_SIZE - 1;
 
-#[derive(Clone, Copy)]
+#[derive(Clone, Copy, Debug, PartialEq, Eq)]
 pub struct Asset {
     pub number: u16,
     pub inherit: u16,
@@ -35,7 +37,7 @@ pub struct Asset {
 
 // What an entry allows. The flags say which limits hold. Tracked is 1 if its uses count in the report: one time for a use of at least
 // timedvalue seconds. Mark is contentAccessGranted. Threshold is how many players may have it open together, 0 for any number.
-#[derive(Clone, Copy)]
+#[derive(Clone, Copy, Debug, PartialEq, Eq)]
 pub struct Limits {
     pub object: u16,
     pub asset: u16,
@@ -56,7 +58,7 @@ pub struct Limits {
 
 // An entry's usage so far. Started is 0 or 1, first is the time at which the interval began. Marks has bit p set if player p has the
 // entry open.
-#[derive(Clone, Copy)]
+#[derive(Clone, Copy, Debug, PartialEq, Eq)]
 pub struct Meters {
     pub count: u32,
     pub timed: u32,
@@ -66,14 +68,14 @@ pub struct Meters {
     pub marks: u32,
 }
 
-#[derive(Clone, Copy)]
+#[derive(Clone, Copy, Debug, PartialEq, Eq)]
 pub struct Entry {
     pub limits: Limits,
     pub meters: Meters,
 }
 
 // What is returned for an event: a code of document 01's table (0 for a grant), the entry's position, and until.
-#[derive(Clone, Copy)]
+#[derive(Clone, Copy, Debug, PartialEq, Eq)]
 pub struct Answer {
     pub code: u8,
     pub entry: u8,
@@ -82,7 +84,7 @@ pub struct Answer {
 
 // A player's latest taken event, with the answer that a resend gets. Number 0 means none yet; a number's upper 32 bits are a player's
 // boot number, its lower ones the counter.
-#[derive(Clone, Copy)]
+#[derive(Clone, Copy, Debug, PartialEq, Eq)]
 pub struct Last {
     pub number: u64,
     pub operation: u8,
@@ -92,7 +94,7 @@ pub struct Last {
 }
 
 // The use that a player has open, if on is 1. Content is the asset that its begin asked for.
-#[derive(Clone, Copy)]
+#[derive(Clone, Copy, Debug, PartialEq, Eq)]
 pub struct Open {
     pub on: u8,
     pub entry: u8,
@@ -101,7 +103,7 @@ pub struct Open {
     pub content: u32,
 }
 
-#[derive(Clone, Copy)]
+#[derive(Clone, Copy, Debug, PartialEq, Eq)]
 pub struct Player {
     pub last: Last,
     pub current: Open,
@@ -109,7 +111,7 @@ pub struct Player {
 
 // One line of the usage report: how often and for how many seconds a content was used.
 #[repr(C)]
-#[derive(Clone, Copy)]
+#[derive(Clone, Copy, Debug, PartialEq, Eq)]
 pub struct Line {
     pub content: u64,
     pub times: u64,
@@ -117,14 +119,14 @@ pub struct Line {
 }
 
 // The event taken last: its player plus 1, 0 for none, and 1 if it opened a use that started its entry's interval.
-#[derive(Clone, Copy)]
+#[derive(Clone, Copy, Debug, PartialEq, Eq)]
 pub struct Latest {
     pub player: u32,
     pub started: u32,
 }
 
 // Slots past the counts are blank in a legal book, so that equal books are equal values. Switch is 1 if uses are metered for the report.
-#[derive(Clone, Copy)]
+#[derive(Clone, Copy, Debug, PartialEq, Eq)]
 pub struct Book {
     pub time: u32,
     pub switch: u32,
@@ -136,17 +138,55 @@ pub struct Book {
     pub players: [Player; 16],
 }
 
-#[derive(Clone, Copy)]
+// What a content is used for, by its number in records and images.
+#[derive(Clone, Copy, Debug, PartialEq, Eq)]
 pub enum Kind {
-    Play,
-    Display,
-    Execute,
-    Print,
-    Export,
+    Play = 1,
+    Display = 2,
+    Execute = 3,
+    Print = 4,
+    Export = 5,
 }
 
+// Why an event, or the bytes of its record, are refused, by the number in document 01's table.
+#[derive(Clone, Copy, Debug, PartialEq, Eq)]
+pub enum EventError {
+    Request = 1,
+    Player = 2,
+    OutOfLine = 3,
+    OtherRequest = 4,
+    Time = 5,
+    Length = 6,
+    Unusable = 10,
+    AlreadyOpen = 11,
+    Unsuitable = 12,
+    Spent = 13,
+    NotOpen = 14,
+    NoMore = 15,
+    Lines = 30,
+    SwitchOff = 43,
+    TooLate = 44,
+}
+
+// Why an image is refused, by the number in document 01's table.
+#[derive(Clone, Copy, Debug, PartialEq, Eq)]
+pub enum ImageError {
+    Length = 20,
+    Mark = 21,
+    Version = 22,
+    Header = 23,
+    Assets = 24,
+    Entries = 25,
+    Players = 26,
+    Meters = 27,
+}
+
+// A lent buffer is too short for what belongs into it, and was left as it was.
+#[derive(Clone, Copy, Debug, PartialEq, Eq)]
+pub struct NoRoom;
+
 // Cancel takes a begin back: the film did not load.
-#[derive(Clone, Copy)]
+#[derive(Clone, Copy, Debug, PartialEq, Eq)]
 pub enum Request {
     Begin(Kind, u16),
     Continue,
@@ -154,7 +194,7 @@ pub enum Request {
     Cancel,
 }
 
-#[derive(Clone, Copy)]
+#[derive(Clone, Copy, Debug, PartialEq, Eq)]
 pub struct Event {
     pub player: u8,
     pub number: u64,
@@ -228,6 +268,43 @@ pub struct Reported {
     pub answer: Answer,
     pub book: Book,
     pub lines: [Line; 64],
+}
+
+// What a call returns that lacks room for its result: "30 | writer's buffer too short | buffer untouched". The 30 for a list that is not
+// good is an answer to an event, and no call returns it.
+pub const NO_ROOM: u8 = 30;
+
+// Rules out: two kinds with the same number, numbers from 0.
+impl From<Kind> for u8 {
+    ghost from_gives = { λ k n. n ≡ kind_code k };
+
+    fn from(k: Kind) -> u8 {
+        k as u8
+    }
+}
+
+impl From<EventError> for u8 {
+    ghost from_gives = { λ e n. n ≡ event_code e };
+
+    fn from(e: EventError) -> u8 {
+        e as u8
+    }
+}
+
+impl From<ImageError> for u8 {
+    ghost from_gives = { λ e n. n ≡ image_code e };
+
+    fn from(e: ImageError) -> u8 {
+        e as u8
+    }
+}
+
+impl From<NoRoom> for u8 {
+    ghost from_gives = { λ _ n. n ≡ NO_ROOM };
+
+    fn from(_e: NoRoom) -> u8 {
+        NO_ROOM
+    }
 }
 
 // Rules out: a number or a key that is not 0.

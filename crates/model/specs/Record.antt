@@ -5,6 +5,7 @@ use Rattle.numbers.specs.Fields.{Width, bits8, bits16, bits32, bits64, size, val
 use Rattle.book.specs.declared.Event.{Event}
 use Rattle.book.specs.declared.Kind.{Kind}
 use Rattle.book.specs.declared.Kind.TheVariants.{Play, Display, Execute, Print, Export}
+use Rattle.book.specs.Codes.{kind_code}
 use Rattle.book.specs.declared.Request.{Request}
 use Rattle.book.specs.declared.Request.TheVariants.{Begin, Continue, Stop, Cancel}
 use Rattle.book.specs.declared.Decoded.{Decoded}
@@ -13,11 +14,7 @@ use Rattle.model.specs.Book.{request_legal}
 
 -- "kind (1 play, 2 display, 3 execute, 4 print, 5 export)"
 abbrev pub kind_number : Kind → ℕ
-kind_number Play = 1
-kind_number Display = 2
-kind_number Execute = 3
-kind_number Print = 4
-kind_number Export = 5
+kind_number = kind_code
 
 -- "operation (1 begin, 2 continue, 3 stop)"; "asset and kind are 0 otherwise"; order 8 of document 02: "Operation 4, with asset and kind 0"
 abbrev pub operation_number : Request → ℕ

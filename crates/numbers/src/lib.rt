@@ -29,6 +29,13 @@ pub fn join64(upper: u32, lower: u32) -> u64
 }
 
 // Rules out: the two swapped, the first whatever the test.
+pub fn pick<T: Copy>(w: bool, a: T, b: T) -> T
+    ensures { result ≡ cond w a b }
+{
+    if w { a } else { b }
+}
+
+// Rules out: the two swapped, the first whatever the test.
 pub fn pick8(w: bool, a: u8, b: u8) -> u8
     ensures { result ≡ cond w a b }
 {
