@@ -7,7 +7,7 @@ use native.Mathlib.Omega.{arith}
 use lib.ListN.{length, take, drop, length-take, length-drop}
 use lib.Seq.{take_all}
 use Rattle.xml_model.specs.Bytes.{same}
-use Rattle.xml_model.specs.Values.{uid_of}
+use Rattle.xml_model.specs.Values.{value_if, uid_of}
 use Rattle.xml_model.proofs.Runs.{same-lengths}
 use Rattle.xml_values.proofs.uid_of.Goals as goal
 
@@ -16,11 +16,10 @@ differs : (v y : List ℕ) → length v < 4 → length y ≡ 4 → same (take 4 
 differs v y h e = same-lengths (take 4 v) y (λ q. omega (arith, length-take 4 v, q, e))
 
 pub returns-then-v-lt4 : goal.returns-then-v-lt4
-unfolding uid_of
+unfolding uid_of value_if
 returns-then-v-lt4 c =
     let v = c.args.v.now in
     rw (
-      c.value_if.ensures,
       differs v (99 ∷ 105 ∷ 100 ∷ 58 ∷ []) c.if-v-lt4.true refl,
       differs v (112 ∷ 105 ∷ 100 ∷ 58 ∷ []) c.if-v-lt4.true refl,
     )
@@ -38,7 +37,5 @@ returns-then-equal c =
     )
 
 pub returns : goal.returns
-unfolding uid_of
-returns c =
-    let e = c.before in
-    rw (c.value_if-2.ensures, ← e.equal.ensures, ← e.equal-2.ensures, c.if-equal.false)
+unfolding uid_of value_if
+returns c = rw (← c.equal.ensures, ← c.equal-2.ensures, c.if-equal.false)
