@@ -1,4 +1,5 @@
 -- Order 1 of document 02: what a rights object in XML is answered, for every byte string.
+pub mod Codes
 pub mod Repeat
 pub mod Bytes
 pub mod Tags

@@ -3,7 +3,34 @@
 // byte to the place behind its last.
 #![tactic(auto)]
 
+ghost use Rattle.std.specs.Prelude.{◌≡◌};
+ghost use Rattle.xml_model.specs.Codes.{text_code};
+
 use book::{Asset, Book, Limits};
+
+// Why a text is refused, by the number in order 1 of document 02: not well formed, something in it not accepted, too many of something.
+#[derive(Clone, Copy, Debug, PartialEq, Eq)]
+pub enum TextError {
+    Malformed = 40,
+    Unaccepted = 41,
+    TooMany = 42,
+}
+
+// Rules out: two errors with the same number.
+impl From<TextError> for u8 {
+    ghost from_gives = { λ e n. n ≡ text_code e };
+
+    fn from(e: TextError) -> u8 {
+        e as u8
+    }
+}
+
+// The first fault of a text, and how far the text was looked at to tell.
+#[derive(Clone, Copy, Debug, PartialEq, Eq)]
+pub struct Fault {
+    pub error: TextError,
+    pub at: usize,
+}
 
 // An attribute: its name and, between the quotes, its value. Code 0, or 40 or 41 where the scan is stuck; `to` is then how far
 // it looked.
