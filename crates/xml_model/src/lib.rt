@@ -8,8 +8,7 @@ ghost use Rattle.xml_model.specs.Codes.{text_code};
 
 use book::{Asset, Book, Limits};
 
-// Why a text is refused, by the number in document 02's order 1: not well formed; an element, a depth, a value or a rule of the book
-// not accepted; too many elements, assets or entries.
+// Why a text is refused, by the number in order 1 of document 02: not well formed, something in it not accepted, too many of something.
 #[derive(Clone, Copy, Debug, PartialEq, Eq)]
 pub enum TextError {
     Malformed = 40,
@@ -17,7 +16,16 @@ pub enum TextError {
     TooMany = 42,
 }
 
-// Where a text is refused: why, and how far it was looked at to tell.
+// Rules out: two errors with the same number.
+impl From<TextError> for u8 {
+    ghost from_gives = { λ e n. n ≡ text_code e };
+
+    fn from(e: TextError) -> u8 {
+        e as u8
+    }
+}
+
+// The first fault of a text, and how far the text was looked at to tell.
 #[derive(Clone, Copy, Debug, PartialEq, Eq)]
 pub struct Fault {
     pub error: TextError,
@@ -131,13 +139,4 @@ pub struct Reading {
     pub code: u8,
     pub elements: u16,
     pub book: Book,
-}
-
-// Rules out: 41 for a text that is not well formed.
-impl From<TextError> for u8 {
-    ghost from_gives = { λ e n. n ≡ text_code e };
-
-    fn from(e: TextError) -> u8 {
-        e as u8
-    }
 }
