@@ -25,7 +25,7 @@ fn one_turn(held: Book, image: &[u8]) -> Turn {
         Ok(()) => 0,
         Err(e) => u8::from(e),
     };
-    let n = image_write::write(after, &mut out);
+    let n = image_write::write(&after, &mut out).unwrap_or(0);
     Turn {
         code: code,
         length: n,

@@ -122,7 +122,7 @@ fn answer_image(
         };
     }
     let block = batch::answer_block(loaded.book, records, out, lines, lent);
-    image_write::write(block.book, image);
+    let _ = image_write::write(&block.book, image);
     *size = needed as u64;
     *written = block.written as u64;
     let after = block.lines;
@@ -206,7 +206,7 @@ fn answer_event(
             lines: lines,
         };
     }
-    image_write::write(after.book, image);
+    let _ = image_write::write(&after.book, image);
     *size = next_length as u64;
     *code = after.answer.code;
     *entry = after.answer.entry;

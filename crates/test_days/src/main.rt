@@ -134,8 +134,8 @@ fn same(a: &[u8], b: &[u8]) -> bool {
 fn same_book(a: Book, b: Book) -> bool {
     let mut first = [0u8; 5399];
     let mut second = [0u8; 5399];
-    let n = image_write::write(a, &mut first);
-    let m = image_write::write(b, &mut second);
+    let n = image_write::write(&a, &mut first);
+    let m = image_write::write(&b, &mut second);
     (n == m) & same(&first, &second)
 }
 

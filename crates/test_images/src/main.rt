@@ -32,9 +32,10 @@ fn print_bytes(rt: &impl Print, s: &[u8], n: usize) -> io::Result<()> {
 
 fn print_accepted(rt: &impl Print, b: Book) -> io::Result<()> {
     let mut back = [0u8; IMAGE];
-    let n = image_write::write(b, &mut back);
     print!(rt; "0 ")?;
-    print_bytes(rt, &back, n)?;
+    if let Ok(n) = image_write::write(&b, &mut back) {
+        print_bytes(rt, &back, n)?;
+    }
     println!(rt; "")
 }
 
