@@ -45,10 +45,8 @@ fn number_of(v: &[u8]) -> u64
     ensures { result ≡ min (number_of v.now) ceiling }
 {
     let mut x: u64 = 0;
-    let mut i = 0;
-    while i < v.len() {
-        x = with_digit(x, digit_of(v[i]));
-        i = i + 1;
+    for c in v {
+        x = with_digit(x, digit_of(*c));
     }
     x
 }
