@@ -77,12 +77,12 @@ pub same-lengths : (x y : List ℕ) → (length x ≡ length y → ⊥) → same
 same-lengths x y h = on_test (same x y) (λ q. absurd (h (ap length (same_true x y q)))) (λ q. q)
 
 -- `==` of two slices
-pub same-slices : (x y : List ℕ) → pointwise eqb x y ≡ same x y
+pub same_slices : (x y : List ℕ) → pointwise eqb x y ≡ same x y
 unfolding same
-same-slices [] [] = refl
-same-slices [] (y ∷ ys) = refl
-same-slices (x ∷ xs) [] = refl
-same-slices (x ∷ xs) (y ∷ ys) = rw (same-slices xs ys) (both (eqb x y) (same xs ys))
+same_slices [] [] = refl
+same_slices [] (y ∷ ys) = refl
+same_slices (x ∷ xs) [] = refl
+same_slices (x ∷ xs) (y ∷ ys) = rw (same_slices xs ys) (both (eqb x y) (same xs ys))
   where
     both : (a b : Bool) → (a && b) ≡ cond a b false
     both true b = refl

@@ -3,7 +3,7 @@
 #![tactic(auto)]
 
 ghost use Rattle.std.specs.Prelude.{◌≡◌, not, position, true, false, ◌-◌, ◌≤◌, ◌<◌, length, MatchOption};
-ghost use Rattle.xml_model.specs.Bytes.{byte_at, part, same, is_name_start, in_class, run_end, bare, is_mark, stuck, looked};
+ghost use Rattle.xml_model.specs.Bytes.{byte_at, part, is_name_start, in_class, run_end, bare, is_mark, stuck, looked};
 ghost use Rattle.xml_model.specs.Tags.{value_at, equals_at, attribute_at, given, empty_tail, tail_of, look, end_tag, start_tag, tag_at};
 ghost use Rattle.xml_model.specs.Tags.{unit_at};
 ghost use Rattle.xml_model.specs.Codes.{IsFault, IsAttribute, IsTail, IsTag, no_range};
@@ -115,13 +115,6 @@ pub fn stuck(s: &[u8], i: usize) -> Fault
     Fault { error, at }
 }
 
-// Rules out: true if one text only starts with the other.
-pub fn equal<'a>(x: &'a [u8], y: &'a [u8]) -> bool
-    ensures { result ≡ same x.now y.now }
-{
-    x == y
-}
-
 // Whether the bytes from a to b are those from x to y.
 // Rules out: true for two ranges of which one is longer, false for a range with itself.
 pub fn same_range(s: &[u8], a: usize, b: usize, x: usize, y: usize) -> bool
@@ -212,7 +205,7 @@ fn is_given(s: &[u8], first: usize, p: usize, n: usize, e: usize) -> bool
         };
         let x = a.name;
         let y = a.end;
-        if equal(&s[n..e], &s[x..y]) {
+        if &s[n..e] == &s[x..y] {
             return true;
         }
         j = a.to + 1;
@@ -233,7 +226,7 @@ pub fn look<'a>(s: &'a [u8], name: &'a [u8], first: usize) -> Option<Range>
         };
         let x = a.name;
         let y = a.end;
-        if equal(name, &s[x..y]) {
+        if name == &s[x..y] {
             return Some(Range {
                 from: a.from,
                 to: a.to,

@@ -8,7 +8,6 @@ ghost use Rattle.xml_table.specs.Codes.{role_code, name_code, name_number};
 ghost use Rattle.xml_table.specs.Rows.{row_fits, IsChild, IsKind};
 
 use book::Kind;
-use xml_scan::equal;
 
 // An element by its name and by what holds it.
 #[derive(Clone, Copy, Debug, PartialEq, Eq)]
@@ -125,14 +124,11 @@ pub struct Child {
     pub state: u8,
 }
 
+#[tactic(auto, using(xml_model::proofs::Runs::same_slices))]
 fn named<'a>(v: &'a [u8], text: &'a [u8], name: Name, otherwise: Option<Name>) -> Option<Name>
     ensures { name_number result ≡ cond (same v.now text.now) (name_code name) (name_number otherwise) }
 {
-    if equal(v, text) {
-        Some(name)
-    } else {
-        otherwise
-    }
+    if v == text { Some(name) } else { otherwise }
 }
 
 // The element of that name, if there is one.

@@ -12,7 +12,7 @@ use book::{LATEST_TIME, MOST_SECONDS, MOST_TIMES};
 use calendar::{days_before, in_calendar, month_days};
 use numbers::pick;
 use xml_model::Piece;
-use xml_scan::{Class, byte_at, equal, run_end};
+use xml_scan::{Class, byte_at, run_end};
 use xml_table::Role;
 
 // Where a number stays: above every bound, and far from where a sum would wrap.
@@ -79,11 +79,9 @@ fn uid_of(v: &[u8]) -> Option<u32>
     if v.len() < 4 {
         return None;
     }
-    let from: usize = 0;
-    let to: usize = 4;
-    let prefix = &v[from..to];
-    if equal(prefix, b"cid:") | equal(prefix, b"pid:") {
-        return number_in(1, 65535, &v[to..]);
+    let prefix = &v[..4];
+    if (prefix == b"cid:".as_slice()) | (prefix == b"pid:".as_slice()) {
+        return number_in(1, 65535, &v[4..]);
     }
     None
 }
@@ -225,12 +223,12 @@ fn duration_of(v: &[u8]) -> Option<u32>
 // ## The value of an element that holds a text, by its role
 
 // Rules out: version 2.1 accepted, a uid without its prefix in an asset, a count of 0 refused, one of 1,000,001.
-#[tactic(auto, unfolding(xml_model::specs::Values::value_of))]
+#[tactic(auto, using(xml_model::proofs::Runs::same_slices), unfolding(xml_model::specs::Values::value_of))]
 pub fn value_of(role: Role, v: &[u8]) -> Option<u32>
     ensures { as_value result ≡ value_of (role_code role) v.now }
 {
     match role {
-        Role::Version => value_if(equal(v, b"2.2"), 0),
+        Role::Version => value_if(v == b"2.2".as_slice(), 0),
         Role::ObjectUid => number_in(1, 65535, v),
         Role::AssetUid | Role::InheritUid => uid_of(v),
         Role::Count | Role::TimedCount => number_in(0, MOST_TIMES, v),

@@ -24,7 +24,7 @@ overflow_add-result c =
     let a = c.args in
     let k = class_code a.class in
     let e : a.from + c.unwrap_or.result ≡ run_end k a.s.now a.from =
-        ends k a.s.now _ a.from _ _ (rest a.s.now a.from _ c.min.ensures) c.first_outside.ensures c.unwrap_or.ensures in
+    ends k a.s.now _ a.from _ _ (rest a.s.now a.from _ c.min.ensures) c.first_outside.ensures c.unwrap_or.ensures in
     below_or_not a.from (length a.s.now)
     (λ q. omega (arith, e, run-within k a.s.now a.from (omega arith)))
     (λ q. omega (arith, e, run_out k a.s.now a.from q))

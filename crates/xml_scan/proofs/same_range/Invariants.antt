@@ -7,4 +7,3 @@ use Rattle.xml_scan.proofs.same_range.Given as goal
 
 abbrev pub invariant-loop-i : goal.invariant-loop-i
 invariant-loop-i l = alike l.s l.a l.x l.i ≡ true
-
