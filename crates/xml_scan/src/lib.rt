@@ -2,8 +2,8 @@
 // every text and every place. A place behind the end of the text is allowed everywhere.
 #![tactic(auto)]
 
-ghost use Rattle.std.specs.Prelude.{◌≡◌, true, false, ◌-◌, ◌≤◌, ◌<◌, length, MatchOption};
-ghost use Rattle.xml_model.specs.Bytes.{byte_at, part, same, is_name_start, in_class, run_end, bare, is_mark, stuck, looked};
+ghost use Rattle.std.specs.Prelude.{◌≡◌, not, position, true, false, ◌-◌, ◌≤◌, ◌<◌, length, MatchOption};
+ghost use Rattle.xml_model.specs.Bytes.{byte_at, part, is_name_start, in_class, run_end, bare, is_mark, stuck, looked};
 ghost use Rattle.xml_model.specs.Tags.{value_at, equals_at, attribute_at, given, empty_tail, tail_of, look, end_tag, start_tag, tag_at};
 ghost use Rattle.xml_model.specs.Tags.{unit_at};
 ghost use Rattle.xml_model.specs.Codes.{IsFault, IsAttribute, IsTail, IsTag, no_range};
@@ -57,19 +57,19 @@ fn in_class(class: Class, c: u8) -> bool
     }
 }
 
+fn first_outside(class: Class, s: &[u8]) -> Option<usize>
+    ensures { result ≡ position (λ x. not (in_class (class_code class) x)) s.now }
+{
+    s.iter().position(|c| !in_class(class, *c))
+}
+
 // The end of the run of bytes of a class that starts at `from`.
 // Rules out: the place of the last byte of the run, a run that goes on behind a byte of another class.
 pub fn run_end(s: &[u8], class: Class, from: usize) -> usize
     ensures { result ≡ run_end (class_code class) s.now from }
 {
-    let mut i = from;
-    while i < s.len() {
-        if !in_class(class, s[i]) {
-            return i;
-        }
-        i = i + 1;
-    }
-    i
+    let rest = &s[from.min(s.len())..];
+    from + first_outside(class, rest).unwrap_or(rest.len())
 }
 
 // Whether only white space stands from a to b.
@@ -115,44 +115,19 @@ pub fn stuck(s: &[u8], i: usize) -> Fault
     Fault { error, at }
 }
 
-// Rules out: true if one text only starts with the other.
-pub fn equal<'a>(x: &'a [u8], y: &'a [u8]) -> bool
-    ensures { result ≡ same x.now y.now }
-{
-    if x.len() != y.len() {
-        return false;
-    }
-    let mut i = 0;
-    while i < x.len() {
-        if x[i] != y[i] {
-            return false;
-        }
-        i = i + 1;
-    }
-    true
-}
-
-fn less(b: usize, a: usize) -> usize
-    ensures { result ≡ b - a }
-{
-    if a <= b { b - a } else { 0 }
-}
-
 // Whether the bytes from a to b are those from x to y.
 // Rules out: true for two ranges of which one is longer, false for a range with itself.
 pub fn same_range(s: &[u8], a: usize, b: usize, x: usize, y: usize) -> bool
     ensures { result ≡ same_range s.now a b x y }
 {
-    let n = less(b, a);
-    if n != less(y, x) {
+    let n = b.saturating_sub(a);
+    if n != y.saturating_sub(x) {
         return false;
     }
-    let mut i: usize = 0;
-    while i < n {
+    for i in 0..n {
         if byte_at(s, a + i) != byte_at(s, x + i) {
             return false;
         }
-        i = i + 1;
     }
     true
 }
@@ -230,7 +205,7 @@ fn is_given(s: &[u8], first: usize, p: usize, n: usize, e: usize) -> bool
         };
         let x = a.name;
         let y = a.end;
-        if equal(&s[n..e], &s[x..y]) {
+        if &s[n..e] == &s[x..y] {
             return true;
         }
         j = a.to + 1;
@@ -251,7 +226,7 @@ pub fn look<'a>(s: &'a [u8], name: &'a [u8], first: usize) -> Option<Range>
         };
         let x = a.name;
         let y = a.end;
-        if equal(name, &s[x..y]) {
+        if name == &s[x..y] {
             return Some(Range {
                 from: a.from,
                 to: a.to,

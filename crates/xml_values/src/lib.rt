@@ -5,14 +5,15 @@ ghost use Rattle.std.specs.Prelude.{◌≡◌, true, ◌+◌, ◌-◌, ◌*◌, 
 ghost use Rattle.xml_model.specs.Values.{value_if, number_of, is_number, number_in, uid_of, digits_at, number_at, time_formed, time_real, seconds_at};
 ghost use Rattle.xml_model.specs.Values.{time_if, time_of, piece_at, duration_formed, duration_of, value_of};
 ghost use Rattle.xml_model.specs.Codes.{as_value, as_piece};
+ghost use Rattle.xml_table.specs.Codes.{role_code};
 ghost use Rattle.xml_values.specs.Saturated.{ceiling, saturated};
 
 use book::{LATEST_TIME, MOST_SECONDS, MOST_TIMES};
 use calendar::{days_before, in_calendar, month_days};
 use numbers::pick;
 use xml_model::Piece;
-use xml_scan::{Class, byte_at, equal, run_end};
-use xml_table::{ASSET_UID, COUNT, END, INHERIT_UID, OBJECT_UID, START, TIMED_COUNT, VERSION};
+use xml_scan::{Class, byte_at, run_end};
+use xml_table::Role;
 
 // Where a number stays: above every bound, and far from where a sum would wrap.
 const CEILING: u64 = 1000000000000;
@@ -44,10 +45,8 @@ fn number_of(v: &[u8]) -> u64
     ensures { result ≡ min (number_of v.now) ceiling }
 {
     let mut x: u64 = 0;
-    let mut i = 0;
-    while i < v.len() {
-        x = with_digit(x, digit_of(v[i]));
-        i = i + 1;
+    for c in v {
+        x = with_digit(x, digit_of(*c));
     }
     x
 }
@@ -80,11 +79,9 @@ fn uid_of(v: &[u8]) -> Option<u32>
     if v.len() < 4 {
         return None;
     }
-    let from: usize = 0;
-    let to: usize = 4;
-    let prefix = &v[from..to];
-    if equal(prefix, b"cid:") | equal(prefix, b"pid:") {
-        return number_in(1, 65535, &v[to..]);
+    let prefix = &v[..4];
+    if (prefix == b"cid:".as_slice()) | (prefix == b"pid:".as_slice()) {
+        return number_in(1, 65535, &v[4..]);
     }
     None
 }
@@ -226,23 +223,16 @@ fn duration_of(v: &[u8]) -> Option<u32>
 // ## The value of an element that holds a text, by its role
 
 // Rules out: version 2.1 accepted, a uid without its prefix in an asset, a count of 0 refused, one of 1,000,001.
-pub fn value_of(role: u8, v: &[u8]) -> Option<u32>
-    ensures { as_value result ≡ value_of role v.now }
+#[tactic(auto, using(xml_model::proofs::Runs::same_slices), unfolding(xml_model::specs::Values::value_of))]
+pub fn value_of(role: Role, v: &[u8]) -> Option<u32>
+    ensures { as_value result ≡ value_of (role_code role) v.now }
 {
-    if role == VERSION {
-        return value_if(equal(v, b"2.2"), 0);
+    match role {
+        Role::Version => value_if(v == b"2.2".as_slice(), 0),
+        Role::ObjectUid => number_in(1, 65535, v),
+        Role::AssetUid | Role::InheritUid => uid_of(v),
+        Role::Count | Role::TimedCount => number_in(0, MOST_TIMES, v),
+        Role::Start | Role::End => time_of(v),
+        _ => duration_of(v),
     }
-    if role == OBJECT_UID {
-        return number_in(1, 65535, v);
-    }
-    if (role == ASSET_UID) | (role == INHERIT_UID) {
-        return uid_of(v);
-    }
-    if (role == COUNT) | (role == TIMED_COUNT) {
-        return number_in(0, MOST_TIMES, v);
-    }
-    if (role == START) | (role == END) {
-        return time_of(v);
-    }
-    duration_of(v)
 }

@@ -6,6 +6,7 @@ use Rattle.xml_model.specs.Bytes.{part, same}
 use Rattle.xml_model.specs.declared.Range.{Range}
 use Rattle.xml_model.specs.Tags.{attribute_at, look}
 use Rattle.xml_model.specs.Shapes.{Attribute}
+use Rattle.xml_model.proofs.Runs.{same_slices}
 use Rattle.xml_model.proofs.Units.{look-stuck, look-here, look-on}
 use Rattle.xml_scan.specs.Attributes.{held-as, fault-code}
 use Rattle.xml_scan.proofs.look.Goals as goal
@@ -24,39 +25,39 @@ returns-in_default c =
     let n = fault-code _ _ _ (rw g at c.in_default.ensures) in
     l.invariant ∙ look-stuck a.s.now a.name.now l.j n
 
-pub slice_bounds-equal-count : goal.slice_bounds-equal-count
-slice_bounds-equal-count c =
+pub slice_bounds-eq-count : goal.slice_bounds-eq-count
+slice_bounds-eq-count c =
     let a = c.args in
     let g = c.run_end-i.ensures in
     let x = c.in-Ok.ensures in
     let w = held-as a.s.now _ _ _ g x refl in
     omega (arith, w.named)
 
-pub slice_bounds-equal-start : goal.slice_bounds-equal-start
-slice_bounds-equal-start c =
+pub slice_bounds-eq-start : goal.slice_bounds-eq-start
+slice_bounds-eq-start c =
     let a = c.args in
     let g = c.run_end-i.ensures in
     let x = c.in-Ok.ensures in
     let w = held-as a.s.now _ _ _ g x refl in
     omega (arith, w.named, w.ended)
 
-pub slice_bounds-equal-end : goal.slice_bounds-equal-end
-slice_bounds-equal-end c =
+pub slice_bounds-eq-end : goal.slice_bounds-eq-end
+slice_bounds-eq-end c =
     let a = c.args in
     let g = c.run_end-i.ensures in
     let x = c.in-Ok.ensures in
     let w = held-as a.s.now _ _ _ g x refl in
     omega (arith, w.ended)
 
-pub returns-then-equal : goal.returns-then-equal
+pub returns-then-eq : goal.returns-then-eq
 unfolding ranged
-returns-then-equal c =
+returns-then-eq c =
     let a = c.args in
     let l = c.loop-a in
     let x = c.in-Ok.ensures in
     let e = x ∙ ap (attribute_at a.s.now) c.run_end-i.ensures in
     let o = ap (λ (y : Attribute). y.code) (sym e) in
-    let n = subst (λ (y : Attribute). same a.name.now (part a.s.now y.name y.end) ≡ true) e (sym c.equal.ensures ∙ c.if-equal.true) in
+    let n = subst (λ (y : Attribute). same a.name.now (part a.s.now y.name y.end) ≡ true) e (sym (c.eq.ensures ∙ same_slices _ _) ∙ c.if-eq.true) in
     let w = held-as a.s.now _ _ _ c.run_end-i.ensures x refl in (
       l.invariant ∙ look-here a.s.now a.name.now l.j o n ∙ ap (λ (y : Attribute). ranged y.from y.to) (sym e),
       w.filled,
@@ -85,5 +86,5 @@ loop-a-preserved c =
     let x = c.in-Ok.ensures in
     let e = x ∙ ap (attribute_at a.s.now) c.run_end-i.ensures in
     let o = ap (λ (y : Attribute). y.code) (sym e) in
-    let n = subst (λ (y : Attribute). same a.name.now (part a.s.now y.name y.end) ≡ false) e (sym c.equal.ensures ∙ c.if-equal.false) in
+    let n = subst (λ (y : Attribute). same a.name.now (part a.s.now y.name y.end) ≡ false) e (sym (c.eq.ensures ∙ same_slices _ _) ∙ c.if-eq.false) in
     l.invariant ∙ look-on a.s.now a.name.now l.j o n ∙ ap (λ (y : Attribute). look a.s.now a.name.now (y.to + 1)) (sym e)

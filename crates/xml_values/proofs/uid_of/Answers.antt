@@ -1,6 +1,6 @@
 -- `xml_values::uid_of` meets its contract, for a short text, with a prefix and without.
 use Prim.Native.Nat.{ℕ, ◌-◌, ◌<◌}
-use mathlib.Core.Path.{◌≡◌, refl}
+use mathlib.Core.Path.{◌≡◌, refl, ap, ◌∙◌}
 use mathlib.Core.Bool.{false}
 use mathlib.Core.List.{List, [], ◌∷◌}
 use native.Mathlib.Omega.{arith}
@@ -8,7 +8,7 @@ use lib.ListN.{length, take, drop, length-take, length-drop}
 use lib.Seq.{take_all}
 use Rattle.xml_model.specs.Bytes.{same}
 use Rattle.xml_model.specs.Values.{value_if, uid_of}
-use Rattle.xml_model.proofs.Runs.{same-lengths}
+use Rattle.xml_model.proofs.Runs.{same-lengths, same_slices}
 use Rattle.xml_values.proofs.uid_of.Goals as goal
 
 -- a text of less than four bytes has neither prefix
@@ -24,18 +24,24 @@ returns-then-v-lt4 c =
       differs v (112 ∷ 105 ∷ 100 ∷ 58 ∷ []) c.if-v-lt4.true refl,
     )
 
-pub returns-then-equal : goal.returns-then-equal
+pub returns-then-eq : goal.returns-then-eq
 unfolding uid_of
-returns-then-equal c =
+returns-then-eq c =
     let v = c.args.v.now in
     rw (
       c.number_in.ensures,
       take_all (length v - 4) (drop 4 v) (omega (arith, length-drop 4 v)),
-      ← c.equal.ensures,
-      ← c.equal-2.ensures,
-      c.if-equal.true,
+      ← (c.eq.ensures ∙ same_slices _ _ ∙ ap (same (take 4 v)) c.as_slice.ensures),
+      ← (c.eq-2.ensures ∙ same_slices _ _ ∙ ap (same (take 4 v)) c.as_slice-2.ensures),
+      c.if-eq.true,
     )
 
 pub returns : goal.returns
 unfolding uid_of value_if
-returns c = rw (← c.equal.ensures, ← c.equal-2.ensures, c.if-equal.false)
+returns c =
+    let v = c.args.v.now in
+    rw (
+      ← (c.eq.ensures ∙ same_slices _ _ ∙ ap (same (take 4 v)) c.as_slice.ensures),
+      ← (c.eq-2.ensures ∙ same_slices _ _ ∙ ap (same (take 4 v)) c.as_slice-2.ensures),
+      c.if-eq.false,
+    )
