@@ -7,6 +7,7 @@ ghost use Rattle.xml_model.specs.Codes.{as_tag};
 ghost use Rattle.xml_model.specs.State.{as_done};
 ghost use Rattle.xml_model.specs.Tags.{unit_at};
 ghost use Rattle.xml_model.specs.Text.{frame, ended, finish, root, progress_of, reading_of};
+ghost use Rattle.xml_table.specs.Codes.{role_code};
 ghost use Rattle.xml_read.specs.Nesting.{child_at, entering, opening_tag, empty_tag, reached, Element, Contents};
 ghost use Rattle.xml_read.specs.Results.{accepts, as_progress, as_reading};
 
@@ -15,20 +16,10 @@ use xml_model::{Fault, Form, State, Tag, TextError};
 use xml_scan::{Class, byte_at, is_bare, run_end, same_range, stuck, unit_at};
 use xml_state::{closing, opening};
 use xml_steps::{blank_state, counted};
-use xml_table::{
-    RIGHTS, RIGHTS_NAME, ROW_COUNT, SKIPPED, child_role, holds_anything, name_of, next_state,
-    row_of,
-};
+use xml_table::{Child, Name, Role, child_of, holds_anything, name_of};
 
 // "to depth 12, rights being 1"
 const MOST_DEEP: u8 = 12;
-
-// What an open element makes of a child that it accepts: its role, and the state to which it leads its parent.
-#[derive(Clone, Copy, Debug, PartialEq, Eq)]
-struct Child {
-    role: u8,
-    state: u8,
-}
 
 // A place up to which the text is read, and what has been read.
 #[derive(Clone, Copy)]
@@ -57,49 +48,45 @@ fn reached(at: usize, done: Result<State, TextError>) -> Result<Progress, Fault>
 
 // The child whose first tag is t, in an open element of that role and state.
 #[tactic(auto, unfolding(crate::specs::Nesting::child_at))]
-fn child_at(s: &[u8], t: Tag, role: u8, state: u8) -> Option<Child>
+fn child_at(s: &[u8], t: Tag, role: Role, state: u8) -> Option<Child>
     requires { (t.name ≤ t.end) × (t.end ≤ length s.now) }
     ensures { MatchOption result
-        ((child_at s.now (as_tag t) role state).accepted ≡ false)
-        (λ c. child_at s.now (as_tag t) role state ≡ accepts c.role c.state) }
+        ((child_at s.now (as_tag t) (role_code role) state).accepted ≡ false)
+        (λ c. child_at s.now (as_tag t) (role_code role) state ≡ accepts (role_code c.role) c.state) }
 {
     if holds_anything(role) {
         return Some(Child {
-            role: SKIPPED,
+            role: Role::Skipped,
             state,
         });
     }
-    let k = row_of(role, state, name_of(&s[t.name..t.end]));
-    if (ROW_COUNT <= k) | !is_bare(s, t.from, t.at) {
+    if !is_bare(s, t.from, t.at) {
         return None;
     }
-    Some(Child {
-        role: child_role(k),
-        state: next_state(k),
-    })
+    child_of(role, state, name_of(&s[t.name..t.end]))
 }
 
 // The first tag of an element, but for its count. What a KeyInfo holds is only counted.
 #[tactic(auto, unfolding(crate::specs::Nesting::entering))]
-fn entering(s: &[u8], t: Tag, role: u8, st: State) -> Result<State, TextError>
-    ensures { as_done result ≡ entering s.now (as_tag t) role st }
+fn entering(s: &[u8], t: Tag, role: Role, st: State) -> Result<State, TextError>
+    ensures { as_done result ≡ entering s.now (as_tag t) (role_code role) st }
 {
-    if role == SKIPPED {
+    if role == Role::Skipped {
         return Ok(st);
     }
     opening(s, t, role, st)
 }
 
 // An opening tag.
-fn opening_tag(s: &[u8], t: Tag, role: u8, st: State) -> Result<State, TextError>
-    ensures { as_done result ≡ opening_tag s.now (as_tag t) role st }
+fn opening_tag(s: &[u8], t: Tag, role: Role, st: State) -> Result<State, TextError>
+    ensures { as_done result ≡ opening_tag s.now (as_tag t) (role_code role) st }
 {
     counted(entering(s, t, role, st)?)
 }
 
 // An empty-element tag: also the element's last tag, with no text in front of it.
-fn empty_tag(s: &[u8], t: Tag, role: u8, st: State) -> Result<State, TextError>
-    ensures { as_done result ≡ empty_tag s.now (as_tag t) role st }
+fn empty_tag(s: &[u8], t: Tag, role: Role, st: State) -> Result<State, TextError>
+    ensures { as_done result ≡ empty_tag s.now (as_tag t) (role_code role) st }
 {
     let begun = entering(s, t, role, st)?;
     counted(closing(s, t.next, t.next, role, 0, begun)?)
@@ -112,11 +99,11 @@ fn end_tag(
     t: Tag,
     name: usize,
     end: usize,
-    role: u8,
+    role: Role,
     state: u8,
     st: State,
 ) -> Result<State, TextError>
-    ensures { as_done result ≡ ended s.now (as_tag t) (frame name end role state) st }
+    ensures { as_done result ≡ ended s.now (as_tag t) (frame name end (role_code role) state) st }
 {
     if !same_range(s, t.name, t.end, name, end) {
         return Err(TextError::Malformed);
@@ -126,9 +113,9 @@ fn end_tag(
 
 // The element reader: the element whose first tag is t, with `left` levels for it and what it holds.
 #[cycle(contents_element)]
-fn element(s: &[u8], t: Tag, role: u8, left: u8, st: State) -> Result<Progress, Fault>
+fn element(s: &[u8], t: Tag, role: Role, left: u8, st: State) -> Result<Progress, Fault>
     requires { t.next ≤ length s.now }
-    ensures { Element s.now (as_tag t) role left st (as_progress result) }
+    ensures { Element s.now (as_tag t) (role_code role) left st (as_progress result) }
 {
     if left == 0 {
         return Err(Fault {
@@ -151,10 +138,10 @@ fn contents(
     mut here: Progress,
     name: usize,
     end: usize,
-    role: u8,
+    role: Role,
     left: u8,
 ) -> Result<Progress, Fault>
-    ensures { Contents s.now here.at name end role left here.state (as_progress result) }
+    ensures { Contents s.now here.at name end (role_code role) left here.state (as_progress result) }
 {
     let mut state: u8 = 0;
     loop {
@@ -194,13 +181,13 @@ fn root_at(s: &[u8], i: usize) -> Result<Progress, Fault>
     ensures { as_progress result ≡ root s.now (unit_at s.now i) }
 {
     let t = unit_at(s, i)?;
-    if name_of(&s[t.name..t.end]) != RIGHTS_NAME {
+    if name_of(&s[t.name..t.end]) != Some(Name::Rights) {
         return Err(Fault {
             error: TextError::Unaccepted,
             at: t.next,
         });
     }
-    let here = element(s, t, RIGHTS, MOST_DEEP, blank_state())?;
+    let here = element(s, t, Role::Rights, MOST_DEEP, blank_state())?;
     finished(s, here)
 }
 

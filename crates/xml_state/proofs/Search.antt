@@ -25,9 +25,9 @@ position-first p xs d (suc n) h =
     let m = first-le f n in
     rw (take-suc xs n d (omega arith), position_or_len_push p (take n xs) (get_or xs n d), length-take-le n xs (omega arith), q)
     (below_or_not (first f n) n
-        (λ w. rw (lt-ltb _ _ w, ne_eqb (first f n) n (λ e. omega arith)))
-        (λ w. rw (le-ltb _ _ w, eq-eqb (first f n) n (omega arith)) (on_test (p (get_or xs n d))
-        (λ t. rw t (omega arith)) (λ t. rw t (omega arith)))))
+    (λ w. rw (lt-ltb _ _ w, ne_eqb (first f n) n (λ e. omega arith)))
+    (λ w. rw (le-ltb _ _ w, eq-eqb (first f n) n (omega arith)) (on_test (p (get_or xs n d))
+    (λ t. rw t (omega arith)) (λ t. rw t (omega arith)))))
 
 -- what `position` finds among the first n elements
 pub position-told : {X : Type 0} (p : X → Bool) (xs : List X) (d : X) (n : ℕ) → n ≤ length xs → (r : Option ℕ)
@@ -38,5 +38,5 @@ position-told p xs d n h r e =
     let m = first-le f n in
     rw (e, length-take-le n xs h, position-first p xs d n h)
     (below_or_not (first f n) n
-        (λ w. rw (lt-ltb _ _ w) (w, refl))
-        (λ w. rw (le-ltb _ _ w) (omega arith)))
+    (λ w. rw (lt-ltb _ _ w) (w, refl))
+    (λ w. rw (le-ltb _ _ w) (omega arith)))

@@ -6,6 +6,7 @@ ghost use Rattle.std.specs.Prelude.{◌≡◌, false, cond, ◌+◌, ◌<◌, �
 ghost use Rattle.xml_model.specs.Bytes.{part};
 ghost use Rattle.xml_model.specs.Codes.{as_range, as_tag};
 ghost use Rattle.xml_model.specs.Elements.{object_uid_role, inherit_uid_role};
+ghost use Rattle.xml_table.specs.Codes.{role_code};
 ghost use Rattle.xml_model.specs.State.{as_done, ids_in, id_position, new_id, asset_named, object_alone, flag_of, with_flag};
 ghost use Rattle.xml_model.specs.State.{with_limit, begun, with_idref, with_timer_of, opening, stored, text_done, key_done};
 ghost use Rattle.xml_model.specs.State.{container_done, closing};
@@ -16,11 +17,7 @@ use xml_entries::{asset_done, kind_done};
 use xml_model::{Ids, Range, State, Tag, TextError};
 use xml_scan::{is_bare, look, same_range};
 use xml_steps::NO_POSITION;
-use xml_table::{
-    ACCUMULATED, ASSET, ASSET_UID, COUNT, END, INHERIT_UID, INTERVAL, KEY_INFO, KINDS_FROM,
-    OBJECT_UID, PERMISSION, REFERENCE, SKIPPED, START, TIMED_COUNT, VERSION, closes_from,
-    holds_text, is_kind,
-};
+use xml_table::{Role, closes_from, holds_text, kind_of};
 use xml_values::{number_in, value_of};
 
 // The position of the value among the ids.
@@ -97,63 +94,52 @@ fn added(set: bool, w: u8, flags: u8) -> u8
 }
 
 // The flags with that of the role.
-fn with_flag(role: u8, l: Limits) -> u8
-    ensures { result ≡ with_flag (flag_of role) l }
+#[tactic(auto, unfolding(xml_model::specs::State::with_flag, xml_model::specs::State::flag_of, rules::specs::Rules::flags_of, model::specs::Book::flagged))]
+fn with_flag(role: Role, l: Limits) -> u8
+    ensures { result ≡ with_flag (flag_of (role_code role)) l }
 {
     let f = flags_of(l);
-    if role == COUNT {
-        return added(f.count, 1, l.flags);
+    match role {
+        Role::Count => added(f.count, 1, l.flags),
+        Role::TimedCount => added(f.timed, 2, l.flags),
+        Role::Start => added(f.start, 4, l.flags),
+        Role::End => added(f.end, 8, l.flags),
+        Role::Interval => added(f.interval, 16, l.flags),
+        _ => added(f.accumulated, 32, l.flags),
     }
-    if role == TIMED_COUNT {
-        return added(f.timed, 2, l.flags);
-    }
-    if role == START {
-        return added(f.start, 4, l.flags);
-    }
-    if role == END {
-        return added(f.end, 8, l.flags);
-    }
-    if role == INTERVAL {
-        return added(f.interval, 16, l.flags);
-    }
-    added(f.accumulated, 32, l.flags)
 }
 
 // The limit of that role, with its flag.
 #[tactic(auto, unfolding(xml_model::specs::State::with_limit))]
-fn with_limit(role: u8, x: u32, mut l: Limits) -> Limits
-    ensures { result ≡ with_limit role x l }
+fn with_limit(role: Role, x: u32, mut l: Limits) -> Limits
+    ensures { result ≡ with_limit (role_code role) x l }
 {
     l.flags = with_flag(role, l);
-    if role == COUNT {
-        l.count = x;
-    } else if role == TIMED_COUNT {
-        l.timed = x;
-    } else if role == START {
-        l.start = x;
-    } else if role == END {
-        l.end = x;
-    } else if role == INTERVAL {
-        l.interval = x;
-    } else if role == ACCUMULATED {
-        l.accumulated = x;
+    match role {
+        Role::Count => l.count = x,
+        Role::TimedCount => l.timed = x,
+        Role::Start => l.start = x,
+        Role::End => l.end = x,
+        Role::Interval => l.interval = x,
+        Role::Accumulated => l.accumulated = x,
+        _ => {}
     }
     l
 }
 
 // An asset, a permission and a kind start anew.
 #[tactic(auto, unfolding(xml_model::specs::State::begun, xml_model::specs::State::is_given, xml_model::specs::State::with_asset, xml_model::specs::State::with_references, xml_model::specs::State::with_limits, xml_model::specs::State::ids_in))]
-fn begun(role: u8, id: Option<Range>, mut st: State) -> State
+fn begun(role: Role, id: Option<Range>, mut st: State) -> State
     requires { IfSome id (λ r. 0 < r.from) }
-    ensures { result ≡ begun role (as_range id) st }
+    ensures { result ≡ begun (role_code role) (as_range id) st }
 {
-    if role == ASSET {
+    if role == Role::Asset {
         let n = st.ids.as_slice().len() as u16;
         st.asset = blank_asset();
         st.assetid = if id.is_some() { n } else { NO_POSITION };
-    } else if role == PERMISSION {
+    } else if role == Role::Permission {
         st.references.count = 0;
-    } else if is_kind(role) {
+    } else if kind_of(role).is_some() {
         st.limits = object_alone(st.limits.object);
     }
     st
@@ -161,19 +147,19 @@ fn begun(role: u8, id: Option<Range>, mut st: State) -> State
 
 // An idref, if there is one, is the id of an asset that is closed; an asset reference has one.
 #[tactic(auto, unfolding(xml_model::specs::State::with_idref, xml_model::specs::State::is_given, xml_model::specs::State::with_references))]
-fn with_idref(s: &[u8], idref: Option<Range>, role: u8, mut st: State) -> Result<State, TextError>
+fn with_idref(s: &[u8], idref: Option<Range>, role: Role, mut st: State) -> Result<State, TextError>
     requires { IfSome idref (λ r. 0 < r.from) }
-    ensures { as_done result ≡ with_idref s.now (as_range idref) role st }
+    ensures { as_done result ≡ with_idref s.now (as_range idref) (role_code role) st }
 {
     if let Some(idref) = idref {
         let asset = asset_named(s, &st.ids, idref);
         if asset == 0 {
             return Err(TextError::Unaccepted);
         }
-        if role == REFERENCE {
+        if role == Role::Reference {
             st.references.push(asset);
         }
-    } else if role == REFERENCE {
+    } else if role == Role::Reference {
         return Err(TextError::Unaccepted);
     }
     Ok(st)
@@ -189,11 +175,16 @@ fn part(s: &[u8], a: usize, b: usize) -> &[u8]
 
 // The timer of a timed count.
 #[tactic(auto, unfolding(xml_model::specs::State::with_timer_of, xml_model::specs::State::is_given, xml_model::specs::State::with_limits, xml_model::specs::State::with_timer))]
-fn with_timer_of(s: &[u8], timer: Option<Range>, role: u8, mut st: State) -> Result<State, TextError>
+fn with_timer_of(
+    s: &[u8],
+    timer: Option<Range>,
+    role: Role,
+    mut st: State,
+) -> Result<State, TextError>
     requires { IfSome timer (λ r. 0 < r.from) }
-    ensures { as_done result ≡ with_timer_of s.now (as_range timer) role st }
+    ensures { as_done result ≡ with_timer_of s.now (as_range timer) (role_code role) st }
 {
-    if role == TIMED_COUNT {
+    if role == Role::TimedCount {
         if let Some(timer) = timer {
             let v = part(s, timer.from, timer.to);
             st.limits.timer = number_in(0, MOST_TIMES, v).ok_or(TextError::Unaccepted)?;
@@ -206,8 +197,8 @@ fn with_timer_of(s: &[u8], timer: Option<Range>, role: u8, mut st: State) -> Res
 // Rules out: an id taken that was given before, an idref of an asset that is still open, a kind that keeps the limits of the one
 // before it.
 #[tactic(auto, unfolding(xml_model::specs::State::opening, xml_model::specs::State::and_then))]
-pub fn opening(s: &[u8], t: Tag, role: u8, st: State) -> Result<State, TextError>
-    ensures { as_done result ≡ opening s.now (as_tag t) role st }
+pub fn opening(s: &[u8], t: Tag, role: Role, st: State) -> Result<State, TextError>
+    ensures { as_done result ≡ opening s.now (as_tag t) (role_code role) st }
 {
     let id = look(s, b"o-ex:id", t.end);
     let idref = look(s, b"o-ex:idref", t.end);
@@ -219,18 +210,18 @@ pub fn opening(s: &[u8], t: Tag, role: u8, st: State) -> Result<State, TextError
 
 // A text value in its place. The fields of a uid have 16 bits.
 #[tactic(auto, unfolding(xml_model::specs::State::stored, xml_model::specs::State::with_limits, xml_model::specs::State::with_asset))]
-fn stored(role: u8, x: u32, mut st: State) -> State
-    requires { object_uid_role ≤ role → role ≤ inherit_uid_role → x ≤ 65535 }
-    ensures { result ≡ stored role x st }
+fn stored(role: Role, x: u32, mut st: State) -> State
+    requires { object_uid_role ≤ role_code role → role_code role ≤ inherit_uid_role → x ≤ 65535 }
+    ensures { result ≡ stored (role_code role) x st }
 {
-    if role == VERSION {
+    if role == Role::Version {
         return st;
     }
-    if role == OBJECT_UID {
+    if role == Role::ObjectUid {
         st.limits = object_alone(x as u16);
-    } else if role == ASSET_UID {
+    } else if role == Role::AssetUid {
         st.asset.number = x as u16;
-    } else if role == INHERIT_UID {
+    } else if role == Role::InheritUid {
         st.asset.inherit = x as u16;
     } else {
         st.limits = with_limit(role, x, st.limits);
@@ -240,8 +231,8 @@ fn stored(role: u8, x: u32, mut st: State) -> State
 
 // The last tag of an element that holds a text.
 #[tactic(auto, unfolding(xml_model::specs::State::text_done))]
-fn text_done(role: u8, v: &[u8], st: State) -> Result<State, TextError>
-    ensures { as_done result ≡ text_done role v.now st }
+fn text_done(role: Role, v: &[u8], st: State) -> Result<State, TextError>
+    ensures { as_done result ≡ text_done (role_code role) v.now st }
 {
     let x = value_of(role, v).ok_or(TextError::Unaccepted)?;
     Ok(stored(role, x, st))
@@ -258,14 +249,14 @@ fn key_done(mut st: State) -> State
 
 // The last tag of an element that holds elements.
 #[tactic(auto, unfolding(xml_model::specs::State::container_done, xml_model::specs::Elements::is_kind))]
-fn container_done(role: u8, st: State) -> Result<State, TextError>
-    ensures { as_done result ≡ container_done role st }
+fn container_done(role: Role, st: State) -> Result<State, TextError>
+    ensures { as_done result ≡ container_done (role_code role) st }
 {
-    if role == ASSET {
+    if role == Role::Asset {
         return asset_done(st);
     }
-    if is_kind(role) {
-        return kind_done(role - KINDS_FROM, st);
+    if let Some(kind) = kind_of(role) {
+        return kind_done(u8::from(kind), st);
     }
     Ok(st)
 }
@@ -277,16 +268,16 @@ pub fn closing(
     s: &[u8],
     a: usize,
     b: usize,
-    role: u8,
+    role: Role,
     state: u8,
     st: State,
 ) -> Result<State, TextError>
-    ensures { as_done result ≡ closing s.now a b role state st }
+    ensures { as_done result ≡ closing s.now a b (role_code role) state st }
 {
-    if role == SKIPPED {
+    if role == Role::Skipped {
         return Ok(st);
     }
-    if role == KEY_INFO {
+    if role == Role::KeyInfo {
         return Ok(key_done(st));
     }
     if holds_text(role) {

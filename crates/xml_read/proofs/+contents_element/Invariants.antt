@@ -3,6 +3,7 @@
 -- read. Each turn reads at least one byte.
 use Prim.Native.Nat.{◌+◌, ◌-◌}
 use lib.ListN.{length}
+use Rattle.xml_table.specs.Codes.{role_code}
 use Rattle.xml_read.specs.Nesting.{Turn}
 use Rattle.xml_read.proofs.+contents_element.Given as goal
 
@@ -14,7 +15,7 @@ decreases-element l = l.left + l.left
 
 abbrev pub invariant-contents-loop-t : goal.invariant-contents-loop-t
 invariant-contents-loop-t l =
-    Turn l.s l.initial.here.at l.name l.end l.role l.left l.initial.here.state l.here.at l.state l.here.state
+    Turn l.s l.initial.here.at l.name l.end (role_code l.role) l.left l.initial.here.state l.here.at l.state l.here.state
 
 abbrev pub decreases-contents-loop-t : goal.decreases-contents-loop-t
 decreases-contents-loop-t l = length l.s - l.here.at

@@ -1,12 +1,25 @@
 -- `xml_read::root_at` meets its contract: the element reader, with nothing open around it, gives what the units give.
 use native.Mathlib.Omega.{arith}
-use borrow.Author.Tests.{eq-eqb}
-use mathlib.Core.Path.{refl, ap, ◌∙◌}
+use lib.Dec.{eqb}
+use mathlib.Core.Bool.{true, false, not, true≢false}
+use borrow.Author.Rules.{rules}
+use denote.Enum.Bare.{sameb, differs_false}
+use Rattle.std.specs.Prelude.{Option, Some, None}
+use Rattle.std.specs.Option.{option_eq}
+use Rattle.xml_model.specs.Elements.{rights_name}
+use Rattle.xml_table.specs.declared.Name.{Name}
+use Rattle.xml_table.specs.contracts.Name.{the_type}
+use Rattle.xml_table.specs.Codes.{name_code, name_number}
+use mathlib.Core.Path.{◌≡◌, refl, sym, ap, ◌∙◌}
 use Rattle.std.proofs.lemmas.Result.{err_from_is_err_and}
 use Rattle.xml_model.proofs.Steps.{refuses}
 use Rattle.xml_model.specs.Text.{finish, root}
 use Rattle.xml_read.proofs.Nested.{el-root, lies_at, refused-ends}
 use Rattle.xml_read.proofs.root_at.Goals as goal
+
+is_rights : (o : Option Name) → not (option_eq (sameb the_type) o (Some Name.Rights)) ≡ false → eqb (name_number o) rights_name ≡ true
+is_rights None e = absurd (true≢false e)
+is_rights (Some n) e = ap (λ (m : Name). eqb (name_code m) rights_name) (differs_false the_type (search rules) n Name.Rights e)
 
 pub slice_bounds-name_of-count : goal.slice_bounds-name_of-count
 slice_bounds-name_of-count c = let w = lies_at _ _ c.in_ok-t.ensures refl in omega arith
@@ -24,11 +37,11 @@ pub returns-in_err-here : goal.returns-in_err-here
 unfolding root
 returns-in_err-here c =
     let p = err_from_is_err_and c.from_residual-in_err-here.result c.from_residual-in_err-here.ensures.1 in
-    rw (p.1, p.2, ← c.in_ok-t.ensures, ← c.name_of.ensures, eq-eqb _ _ c.if-name_of-ne-RIGHTS_NAME.false, ← c.blank_state.ensures)
+    rw (p.1, p.2, ← c.in_ok-t.ensures, ← c.name_of.ensures, is_rights c.name_of.result (sym c.ne.ensures ∙ c.if-ne.false), ← c.blank_state.ensures)
     (refused-ends c.args.s.now _ _ (refuses _) ∙ ap (finish c.args.s.now) (el-root c.in_err-here.ensures))
 
 pub returns : goal.returns
 unfolding root
 returns c =
-    rw (← c.in_ok-t.ensures, ← c.name_of.ensures, eq-eqb _ _ c.if-name_of-ne-RIGHTS_NAME.false, ← c.blank_state.ensures)
+    rw (← c.in_ok-t.ensures, ← c.name_of.ensures, is_rights c.name_of.result (sym c.ne.ensures ∙ c.if-ne.false), ← c.blank_state.ensures)
     (c.finished.ensures ∙ ap (finish c.args.s.now) (el-root c.in_ok-here.ensures))

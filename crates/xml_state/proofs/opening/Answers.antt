@@ -21,5 +21,13 @@ returns-in_err-st-2 c =
 pub returns : goal.returns
 unfolding opening
 returns c =
-    rw (← (looked _ _ c.look-id.ensures).0, ← c.begun.ensures, ← c.in_ok-st.ensures, ← ok-then, ← (looked _ _ c.look-idref.ensures).0, ← c.in_ok-st-2.ensures,
-    ← ok-then, ← (looked _ _ c.look-timer.ensures).0) c.with_timer_of.ensures
+    rw (
+      ← (looked _ _ c.look-id.ensures).0,
+      ← c.begun.ensures,
+      ← c.in_ok-st.ensures,
+      ← ok-then,
+      ← (looked _ _ c.look-idref.ensures).0,
+      ← c.in_ok-st-2.ensures,
+      ← ok-then,
+      ← (looked _ _ c.look-timer.ensures).0,
+    ) c.with_timer_of.ensures

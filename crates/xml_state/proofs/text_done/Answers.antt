@@ -9,6 +9,7 @@ use Rattle.xml_model.specs.Elements.{object_uid_role, asset_uid_role, inherit_ui
 use Rattle.xml_model.specs.Shapes.{Value}
 use Rattle.xml_model.specs.Values.{value_of}
 use Rattle.xml_model.proofs.LegalState.{number-most, uid-small}
+use Rattle.xml_table.specs.Codes.{role_code}
 use Rattle.xml_state.proofs.text_done.Goals as goal
 
 value-fits : (role : ℕ) (v : List ℕ) → object_uid_role ≤ role → role ≤ inherit_uid_role → (value_of role v).number ≤ 65535
@@ -22,5 +23,5 @@ pub stored-requires : goal.stored-requires
 stored-requires c =
     let a = c.args in
     let o : c.value_of.result ≡ Some c.in_ok-x.x = grind arith in
-    let e : c.in_ok-x.x ≡ (value_of a.role a.v.now).number = ap (λ (w : Value). w.number) (rw o at c.value_of.ensures) in
-    λ lo hi. rw e (value-fits a.role a.v.now lo hi)
+    let e : c.in_ok-x.x ≡ (value_of (role_code a.role) a.v.now).number = ap (λ (w : Value). w.number) (rw o at c.value_of.ensures) in
+    λ lo hi. rw e (value-fits (role_code a.role) a.v.now lo hi)
