@@ -47,4 +47,4 @@ returns c =
     step.ensures ∙ ap₂ (λ (b : Book). λ (s : List ℕ). reported_on b (decoded s) a.lines a.lent) load.ensures.1 bytes in
     one-answered a.image.now a.size.now _ a.code.now a.entry.now a.until.now a.lines a.lent
     step.result _ accepted same (c.image_length-next_length.ensures ∙ counted step.result.book)
-    _ c.if-image-next_length.false c.write.ensures.1
+    _ c.if-image-next_length.false c.write.ensures.buf_after

@@ -47,4 +47,4 @@ returns c =
     let room : 19 * record_count a.records.now ≤ length a.out.now = omega (arith, c.if-out-count.false) in
     left-answered a.image.now a.size.now a.records.now a.out.now a.written.now a.lines a.lent
     load.result.book _ accepted room load.ensures.1 (c.image_length-needed.ensures ∙ counted load.result.book)
-    block.result.book _ _ _ _ _ c.if-image-needed.false block.ensures write.ensures.1
+    block.result.book _ _ _ _ _ c.if-image-needed.false block.ensures write.ensures.buf_after
