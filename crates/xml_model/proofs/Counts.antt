@@ -9,7 +9,7 @@ use lib.Dec.{eqb, ltb}
 use borrow.Author.Tests.{eqb-true, eqb-false, ltb-false, not-true, not-false, ne_eqb}
 use Rattle.numbers.specs.Count.{sum, one}
 use Rattle.numbers.proofs.Tests.{on_test}
-use Rattle.xml_model.specs.declared.Tag.{Tag}
+use Rattle.xml_model.specs.Shapes.{Tag}
 use Rattle.xml_model.specs.declared.State.{State}
 use Rattle.xml_model.specs.declared.Progress.{Progress}
 use Rattle.xml_model.specs.Repeat.{Next, stop, more, repeat}

@@ -9,7 +9,7 @@ use lib.Seq.{get_or-take, length-take-le}
 use lib.Dec.{eqb, ltb}
 use borrow.Author.Tests.{eqb-true, eqb-false, ne_eqb, lt-ltb, ltb-false, ltb-true, not-true, not-false}
 use Rattle.numbers.proofs.Tests.{on_test}
-use Rattle.xml_model.specs.declared.Tag.{Tag}
+use Rattle.xml_model.specs.Shapes.{Tag}
 use Rattle.xml_model.specs.declared.State.{State}
 use Rattle.xml_model.specs.declared.Progress.{Progress}
 use Rattle.xml_model.specs.Repeat.{Next, stop, more}

@@ -12,7 +12,7 @@ use Rattle.numbers.specs.Count.{first}
 use Rattle.numbers.proofs.Tests.{on_test, on_same}
 use Rattle.numbers.proofs.TableLaws.{all_same, below_or_not, blanks}
 use Rattle.xml_model.specs.declared.Range.{Range}
-use Rattle.xml_model.specs.declared.Tag.{Tag}
+use Rattle.xml_model.specs.Shapes.{Tag}
 use Rattle.xml_model.specs.declared.Id.{Id}
 use Rattle.xml_model.specs.declared.State.{State}
 use Rattle.xml_model.specs.declared.Done.{Done}

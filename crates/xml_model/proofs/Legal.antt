@@ -14,7 +14,7 @@ use Rattle.model.specs.Image.{Typed, image, read_code, read_book}
 use Rattle.model.specs.Demand3.{Demand3}
 use Rattle.model.proofs.Image.RoundTrip.{demand2}
 use Rattle.model.proofs.Demand3.Proof.{demand3}
-use Rattle.xml_model.specs.declared.Tag.{Tag}
+use Rattle.xml_model.specs.Shapes.{Tag}
 use Rattle.xml_model.specs.declared.State.{State}
 use Rattle.xml_model.specs.declared.Done.{Done}
 use Rattle.xml_model.specs.declared.Progress.{Progress}

@@ -17,8 +17,8 @@ use Rattle.book.specs.Blank.{no_asset, no_entry}
 use Rattle.model.specs.Book.{asset_at, assets_in, entries_in, between, asset_legal, most_times, Legal, Fresh}
 use Rattle.model.proofs.Examples.Books.{no_book-legal, no_book-fresh}
 use Rattle.xml_model.specs.declared.Range.{Range}
-use Rattle.xml_model.specs.declared.Value.{Value}
-use Rattle.xml_model.specs.declared.Tag.{Tag}
+use Rattle.xml_model.specs.Shapes.{Value}
+use Rattle.xml_model.specs.Shapes.{Tag}
 use Rattle.xml_model.specs.declared.State.{State}
 use Rattle.xml_model.specs.declared.Done.{Done}
 use Rattle.xml_model.specs.Bytes.{bytes, part, bare, same}

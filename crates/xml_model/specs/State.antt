@@ -10,7 +10,7 @@ use Rattle.book.specs.Blank.{no_asset, no_limits, no_meters, no_book}
 use Rattle.model.specs.Book.{asset_at, assets_in, entries_in, in_book, flagged, asset_legal, limits_legal, most_times}
 use Rattle.model.specs.Book.{count_flag, timed_flag, start_flag, end_flag, interval_flag, accumulated_flag}
 use Rattle.xml_model.specs.declared.Range.{Range}
-use Rattle.xml_model.specs.declared.Tag.{Tag}
+use Rattle.xml_model.specs.Shapes.{Tag}
 use Rattle.xml_model.specs.declared.Id.{Id}
 use Rattle.xml_model.specs.declared.Ids.{Ids}
 use Rattle.xml_model.specs.declared.References.{References}

@@ -1,7 +1,7 @@
 -- Order 1: what a text is answered. Units are judged from left to right, with the open elements on a stack: "the first tag at fault
 -- decides". In one unit the faults are judged "in that order": 40, then 41, then 42.
 use Rattle.std.specs.Prelude.{ℕ, ◌+◌, ◌-◌, cond, not, ◌||◌, List, [], ◌∷◌, length, eqb, leb, ltb}
-use Rattle.xml_model.specs.declared.Tag.{Tag}
+use Rattle.xml_model.specs.Shapes.{Tag}
 use Rattle.xml_model.specs.declared.State.{State}
 use Rattle.xml_model.specs.declared.Done.{Done}
 use Rattle.xml_model.specs.declared.Progress.{Progress}

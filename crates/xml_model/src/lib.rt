@@ -1,36 +1,66 @@
-// The types of the reader of XML rights objects (order 1 of document 02). No code: what a reader must believe is in specs/, and
-// the theorems about it are in proofs/. A place in the text is the number of bytes in front of it; a range goes from its first
+// The types of the reader of XML rights objects (order 1 of document 02). What a reader must believe is in specs/, and the theorems
+// about it are in proofs/. A place in the text is the number of bytes in front of it; a range goes from its first
 // byte to the place behind its last.
 #![tactic(auto)]
 
+ghost use Rattle.std.specs.Prelude.{◌≡◌};
+ghost use Rattle.xml_model.specs.Codes.{text_code};
+
 use book::{Asset, Book, Limits};
 
-// An attribute: its name and, between the quotes, its value. Code 0, or 40 or 41 where the scan is stuck; `to` is then how far
-// it looked.
-#[derive(Clone, Copy)]
+// Why a text is refused, by the number in order 1 of document 02: not well formed, something in it not accepted, too many of something.
+#[derive(Clone, Copy, Debug, PartialEq, Eq)]
+pub enum TextError {
+    Malformed = 40,
+    Unaccepted = 41,
+    TooMany = 42,
+}
+
+// Rules out: two errors with the same number.
+impl From<TextError> for u8 {
+    ghost from_gives = { λ e n. n ≡ text_code e };
+
+    fn from(e: TextError) -> u8 {
+        e as u8
+    }
+}
+
+// The first fault of a text, and how far the text was looked at to tell.
+#[derive(Clone, Copy, Debug, PartialEq, Eq)]
+pub struct Fault {
+    pub error: TextError,
+    pub at: usize,
+}
+
+// An opening tag, an empty-element tag, an end tag.
+#[derive(Clone, Copy, Debug, PartialEq, Eq)]
+pub enum Form {
+    Open,
+    Empty,
+    End,
+}
+
+// An attribute: its name, from `name` to `end`, and between the quotes its value.
+#[derive(Clone, Copy, Debug, PartialEq, Eq)]
 pub struct Attribute {
-    pub code: u8,
     pub name: usize,
     pub end: usize,
     pub from: usize,
     pub to: usize,
 }
 
-// What follows the name of a tag: its attributes and its end. Form 0 is `>`, 1 is `/>`; next is the place behind it.
-#[derive(Clone, Copy)]
+// What follows the name of a tag: its attributes and its end. Form tells `>` from `/>`; next is the place behind it.
+#[derive(Clone, Copy, Debug, PartialEq, Eq)]
 pub struct Tail {
-    pub code: u8,
-    pub form: u8,
+    pub form: Form,
     pub next: usize,
 }
 
-// A unit: one tag with the text in front of it. Form 0 is an opening tag, 1 an empty-element tag, 2 an end tag. The text goes
-// from `from` to `at`, the name from `name` to `end`; next is the place behind the tag. Code 0, or 40 or 41 where the scan is
-// stuck; next is then how far it looked.
-#[derive(Clone, Copy)]
+// A unit: one tag with the text in front of it. The text goes from `from` to `at`, the name from `name` to `end`; next is the place
+// behind the tag.
+#[derive(Clone, Copy, Debug, PartialEq, Eq)]
 pub struct Tag {
-    pub code: u8,
-    pub form: u8,
+    pub form: Form,
     pub from: usize,
     pub at: usize,
     pub name: usize,
@@ -38,51 +68,43 @@ pub struct Tag {
     pub next: usize,
 }
 
-// The value of an attribute. From 0 means that the tag has none of that name: no value starts a text.
-#[derive(Clone, Copy)]
+// The value of an attribute.
+#[derive(Clone, Copy, Debug, PartialEq, Eq)]
 pub struct Range {
     pub from: usize,
     pub to: usize,
 }
 
-// What a text value stands for, if it is accepted.
-#[derive(Clone, Copy)]
-pub struct Value {
-    pub valid: bool,
-    pub number: u32,
-}
-
 // One part of a duration: a number with its letter, if it is there, and the place behind it.
-#[derive(Clone, Copy)]
+#[derive(Clone, Copy, Debug, PartialEq, Eq)]
 pub struct Piece {
-    pub there: bool,
-    pub number: u64,
+    pub number: Option<u64>,
     pub next: usize,
 }
 
 // An id of the text, and the number of its asset once that is closed; 0 for any other element.
-#[derive(Clone, Copy)]
+#[derive(Clone, Copy, Debug, PartialEq, Eq)]
 pub struct Id {
     pub from: usize,
     pub to: usize,
     pub asset: u16,
 }
 
-#[derive(Clone, Copy)]
+#[derive(Clone, Copy, Debug, PartialEq, Eq)]
 pub struct Ids {
     pub count: u16,
     pub table: [Id; 256],
 }
 
 // The asset references of a permission, as asset numbers. 64 are kept; more than 64 count as 65.
-#[derive(Clone, Copy)]
+#[derive(Clone, Copy, Debug, PartialEq, Eq)]
 pub struct References {
     pub count: u8,
     pub table: [u16; 64],
 }
 
 // What has been read so far.
-#[derive(Clone, Copy)]
+#[derive(Clone, Copy, Debug, PartialEq, Eq)]
 pub struct State {
     pub elements: u16,
     pub ids: Ids,
@@ -97,14 +119,14 @@ pub struct State {
 }
 
 // One step of reading: the state after it, or the code of a fault with a blank state.
-#[derive(Clone, Copy)]
+#[derive(Clone, Copy, Debug, PartialEq, Eq)]
 pub struct Done {
     pub code: u8,
     pub state: State,
 }
 
 // Reading up to a place: the state there, or the code of the first fault and how far the text was looked at to tell.
-#[derive(Clone, Copy)]
+#[derive(Clone, Copy, Debug, PartialEq, Eq)]
 pub struct Progress {
     pub code: u8,
     pub at: usize,
@@ -112,7 +134,7 @@ pub struct Progress {
 }
 
 // What a text is answered: 0, 40, 41 or 42, the number of its elements, and the book. Not 0: no elements and a blank book.
-#[derive(Clone, Copy)]
+#[derive(Clone, Copy, Debug, PartialEq, Eq)]
 pub struct Reading {
     pub code: u8,
     pub elements: u16,

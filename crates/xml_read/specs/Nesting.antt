@@ -2,7 +2,7 @@
 -- readers know only the innermost one. So each says: whatever is open around it, the units from here on give what its result and
 -- the units behind it give.
 use Rattle.std.specs.Prelude.{ℕ, ◌+◌, ◌≤◌, ◌≡◌, true, cond, not, ◌&&◌, List, ◌∷◌, length, eqb, leb}
-use Rattle.xml_model.specs.declared.Tag.{Tag}
+use Rattle.xml_model.specs.Shapes.{Tag}
 use Rattle.xml_model.specs.declared.State.{State}
 use Rattle.xml_model.specs.declared.Done.{Done}
 use Rattle.xml_model.specs.declared.Progress.{Progress}

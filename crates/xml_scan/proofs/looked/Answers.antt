@@ -4,7 +4,7 @@ use Rattle.xml_scan.proofs.looked.Goals as goal
 
 pub returns-then-i-n : goal.returns-then-i-n
 unfolding looked
-returns-then-i-n c = rw (c.pick_place.ensures, c.byte_at-c.ensures, lt-ltb _ _ c.if-i-n.true)
+returns-then-i-n c = rw (c.pick.ensures, c.byte_at-c.ensures, lt-ltb _ _ c.if-i-n.true)
 
 pub returns : goal.returns
 unfolding looked

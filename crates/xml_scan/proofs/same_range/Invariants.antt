@@ -6,7 +6,4 @@ use Rattle.xml_model.specs.State.{alike}
 use Rattle.xml_scan.proofs.same_range.Given as goal
 
 abbrev pub invariant-loop-i : goal.invariant-loop-i
-invariant-loop-i l = (l.i ≤ l.n) × (alike l.s l.a l.x l.i ≡ true)
-
-abbrev pub decreases-loop-i : goal.decreases-loop-i
-decreases-loop-i l = l.n - l.i
+invariant-loop-i l = alike l.s l.a l.x l.i ≡ true

@@ -5,5 +5,12 @@ use Rattle.xml_values.proofs.duration_formed.Goals as goal
 pub returns : goal.returns
 unfolding duration_formed
 returns c =
-    let b = c.before in
-    rw (c.pick.ensures, c.byte_at.ensures, b.byte_at-timed.ensures)
+    rw (
+      c.pick.ensures,
+      c.byte_at.ensures,
+      c.byte_at-timed.ensures,
+      c.is_some.ensures,
+      c.is_some-2.ensures,
+      c.is_some-3.ensures,
+      c.is_some-4.ensures,
+    )

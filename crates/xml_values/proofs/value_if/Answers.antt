@@ -10,6 +10,6 @@ pub returns-then-good : goal.returns-then-good
 unfolding value_if
 returns-then-good c = rw c.if-good.true
 
-pub returns : goal.returns
+pub returns-else-good : goal.returns-else-good
 unfolding value_if
-returns c = rw c.if-good.false
+returns-else-good c = rw c.if-good.false
