@@ -56,7 +56,7 @@ pub fn line_for(switch: u32, l: Limits, assets: [Asset; 64], assetcount: u8, con
         return 64;
     }
     let n = at_most_64(assetcount);
-    let k = asset_position(assets, n, content);
+    let k = asset_position(&assets[..n], content).unwrap_or(n);
     if k < n { k } else { 64 }
 }
 

@@ -3,7 +3,7 @@
 #![tactic(auto)]
 
 ghost use Rattle.std.specs.Prelude.{◌≡◌, ◌+◌, ◌<◌, ◌≤◌};
-ghost use Rattle.model.specs.Book.{assets_in, entries_in, in_book, limits_legal};
+ghost use Rattle.model.specs.Book.{assets_in, entries_in, in_book, asset_legal, limits_legal};
 ghost use Rattle.xml_model.specs.State.{named, for_asset, with_one_asset, asset_done, how_many, asset_for, limits_for, kind_legal};
 ghost use Rattle.xml_model.specs.State.{with_entries, kind_done};
 
@@ -41,6 +41,21 @@ fn with_one_asset(a: Asset, mut b: Book) -> Book
     b
 }
 
+// Whether the asset may follow those of the book.
+fn next_legal(b: Book, a: Asset) -> bool
+    ensures { result ≡ asset_legal b.assets (assets_in b) (assets_in b) a }
+{
+    let n = at_most_64(b.assetcount);
+    asset_legal(&b.assets[..n], n, a)
+}
+
+// Whether the book has an asset with that number.
+fn known(b: Book, number: u16) -> bool
+    ensures { result ≡ in_book b number }
+{
+    asset_position(&b.assets[..at_most_64(b.assetcount)], number as u32).is_some()
+}
+
 // The last tag of an asset.
 // Rules out: 42 for a 65th asset whose number is given twice, an asset whose id stays unnamed.
 pub fn asset_done(st: State) -> Done
@@ -48,9 +63,8 @@ pub fn asset_done(st: State) -> Done
 {
     let a = st.asset;
     let b = st.book;
-    let assets = b.assets;
     let n = at_most_64(b.assetcount);
-    if !asset_legal(assets, n, n, a) {
+    if !next_legal(b, a) {
         return refused(41);
     }
     if 64 <= n {
@@ -108,11 +122,7 @@ fn entry_legal(kind: u8, st: State, i: usize) -> bool
     requires { i < 64 }
     ensures { result ≡ limits_legal (in_book st.book (asset_for st i)) (limits_for kind st i) }
 {
-    let b = st.book;
-    let assets = b.assets;
-    let n = at_most_64(b.assetcount);
-    let known = asset_position(assets, n, asset_for(st, i) as u32) < n;
-    limits_legal(known, limits_for(kind, st, i))
+    limits_legal(known(st.book, asset_for(st, i)), limits_for(kind, st, i))
 }
 
 fn kind_legal(kind: u8, st: State) -> bool

@@ -5,22 +5,21 @@ use Rattle.model.specs.Book.{assets_in}
 use Rattle.xml_model.specs.State.{asset_done}
 use Rattle.xml_entries.proofs.asset_done.Goals as goal
 
-pub returns-then-not-asset_legal : goal.returns-then-not-asset_legal
+pub returns-then-not-next_legal : goal.returns-then-not-next_legal
 unfolding asset_done assets_in
-returns-then-not-asset_legal c = rw (
+returns-then-not-next_legal c = rw (
   c.refused.ensures,
-  ← c.at_most_64-n.ensures,
-  ← c.asset_legal.ensures,
-  c.if-not-asset_legal.true,
+  ← c.next_legal.ensures,
+  c.if-not-next_legal.true,
 )
 
 pub returns-then-n-ge64 : goal.returns-then-n-ge64
 unfolding asset_done assets_in
 returns-then-n-ge64 c = rw (
   c.refused-then-n-ge64.ensures,
+  ← c.next_legal.ensures,
   ← c.at_most_64-n.ensures,
-  ← c.asset_legal.ensures,
-  c.if-not-asset_legal.false,
+  c.if-not-next_legal.false,
   le-leb _ _ c.if-n-ge64.true,
 )
 
@@ -36,8 +35,8 @@ returns c = rw (
   c.with_book.ensures,
   c.with_one_asset.ensures,
   c.named-g.ensures,
+  ← c.next_legal.ensures,
   ← c.at_most_64-n.ensures,
-  ← c.asset_legal.ensures,
-  c.if-not-asset_legal.false,
+  c.if-not-next_legal.false,
   lt-leb _ _ c.if-n-ge64.false,
 )
