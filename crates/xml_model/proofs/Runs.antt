@@ -88,21 +88,6 @@ same_slices (x ∷ xs) (y ∷ ys) = rw (same_slices xs ys) (both (eqb x y) (same
     both true b = refl
     both false b = refl
 
-same-cons : (x y : ℕ) (xs ys : List ℕ) → same (x ∷ xs) (y ∷ ys) ≡ cond (eqb x y) (same xs ys) false
-unfolding same
-same-cons x y xs ys = refl
-
-module _ (x y : List ℕ) (i : ℕ) (h : i < length x) (l : i < length y) where
-  pub same-on : get_or x i 0 ≡ get_or y i 0 → same (drop i x) (drop i y) ≡ same (drop (i + 1) x) (drop (i + 1) y)
-  same-on e = rw (add-one, drop-cons x i 0 h, drop-cons y i 0 l, same-cons, eq-eqb _ _ e)
-
-  pub same-off : (get_or x i 0 ≡ get_or y i 0 → ⊥) → same (drop i x) (drop i y) ≡ false
-  same-off e = rw (drop-cons x i 0 h, drop-cons y i 0 l, same-cons, ne_eqb _ _ e)
-
-pub same_out : (x y : List ℕ) (i : ℕ) → length x ≤ i → length y ≤ i → same (drop i x) (drop i y) ≡ true
-unfolding same
-same_out x y i h l = rw (drop_of_length-le x {i = i} h, drop_of_length-le y {i = i} l)
-
 -- ## Runs
 
 not_not : (b : Bool) → not (not b) ≡ b

@@ -1,10 +1,9 @@
 // The elements that order 1 accepts: their names, their roles, and the rows that say which element may hold which.
 #![tactic(auto)]
 
-ghost use Rattle.std.specs.Prelude.{◌≡◌, cond};
-ghost use Rattle.xml_model.specs.Bytes.{same};
+ghost use Rattle.std.specs.Prelude.{◌≡◌};
 ghost use Rattle.xml_model.specs.Elements.{name_of, row_of, holds_text, closes_from, holds_anything};
-ghost use Rattle.xml_table.specs.Codes.{role_code, name_code, name_number};
+ghost use Rattle.xml_table.specs.Codes.{role_code, name_number, name_text};
 ghost use Rattle.xml_table.specs.Rows.{row_fits, IsChild, IsKind};
 
 use book::Kind;
@@ -124,11 +123,58 @@ pub struct Child {
     pub state: u8,
 }
 
-#[tactic(auto, using(xml_model::proofs::Runs::same_slices))]
-fn named<'a>(v: &'a [u8], text: &'a [u8], name: Name, otherwise: Option<Name>) -> Option<Name>
-    ensures { name_number result ≡ cond (same v.now text.now) (name_code name) (name_number otherwise) }
+const NAMES: [Name; 22] = [
+    Name::Rights,
+    Name::Context,
+    Name::Version,
+    Name::Uid,
+    Name::Agreement,
+    Name::Asset,
+    Name::Inherit,
+    Name::KeyInfo,
+    Name::Permission,
+    Name::Play,
+    Name::Display,
+    Name::Execute,
+    Name::Print,
+    Name::Export,
+    Name::Constraint,
+    Name::Count,
+    Name::TimedCount,
+    Name::Datetime,
+    Name::Start,
+    Name::End,
+    Name::Interval,
+    Name::Accumulated,
+];
+
+fn text_of(name: Name) -> &'static [u8]
+    ensures { result.now ≡ name_text name }
 {
-    if v == text { Some(name) } else { otherwise }
+    match name {
+        Name::Rights => b"o-ex:rights",
+        Name::Context => b"o-ex:context",
+        Name::Version => b"o-dd:version",
+        Name::Uid => b"o-dd:uid",
+        Name::Agreement => b"o-ex:agreement",
+        Name::Asset => b"o-ex:asset",
+        Name::Inherit => b"o-ex:inherit",
+        Name::KeyInfo => b"ds:KeyInfo",
+        Name::Permission => b"o-ex:permission",
+        Name::Play => b"o-dd:play",
+        Name::Display => b"o-dd:display",
+        Name::Execute => b"o-dd:execute",
+        Name::Print => b"o-dd:print",
+        Name::Export => b"oma-dd:export",
+        Name::Constraint => b"o-ex:constraint",
+        Name::Count => b"o-dd:count",
+        Name::TimedCount => b"oma-dd:timed-count",
+        Name::Datetime => b"o-dd:datetime",
+        Name::Start => b"o-dd:start",
+        Name::End => b"o-dd:end",
+        Name::Interval => b"o-dd:interval",
+        Name::Accumulated => b"o-dd:accumulated",
+    }
 }
 
 // The element of that name, if there is one.
@@ -136,28 +182,12 @@ fn named<'a>(v: &'a [u8], text: &'a [u8], name: Name, otherwise: Option<Name>) -
 pub fn name_of(v: &[u8]) -> Option<Name>
     ensures { name_number result ≡ name_of v.now }
 {
-    let from_accumulated = named(v, b"o-dd:accumulated", Name::Accumulated, None);
-    let from_interval = named(v, b"o-dd:interval", Name::Interval, from_accumulated);
-    let from_end = named(v, b"o-dd:end", Name::End, from_interval);
-    let from_start = named(v, b"o-dd:start", Name::Start, from_end);
-    let from_datetime = named(v, b"o-dd:datetime", Name::Datetime, from_start);
-    let from_timed_count = named(v, b"oma-dd:timed-count", Name::TimedCount, from_datetime);
-    let from_count = named(v, b"o-dd:count", Name::Count, from_timed_count);
-    let from_constraint = named(v, b"o-ex:constraint", Name::Constraint, from_count);
-    let from_export = named(v, b"oma-dd:export", Name::Export, from_constraint);
-    let from_print = named(v, b"o-dd:print", Name::Print, from_export);
-    let from_execute = named(v, b"o-dd:execute", Name::Execute, from_print);
-    let from_display = named(v, b"o-dd:display", Name::Display, from_execute);
-    let from_play = named(v, b"o-dd:play", Name::Play, from_display);
-    let from_permission = named(v, b"o-ex:permission", Name::Permission, from_play);
-    let from_key_info = named(v, b"ds:KeyInfo", Name::KeyInfo, from_permission);
-    let from_inherit = named(v, b"o-ex:inherit", Name::Inherit, from_key_info);
-    let from_asset = named(v, b"o-ex:asset", Name::Asset, from_inherit);
-    let from_agreement = named(v, b"o-ex:agreement", Name::Agreement, from_asset);
-    let from_uid = named(v, b"o-dd:uid", Name::Uid, from_agreement);
-    let from_version = named(v, b"o-dd:version", Name::Version, from_uid);
-    let from_context = named(v, b"o-ex:context", Name::Context, from_version);
-    named(v, b"o-ex:rights", Name::Rights, from_context)
+    for name in &NAMES {
+        if v == text_of(*name) {
+            return Some(*name);
+        }
+    }
+    None
 }
 
 fn row_fits(row: &Row, role: Role, state: u8, name: Option<Name>) -> bool
