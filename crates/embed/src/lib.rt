@@ -415,11 +415,12 @@ pub fn rights_from_xml(text: &[u8], image: &mut [u8], size: &mut u64, elements: 
     ensures size_after { size.new ≡ xml_size text.now image.old size.old }
     ensures elements_after { elements.new ≡ xml_elements text.now image.old elements.old }
 {
-    let r = xml_image::import_text(text, image);
-    if r.code != 0 {
-        return r.code;
+    match xml_image::import_text(text, image) {
+        Ok(r) => {
+            *size = r.length as u64;
+            *elements = r.elements as u64;
+            0
+        }
+        Err(e) => u8::from(e),
     }
-    *size = r.length as u64;
-    *elements = r.elements as u64;
-    0
 }

@@ -1,11 +1,19 @@
 -- One law for each return of the code.
 use Rattle.std.specs.Prelude.{ℕ, ◌<◌, ◌≤◌, ◌≡◌, List}
+use Rattle.std.proofs.Common.{arith}
 use borrow.Author.Tests.{eq-eqb, ne_eqb, le-leb, lt-leb}
 use Rattle.model.specs.Image.{length_of, write_answer, write_buffer}
 use Rattle.fill.specs.Fill.{no_room}
-use Rattle.xml_model.specs.declared.Reading.{Reading}
-use Rattle.xml_image.specs.declared.Imported.{Imported}
-use Rattle.xml_image.specs.Imported.{import_code, imported_from, buffer_from}
+use Rattle.xml_model.specs.Text.{Reading}
+use Rattle.xml_model.proofs.Steps.{refuses}
+use Rattle.xml_image.specs.declared.ImportError.{ImportError}
+use Rattle.xml_image.specs.Results.{import_error}
+use Rattle.xml_image.specs.Imported.{Imported, import_code, imported_from, buffer_from}
+
+-- the number of an error is not 0
+pub fails : (e : ImportError) → import_error e ≡ 0 → ⊥
+fails (ImportError.Text e) q = refuses e q
+fails (ImportError.NoRoom e) q = absurd (omega arith)
 
 abbrev pub nothing : ℕ → Imported
 nothing c = record { code = c; elements = 0; length = 0 }

@@ -48,6 +48,9 @@ IsTag r x = MatchResult r (λ t. as_tag t ≡ x) (λ f. IsFault f x.code x.next)
 abbrev pub no_range : Range
 no_range = record { from = 0; to = 0 }
 
+abbrev pub as_range : Option Range → Range
+as_range o = unwrap_or o no_range
+
 abbrev pub as_value : Option ℕ → Value
 as_value o = record { valid = is_some o; number = unwrap_or o 0 }
 

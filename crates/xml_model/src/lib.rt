@@ -3,8 +3,9 @@
 // byte to the place behind its last.
 #![tactic(auto)]
 
-ghost use Rattle.std.specs.Prelude.{◌≡◌};
+ghost use Rattle.std.specs.Prelude.{◌≡◌, ◌+◌, length, min, set, take};
 ghost use Rattle.xml_model.specs.Codes.{text_code};
+ghost use Rattle.xml_model.specs.State.{id_of, ids_in, named, referred};
 
 use book::{Asset, Book, Limits};
 
@@ -96,11 +97,70 @@ pub struct Ids {
     pub table: [Id; 256],
 }
 
+impl Ids {
+    // Rules out: an id behind the count, one of the 256 left out.
+    #[tactic(auto, unfolding(crate::specs::State::ids_in))]
+    pub fn as_slice(&self) -> &[Id]
+        ensures items { result.now ≡ take (ids_in self.now) self.now.table }
+        ensures size { length result.now ≡ ids_in self.now }
+    {
+        &self.table[..usize::from(self.count).min(256)]
+    }
+
+    // One id more, whose asset is not closed. A full table stays as it is.
+    // Rules out: an id over another one, an asset that counts as closed.
+    #[tactic(auto, unfolding(crate::specs::State::ids_in, crate::specs::State::id_of))]
+    pub fn push(&mut self, id: Range)
+        ensures { self.new ≡ record { count = min (ids_in self.old + 1) 256; table = set self.old.table (ids_in self.old) (id_of id) } }
+    {
+        let n = usize::from(self.count).min(256);
+        if n < 256 {
+            self.table[n] = Id {
+                from: id.from,
+                to: id.to,
+                asset: 0,
+            };
+            self.count = (n + 1) as u16;
+        } else {
+            self.count = 256;
+        }
+    }
+
+    // The id at position i is that of a closed asset. A position behind the table's end, as "no id" is, changes nothing.
+    // Rules out: an id whose range changes.
+    #[tactic(auto, unfolding(crate::specs::State::named))]
+    pub fn name(&mut self, i: u16, asset: u16)
+        ensures { self.new ≡ named i asset self.old }
+    {
+        let i = usize::from(i);
+        if i < 256 {
+            self.table[i].asset = asset;
+        }
+    }
+}
+
 // The asset references of a permission, as asset numbers. 64 are kept; more than 64 count as 65.
 #[derive(Clone, Copy, Debug, PartialEq, Eq)]
 pub struct References {
     pub count: u8,
     pub table: [u16; 64],
+}
+
+impl References {
+    // One reference more. Those behind the 64th are counted, up to 65.
+    // Rules out: 64 for more than 64, a reference over another one.
+    #[tactic(auto, unfolding(crate::specs::State::referred))]
+    pub fn push(&mut self, asset: u16)
+        ensures { self.new ≡ referred asset self.old }
+    {
+        let n = usize::from(self.count);
+        if n < 64 {
+            self.table[n] = asset;
+            self.count += 1;
+        } else {
+            self.count = 65;
+        }
+    }
 }
 
 // What has been read so far.
@@ -115,28 +175,5 @@ pub struct State {
     pub references: References,
     // of the kind that is open; `object` is the rights object's number
     pub limits: Limits,
-    pub book: Book,
-}
-
-// One step of reading: the state after it, or the code of a fault with a blank state.
-#[derive(Clone, Copy, Debug, PartialEq, Eq)]
-pub struct Done {
-    pub code: u8,
-    pub state: State,
-}
-
-// Reading up to a place: the state there, or the code of the first fault and how far the text was looked at to tell.
-#[derive(Clone, Copy, Debug, PartialEq, Eq)]
-pub struct Progress {
-    pub code: u8,
-    pub at: usize,
-    pub state: State,
-}
-
-// What a text is answered: 0, 40, 41 or 42, the number of its elements, and the book. Not 0: no elements and a blank book.
-#[derive(Clone, Copy, Debug, PartialEq, Eq)]
-pub struct Reading {
-    pub code: u8,
-    pub elements: u16,
     pub book: Book,
 }
