@@ -2,7 +2,8 @@
 use Rattle.std.specs.Prelude.{ℕ, suc, ◌+◌, ◌-◌, ◌%◌, ◌<◌, ◌≤◌, min, ◌≡◌, Bool, not, ◌&&◌, cond, length, set, take, leb, ltb, eqb}
 use Rattle.std.specs.Prelude.{Result, Ok, Err, MatchResult, Option, Some, is_some}
 use Rattle.std.proofs.Math.Path.{refl, sym, ap}
-use Rattle.std.proofs.Common.{ap₂, subst, ◌∙◌, arith, ltb-true, ltb-false}
+use Rattle.std.specs.Option.{unwrap_or}
+use Rattle.std.proofs.Common.{length-take-le, length-take, ap₂, subst, ◌∙◌, arith, ltb-true, ltb-false}
 use Rattle.std.proofs.Math.Bool.{true, false}
 use mathlib.Core.List.{List, map}
 use Rattle.std.proofs.lemmas.List.{set-get_or}
@@ -44,9 +45,8 @@ use Rattle.rules.specs.declared.Wire.{Wire}
 use Rattle.rules.specs.Rules.{wire_of}
 use Rattle.model.proofs.Legal.Step.{gate-passed}
 use Rattle.choice.specs.declared.Reach.{Reach}
-use Rattle.choice.specs.Reach.{reach_in, table_of, reach-in-book}
-use Rattle.choice.specs.declared.Best.{Best}
-use Rattle.choice.specs.Best.{best_after}
+use Rattle.choice.specs.Reach.{reach_in, table_of, reach-in-book, reach-used, table-of-list}
+use Rattle.choice.specs.Best.{Best, best_after}
 use Rattle.rules.specs.Codes.{begin_code}
 use Rattle.choice.specs.Choice.{best-suits, best-switched}
 use Rattle.choice.specs.declared.Row.{Row}
@@ -59,7 +59,7 @@ use Rattle.uses.specs.Uses.{kept, placed, stored, begun_on, begin_on, continue_o
 use Rattle.uses.specs.Uses.{cancel-placed}
 use Rattle.step.specs.Settle.{settled_book, settled_to, player-next, released-out}
 use Rattle.metering.specs.Good.{good_lines}
-use Rattle.metering.specs.Recording.{line_for, due-still, due-out, due-raised, due-kept, request_line, request_seconds, request_entry}
+use Rattle.metering.specs.Recording.{line_for, line_in, line-as, line-below, line-within, request_in, request-as, request-below, request-within, due-still, due-out, due-raised, due-kept, request_line, request_seconds, request_entry}
 use Rattle.metering.specs.Recording.{request-onward, request-still}
 use Rattle.step.specs.Lines.{lines_taken, lines_with, lines-own, reported_on}
 use Rattle.step.specs.Step.{stored_book, taken_from, recent_on, taken_is, found_at, some-found, begin-refused, begin-granted}
@@ -428,24 +428,70 @@ module _ (n : Book) (ats : List Asset) (count asset : ℕ) (r : Reach)
     (ha : n.assets ≡ ats)
     (hc : n.assetcount ≡ count)
     (small : asset ≤ 65535)
-    (hr : r ≡ reach_at (places_of ats count) (parents_of ats count) asset) where
+    (room : min count 64 ≤ length ats)
+    (hr : r ≡ reach_at (places_of (take (min count 64) ats) (length (take (min count 64) ats)))
+    (parents_of (take (min count 64) ats) (length (take (min count 64) ats))) asset) where
+  abbrev used : List Asset
+  used = take (min count 64) ats
+
+  -- the used slots as a list
+  in-list : reach_in (table_of used (length used)) asset ≡ reach_in (table_of ats count) asset
+  in-list =
+      ap (λ (x : _). reach_in x asset) (table-of-list used (omega (arith, length-take-le (min count 64) ats room)))
+      ∙ reach-used ats count asset room
+
   in-book : reach_in (table_of ats count) asset ≡ reach_in (table_of n.assets n.assetcount) asset
   in-book = ap (λ (x : List Asset). reach_in (table_of x count) asset) (sym ha) ∙ ap (λ (x : ℕ). reach_in (table_of n.assets x) asset)
       (sym hc)
 
   pub usable-is : r.usable ≡ usable (catalog_of n) asset
   unfolding reach_in
-  usable-is = ap (λ (x : Reach). x.usable) hr ∙ reach-usable ats count asset small ∙ ap (λ (x : Reach). x.usable)
-      (in-book ∙ reach-in-book n asset)
+  usable-is = ap (λ (x : Reach). x.usable) hr ∙ reach-usable used (length used) asset small ∙ ap (λ (x : Reach). x.usable)
+      (in-list ∙ in-book ∙ reach-in-book n asset)
 
   pub parent_is : usable (catalog_of n) asset ≡ true → r.parent ≡ parent_of (catalog_of n) asset
   unfolding reach_in
   parent_is u =
       ap (λ (x : Reach). x.parent) hr
-      ∙ reach-parent ats count asset small (ap (λ (x : Reach). x.usable) (in-book ∙ reach-in-book n asset) ∙ u)
-      ∙ ap (λ (x : Reach). x.parent) (in-book ∙ reach-in-book n asset)
+      ∙ reach-parent used (length used) asset small (ap (λ (x : Reach). x.usable) (in-list ∙ in-book ∙ reach-in-book n asset) ∙ u)
+      ∙ ap (λ (x : Reach). x.parent) (in-list ∙ in-book ∙ reach-in-book n asset)
 
 -- ## The lines
+
+-- the line that was found in the used slots
+module _ (ats : List Asset) (size n count : ℕ) (room : length ats ≡ 64) (hn : n ≡ min size 64) (hc : count ≡ size) (switch : ℕ) (l : Limits) where
+  holds-used : min size 64 ≤ length ats
+  holds-used = omega arith
+
+  pub slots-line : (content : ℕ) (r : Option ℕ) → r ≡ line_in switch l (take n ats) content
+      → unwrap_or r 64 ≡ line_for switch l ats count content
+  slots-line content r h =
+      ap (λ (x : Option ℕ). unwrap_or x 64) (h ∙ ap (λ (j : ℕ). line_in switch l (take j ats) content) hn)
+      ∙ line-as switch l ats size content holds-used ∙ ap (λ (j : ℕ). line_for switch l ats j content) (sym hc)
+
+  pub slots-line-below : (content k : ℕ) → Some k ≡ line_in switch l (take n ats) content → k < 64
+  slots-line-below content k h =
+      line-below switch l ats size content holds-used k (sym (h ∙ ap (λ (j : ℕ). line_in switch l (take j ats) content) hn))
+
+  pub slots-request : (q : Request) (a : Answer) (o : Open) (r : Option ℕ) → r ≡ request_in q a o switch l (take n ats)
+      → unwrap_or r 64 ≡ request_line q a o switch l ats count
+  slots-request q a o r h =
+      ap (λ (x : Option ℕ). unwrap_or x 64) (h ∙ ap (λ (j : ℕ). request_in q a o switch l (take j ats)) hn)
+      ∙ request-as a o switch l ats size holds-used q ∙ ap (λ (j : ℕ). request_line q a o switch l ats j) (sym hc)
+
+  pub slots-request-below : (q : Request) (a : Answer) (o : Open) (k : ℕ) → Some k ≡ request_in q a o switch l (take n ats) → k < 64
+  slots-request-below q a o k h =
+      request-below a o switch l ats size holds-used q k (sym (h ∙ ap (λ (j : ℕ). request_in q a o switch l (take j ats)) hn))
+
+pub few-line : (n size switch : ℕ) (l : Limits) (ats : List Asset) (content k : ℕ) → n ≡ min size 64
+    → Some k ≡ line_in switch l (take n ats) content → k < 64
+few-line n size switch l ats content k hn h =
+    let w = line-within switch l (take n ats) content k (sym h) in omega (arith, length-take n ats)
+
+pub few-request : (n size switch : ℕ) (l : Limits) (ats : List Asset) (q : Request) (a : Answer) (o : Open) (k : ℕ) → n ≡ min size 64
+    → Some k ≡ request_in q a o switch l (take n ats) → k < 64
+few-request n size switch l ats q a o k hn h =
+    let w = request-within q a o switch l (take n ats) k (sym h) in omega (arith, length-take n ats)
 
 -- settling player i: A are the lines so far, n is the book so far
 module _ (b : Book) (ls : List Line) (t i : ℕ) (h : i < length b.players) (n : Book) (hn : n ≡ settled_to t i b) (A : List Line)

@@ -6,18 +6,20 @@
 // the assets by number.
 #![tactic(auto)]
 
-ghost use Rattle.std.specs.Prelude.{◌≡◌, true, false, MatchResult};
+ghost use Rattle.std.specs.Prelude.{◌≡◌, ◌<◌, set, true, false, MatchResult};
 ghost use Rattle.book.specs.Codes.{event_code};
 ghost use Rattle.book.specs.Decoded.{Invalid, Valid};
 ghost use Rattle.book.specs.declared.EventError.{EventError};
 ghost use Rattle.model.specs.Meters.{is_on};
 ghost use Rattle.model.specs.Record.{decoded};
+ghost use Rattle.model.specs.Report.{line_at, raised};
+ghost use Rattle.metering.specs.Good.{good_after};
 ghost use Rattle.batch.specs.Block.{Answered};
 ghost use Rattle.batch.specs.StepCases.{looked, admit};
 
 use book::{
-    Admission, Ask, Book, Entry, Event, EventError, Line, NEVER, Open, Player, RECORD_LAST,
-    RECORD_SIZE, Rank, Request, at_most_64, blank_entry, refusal,
+    Admission, Ask, Book, Entry, Event, EventError, Limits, Line, NEVER, Open, Player, RECORD_LAST,
+    RECORD_SIZE, Request, at_most_64, blank_entry, refusal,
 };
 use choice::{Best, consider_row, refreshed, row_of};
 use index::{end_of, ends_of, fill_places, reach_at, rows_of};
@@ -70,6 +72,17 @@ fn received(good: bool, s: &[u8]) -> Result<Event, EventError>
     }
 }
 
+// Raises a line by a use of so many seconds, of an entry with these limits; returns whether the list is still good.
+fn raise(report: &mut [Line; 64], k: usize, l: Limits, seconds: u32, good: bool) -> bool
+    requires { k < 64 }
+    ensures report_after { report.new ≡ set report.old k (raised l seconds (line_at report.old k)) }
+    ensures good_value { result ≡ good_after good (raised l seconds (line_at report.old k)) }
+{
+    let raised = raised_for(l, report[k], seconds);
+    report[k] = raised;
+    good_after(good, raised)
+}
+
 // If out has no room for 19 bytes per record, nothing is done.
 // Rules out: a record left out or answered twice, a last record cut short that gets no line, a byte touched after the text, a taken
 // event that the header does not tell of.
@@ -98,12 +111,14 @@ pub fn answer_block(
     let mut places = [0u8; 65536];
     let mut parents = [0u16; 64];
     let assets = book.assets;
-    fill_places(&mut places, &mut parents, assets, book.assetcount);
+    let slots = at_most_64(book.assetcount);
+    let used = &assets[..slots];
+    fill_places(&mut places, &mut parents, used);
     let entries = book.entries;
     let mut rows = rows_of(entries);
     let players = book.players;
     let mut ends = ends_of(players);
-    let mut good = good_lines(assets, book.assetcount, lines, lent);
+    let mut good = good_lines(used, lines, lent);
     let mut next: u32 = 0;
     let mut at: usize = 0;
     let mut i: usize = 0;
@@ -156,20 +171,9 @@ pub fn answer_block(
                                         book.entries[k] = y;
                                         let row = row_of(l, ended);
                                         rows[k] = row;
-                                        let content = o.content;
-                                        let w = line_for(
-                                            book.switch,
-                                            l,
-                                            assets,
-                                            book.assetcount,
-                                            content,
-                                        );
-                                        if w < 64 {
+                                        if let Some(k) = line_for(book.switch, l, used, o.content) {
                                             let seconds = o.until.saturating_sub(o.begin);
-                                            let line = report[w];
-                                            let raised = raised_for(l, line, seconds);
-                                            report[w] = raised;
-                                            good = good_after(good, raised);
+                                            good = raise(&mut report, k, l, seconds, good);
                                         }
                                     }
                                     let shutting = book.players[p];
@@ -198,16 +202,7 @@ pub fn answer_block(
                                     reach.usable,
                                     at_most_64(book.entrycount),
                                 );
-                                let mut best = Best {
-                                    suits: false,
-                                    switched: false,
-                                    at: 64,
-                                    rank: Rank {
-                                        flags: 2,
-                                        last: 0,
-                                        inherited: 0,
-                                    },
-                                };
+                                let mut best = Best::none();
                                 let mut e: usize = 0;
                                 while e < n {
                                     let row = rows[e];
@@ -222,12 +217,11 @@ pub fn answer_block(
                                     );
                                     e = e + 1;
                                 }
-                                let chosen = if best.at < 64 { Some(best.at) } else { None };
                                 begin_entry(
                                     o.on == 1,
                                     reach.usable,
                                     best.suits,
-                                    chosen,
+                                    best.at(),
                                     best.switched,
                                 )
                             }
@@ -275,21 +269,16 @@ pub fn answer_block(
                                 // The header is written in both cases and not behind them, which is quicker.
                                 let header = latest_by(ask.player, part.started);
                                 book.latest = header;
-                                let w = request_line(
+                                if let Some(k) = request_line(
                                     request,
                                     answer,
                                     o,
                                     book.switch,
                                     l,
-                                    assets,
-                                    book.assetcount,
-                                );
-                                if w < 64 {
+                                    used,
+                                ) {
                                     let seconds = request_seconds(request, t, o);
-                                    let line = report[w];
-                                    let raised = raised_for(l, line, seconds);
-                                    report[w] = raised;
-                                    good = good_after(good, raised);
+                                    good = raise(&mut report, k, l, seconds, good);
                                 }
                                 let end = end_of(current);
                                 ends[j] = end;

@@ -23,8 +23,7 @@ use Rattle.model.specs.Choice.{none_grantable}
 use Rattle.model.specs.Step.{Done, unchanged, noted, latest_by, recent_of, granted, do_begin, done, last_at, open_at, taken_step}
 use Rattle.model.specs.Meters.{shut, settled, is_on}
 use Rattle.model.proofs.Ledger.Concrete.{shut-last}
-use Rattle.choice.specs.declared.Best.{Best}
-use Rattle.choice.specs.Best.{best_after}
+use Rattle.choice.specs.Best.{Best, best_after}
 use Rattle.rules.specs.Codes.{begin_code}
 use Rattle.choice.specs.Choice.{best-some, best-nobody}
 use Rattle.uses.specs.declared.Effect.{Effect}

@@ -9,6 +9,7 @@ ghost use Rattle.model.specs.Step.{do_begin, do_continue, do_stop, do_cancel, do
 ghost use Rattle.model.specs.Record.{decoded};
 ghost use Rattle.model.specs.Choice.{catalog_of};
 ghost use Rattle.uses.specs.Uses.{placed, stored};
+ghost use Rattle.metering.specs.Good.{good_lines};
 ghost use Rattle.step.specs.Settle.{settled_book, with};
 ghost use Rattle.model.specs.Gate.{gate};
 ghost use Rattle.step.specs.Step.{left, taken_from};
@@ -17,7 +18,7 @@ ghost use Rattle.step.specs.Lines.{lines_taken, lines_with, reported_on};
 
 use book::{
     Admission, Answer, Ask, Book, Event, EventError, Line, Meters, Open, Outcome, Player, Recent,
-    Reported, Request, refusal,
+    Reported, Request, at_most_64, refusal,
 };
 use report::{give_lines, take_lines};
 use uses::Effect;
@@ -63,10 +64,17 @@ fn begin(b: Book, o: Open, asset: u16, kind: u8, ask: Ask) -> Result<Act, EventE
     requires { ask.time ≤ latest_time }
     ensures { left result o b.entries ≡ do_begin (catalog_of b) b.entries o ask asset kind }
 {
-    let reach = choice::reach_of(b.assets, b.assetcount, asset);
-    let best = choice::chosen(b.entries, b.entrycount, asset, reach.parent, kind, ask);
-    let at = if best.at < 64 { Some(best.at) } else { None };
-    let k = rules::begin_entry(o.on == 1, reach.usable, best.suits, at, best.switched)?;
+    let assets = &b.assets[..at_most_64(b.assetcount)];
+    let entries = &b.entries[..at_most_64(b.entrycount)];
+    let reach = choice::reach_of(assets, asset);
+    let best = choice::chosen(entries, asset, reach.parent, kind, ask);
+    let k = rules::begin_entry(
+        o.on == 1,
+        reach.usable,
+        best.suits,
+        best.at(),
+        best.switched,
+    )?;
     let x = book::entry_at(b.entries, k);
     Ok(Act {
         at: k,
@@ -222,6 +230,14 @@ fn lines_after(b: Book, e: Event, a: Answer, lines: [Line; 64]) -> [Line; 64]
     }
 }
 
+// Whether a list of so many lines is a good one for the book.
+// Rules out: a slot past the assets in use looked at.
+fn good_list(b: Book, lines: [Line; 64], count: usize) -> bool
+    ensures { result ≡ good_lines b.assets b.assetcount lines count }
+{
+    metering::good_lines(&b.assets[..at_most_64(b.assetcount)], lines, count)
+}
+
 // A record on a book, with the list of lines that it is lent, by value: how many were lent is passed beside them.
 // Rules out: 6 before 30, 1 before 2, an answer other than 6 to a record of 12 or 14 bytes, a list that is not good and comes back
 // changed.
@@ -229,7 +245,7 @@ fn lines_after(b: Book, e: Event, a: Answer, lines: [Line; 64]) -> [Line; 64]
 pub fn step_lines(b: Book, s: &[u8], lines: [Line; 64], count: usize) -> Reported
     ensures { result ≡ reported_on b (decoded s.now) lines count }
 {
-    if !metering::good_lines(b.assets, b.assetcount, lines, count) {
+    if !good_list(b, lines, count) {
         return Reported {
             answer: refusal(EventError::Lines),
             book: b,

@@ -11,6 +11,7 @@ use lib.ListN.{length, get_or, set, take, drop, length-set, get_or-eq_default}
 use lib.Seq.{set_out}
 use lib.Dec.{leb, ltb, eqb}
 use Rattle.numbers.proofs.Loops.{length-mapped}
+use Rattle.std.specs.Prelude.{Option, Some, None}
 use Rattle.book.specs.declared.Answer.{Answer}
 use Rattle.book.specs.declared.Asset.{Asset}
 use Rattle.book.specs.declared.Last.{Last}
@@ -42,21 +43,22 @@ use Rattle.model.specs.Report.{line_at, raised, overdue, recorded_all, ended_by,
 use Rattle.model.specs.Meters.{is_on, released, shut, expired}
 use Rattle.model.specs.Run.{record_count, record_at}
 use Rattle.rules.specs.Rules.{wire_of}
-use Rattle.choice.specs.declared.Best.{Best}
+use Rattle.choice.specs.declared.Best as code
 use Rattle.choice.specs.declared.Row.{Row}
 use Rattle.rules.specs.Codes.{begin_code}
-use Rattle.choice.specs.Best.{best_after, choice_after, considered, best-turn}
-use Rattle.choice.specs.Row.{row_of, row_considered, row-considered, refreshed_row, row-refreshed}
+use Rattle.choice.specs.Best.{best_after, choice_after, found_after, entry_taken, found-turn, seen, seen-found, at_of}
+use Rattle.choice.specs.Choice.{found-at}
+use Rattle.choice.specs.Row.{row_of, row_taken, row-taken, refreshed_row, row-refreshed}
 use Rattle.index.specs.Ends.{end_of, end_of_player, never}
 use Rattle.index.specs.Rows.{row_of_entry, no_row, row_at}
-use Rattle.index.specs.Places.{reach_at}
+use Rattle.index.specs.Places.{reach_at, places_of, parents_of}
 use Rattle.text.specs.Lines.{line_end, line_buffer}
 use Rattle.uses.specs.declared.Effect.{Effect}
 use Rattle.uses.specs.Uses.{placed, stored, cancel_on}
 use Rattle.step.specs.Settle.{settled_book, settled_to, settle-none, settle-turn, settle_one, with}
 use Rattle.model.proofs.Ledger.Concrete.{settled-size}
-use Rattle.metering.specs.Good.{good_lines, good_after, good-raised}
-use Rattle.metering.specs.Recording.{due-none, request_line, request_seconds, refused-kept}
+use Rattle.metering.specs.Good.{good_lines, good_after, good-raised, good-used}
+use Rattle.metering.specs.Recording.{due-none, line_in, request_in, request_seconds, refused-kept}
 use Rattle.step.specs.Lines.{lines_taken}
 use Rattle.step.specs.Step.{recent_on}
 use Rattle.batch.specs.Block.{step_on, fits, block_book, block_lines, block_written, block_buffer}
@@ -68,46 +70,46 @@ use Rattle.batch.specs.StepCases.{looked, looked-most, act_on, closing, done_on,
 use Rattle.batch.specs.StepCases.{planned-stop, planned-cancel, planned-begin, usable-is, parent_is, case-invalid}
 use Rattle.batch.specs.StepCases.{answered_by, noted-answer, case-taken, released-due, released-far, released-still, shut-not}
 use Rattle.batch.specs.StepCases.{rows_next, admit, admitted-few, reported-as, case-lines, lines-still, lines-out, lines-raised}
-use Rattle.batch.specs.StepCases.{lines-kept, acted-raised, acted-kept, case-refused, case-resent}
+use Rattle.batch.specs.StepCases.{few-line, few-request, slots-line, slots-line-below, slots-request, slots-request-below, lines-kept, acted-raised, acted-kept, case-refused, case-resent}
 use Rattle.batch.proofs.answer_block.Invariants.{rows_for, ends_for, Going}
 use Rattle.batch.proofs.answer_block.Goals as goal
 use Rattle.batch.proofs.answer_block.Goals.{then-next-t+else-loop-p-test, else-next-t, in-Begin+else-loop-e-test, in-Continue, in-Stop}
 use Rattle.batch.proofs.answer_block.Goals.{in-Cancel, in-Ok-found, in-Err-found, then-k-lt64-2, else-k-lt64-2, in-Begin-request}
 use Rattle.batch.proofs.answer_block.Goals.{in-Continue-request, in-Stop-request, in-Cancel-request, then-k-lt64-3, else-k-lt64-3}
-use Rattle.batch.proofs.answer_block.Goals.{then-w-lt64-2, else-w-lt64-2, then-end-t, else-end-t, then-k-lt64+then-w-lt64, then-best-lt64, else-best-lt64}
-use Rattle.batch.proofs.answer_block.Goals.{then-k-lt64+else-w-lt64, else-k-lt64}
+use Rattle.batch.proofs.answer_block.Goals.{then-end-t, else-end-t, then-k-lt64+in-Some, in-Some-request_line, in_default-request_line}
+use Rattle.batch.proofs.answer_block.Goals.{then-k-lt64+in_default, else-k-lt64}
 use Rattle.batch.proofs.answer_block.Tie as tie
 use Rattle.batch.proofs.answer_block.Lts as lts
 use Rattle.batch.proofs.answer_block.Reads as reads
 
 abbrev Entered : Type 0
-Entered = lts.Start tie.the-claims reads.Pre reads.Post goal.the-invariant-loop-p goal.the-decreases-loop-p goal.the-invariant-loop-e goal.the-decreases-loop-e goal.the-invariant-loop-i goal.the-decreases-loop-i
+Entered = lts.Start tie.the-claims reads.Pre reads.Post goal.the-invariant-loop-p goal.the-decreases-loop-p goal.the-invariant-loop-e goal.the-decreases-loop-e goal.the-invariant-loop-i goal.the-decreases-loop-i tie.handed_clauses
 
 abbrev Turn : Type 0
-Turn = lts.In-loop tie.the-claims reads.Pre reads.Post goal.the-invariant-loop-p goal.the-decreases-loop-p goal.the-invariant-loop-e goal.the-decreases-loop-e goal.the-invariant-loop-i goal.the-decreases-loop-i
+Turn = lts.In-loop tie.the-claims reads.Pre reads.Post goal.the-invariant-loop-p goal.the-decreases-loop-p goal.the-invariant-loop-e goal.the-decreases-loop-e goal.the-invariant-loop-i goal.the-decreases-loop-i tie.handed_clauses
 
 -- the record is decoded, and admitted if the list is good
 abbrev Read : Type 0
-Read = lts.After-received tie.the-claims reads.Pre reads.Post goal.the-invariant-loop-p goal.the-decreases-loop-p goal.the-invariant-loop-e goal.the-decreases-loop-e goal.the-invariant-loop-i goal.the-decreases-loop-i
+Read = lts.After-received tie.the-claims reads.Pre reads.Post goal.the-invariant-loop-p goal.the-decreases-loop-p goal.the-invariant-loop-e goal.the-decreases-loop-e goal.the-invariant-loop-i goal.the-decreases-loop-i tie.handed_clauses
 
 -- it holds an event, and the gate has judged it
 abbrev Judged : Type 0
-Judged = lts.After-gate_of tie.the-claims reads.Pre reads.Post goal.the-invariant-loop-p goal.the-decreases-loop-p goal.the-invariant-loop-e goal.the-decreases-loop-e goal.the-invariant-loop-i goal.the-decreases-loop-i
+Judged = lts.After-gate_of tie.the-claims reads.Pre reads.Post goal.the-invariant-loop-p goal.the-decreases-loop-p goal.the-invariant-loop-e goal.the-decreases-loop-e goal.the-invariant-loop-i goal.the-decreases-loop-i tie.handed_clauses
 
 -- the event is taken
 abbrev Taken : Type 0
-Taken = lts.Past-After-enum_told_along2 tie.the-claims reads.Pre reads.Post goal.the-invariant-loop-p goal.the-decreases-loop-p goal.the-invariant-loop-e goal.the-decreases-loop-e goal.the-invariant-loop-i goal.the-decreases-loop-i
+Taken = lts.Past-After-enum_told_along2 tie.the-claims reads.Pre reads.Post goal.the-invariant-loop-p goal.the-decreases-loop-p goal.the-invariant-loop-e goal.the-decreases-loop-e goal.the-invariant-loop-i goal.the-decreases-loop-i tie.handed_clauses
 
 -- every use that is due has ended
 abbrev AllSettled : Type 0
-AllSettled = lts.Joined2 tie.the-claims reads.Pre reads.Post goal.the-invariant-loop-p goal.the-decreases-loop-p goal.the-invariant-loop-e goal.the-decreases-loop-e goal.the-invariant-loop-i goal.the-decreases-loop-i
+AllSettled = lts.Joined2 tie.the-claims reads.Pre reads.Post goal.the-invariant-loop-p goal.the-decreases-loop-p goal.the-invariant-loop-e goal.the-decreases-loop-e goal.the-invariant-loop-i goal.the-decreases-loop-i tie.handed_clauses
 
 -- the entry and the code are known
 abbrev Chosen : Type 0
-Chosen = lts.At-match4-branch tie.the-claims reads.Pre reads.Post goal.the-invariant-loop-p goal.the-decreases-loop-p goal.the-invariant-loop-e goal.the-decreases-loop-e goal.the-invariant-loop-i goal.the-decreases-loop-i
+Chosen = lts.At-match5-branch tie.the-claims reads.Pre reads.Post goal.the-invariant-loop-p goal.the-decreases-loop-p goal.the-invariant-loop-e goal.the-decreases-loop-e goal.the-invariant-loop-i goal.the-decreases-loop-i tie.handed_clauses
 
 abbrev entered : Turn → Entered
-entered c = c.before.before.before.before.before.before.before.before.before.before.before.before.before.before
+entered c = c.before.before.before.before.before.before.before.before.before.before.before.before.before.before.before.before
 
 abbrev turn : Read → Turn
 turn c = c.before.before.before
@@ -129,6 +131,9 @@ entries-64 c = search length-mapped
 
 players-16 : (c : Entered) → length c.args.b.players ≡ 16
 players-16 c = search length-mapped
+
+assets-64 : (c : Entered) → length c.args.b.assets ≡ 64
+assets-64 c = search length-mapped
 
 lines-64 : (c : Entered) → length c.args.lines ≡ 64
 lines-64 c = search length-mapped
@@ -249,20 +254,26 @@ planned c =
           let kind = w.from-kind.result in
           let r = w.reach_at-reach.result in
           let tables = c.fill_places.ensures in
-          let hr = w.reach_at-reach.ensures ∙ ap₂ (λ (x y : List ℕ). reach_at x y asset) tables.0 tables.1 in
+          let ats = start.args.b.assets in
+          let size : length ats ≡ 64 = assets-64 start in
+          let room : min start.args.b.assetcount 64 ≤ length ats = omega arith in
+          let hr = w.reach_at-reach.ensures ∙ ap₂ (λ (x y : List ℕ). reach_at x y asset) tables.0 tables.1
+          ∙ ap (λ (j : ℕ). reach_at (places_of (take j ats) (length (take j ats))) (parents_of (take j ats) (length (take j ats))) asset)
+          c.at_most_64-slots.ensures in
           let end : w.loop-e.e ≡ w.looked_at-n.result = omega (arith, w.loop-e.invariant.0, w.loop-e-test.false) in
+          let few : w.loop-e.e ≤ 64 = omega (arith, w.loop-e.invariant.0, w.loop-e.invariant.1) in
+          let is-seen : seen w.loop-e.best ≡ best_after n.entries asset r.parent kind (asks n e) w.loop-e.e =
+          ap seen w.loop-e.invariant.2 ∙ seen-found n.entries asset r.parent kind (asks n e) w.loop-e.e in
           subst (Planned n e o) (sym w.found-is)
-          (planned-begin n e o sort asset kind w.looked_at-n.result r w.loop-e.best
+          (planned-begin n e o sort asset kind w.looked_at-n.result r (seen w.loop-e.best)
           ho w.in-Begin.is w.from-kind.ensures
-          (usable-is n start.args.b.assets start.args.b.assetcount asset r kept.0 kept.1 (omega arith) hr)
-          (parent_is n start.args.b.assets start.args.b.assetcount asset r kept.0 kept.1 (omega arith) hr)
+          (usable-is n start.args.b.assets start.args.b.assetcount asset r kept.0 kept.1 (omega arith) room hr)
+          (parent_is n start.args.b.assets start.args.b.assetcount asset r kept.0 kept.1 (omega arith) room hr)
           (w.looked_at-n.ensures ∙ ap (looked (is_on o) r.usable) w.at_most_64.ensures)
-          (w.loop-e.invariant.2 ∙ ap (best_after n.entries asset r.parent kind (asks n e)) end)
-          ht w.if-best-lt64.chosen
-          (elim w.if-best-lt64.branch [
-            | then-best-lt64 v ↦ v.chosen-is ∙ rw (lt-ltb _ _ v.if-best-lt64.true) refl
-            | else-best-lt64 v ↦ v.chosen-is ∙ rw (le-ltb _ _ v.if-best-lt64.false) refl
-          ])
+          (is-seen ∙ ap (best_after n.entries asset r.parent kind (asks n e)) end)
+          ht w.at.result
+          (w.at.ensures ∙ ap (λ (x : code.Best). at_of x.granted) w.loop-e.invariant.2
+          ∙ found-at n.entries asset r.parent kind (asks n e) w.loop-e.e few ∙ ap found_at (sym is-seen))
           w.begin_entry-found.result w.begin_entry-found.ensures)
       | in-Continue w ↦ subst (Planned n e o) (sym w.found-is)
           (planned-continue n e o ho w.further_entry-found.result w.further_entry-found.ensures ht w.in-Continue.is)
@@ -284,7 +295,7 @@ recent-is c =
 
 -- the operation is done, or refused
 abbrev Acted : Type 0
-Acted = lts.At-match5-branch tie.the-claims reads.Pre reads.Post goal.the-invariant-loop-p goal.the-decreases-loop-p goal.the-invariant-loop-e goal.the-decreases-loop-e goal.the-invariant-loop-i goal.the-decreases-loop-i
+Acted = lts.At-match6-branch tie.the-claims reads.Pre reads.Post goal.the-invariant-loop-p goal.the-decreases-loop-p goal.the-invariant-loop-e goal.the-decreases-loop-e goal.the-invariant-loop-i goal.the-decreases-loop-i tie.handed_clauses
 
 abbrev chosen : Acted → Chosen
 chosen c = c.before
@@ -292,8 +303,8 @@ chosen c = c.before
 -- the way on which the operation is done, and not refused
 abbrev Worked : Acted → Type 0
 Worked c =
-    lts.By-16-At-match5-branch-in-Ok-found tie.the-claims reads.Pre reads.Post goal.the-invariant-loop-p goal.the-decreases-loop-p
-    goal.the-invariant-loop-e goal.the-decreases-loop-e goal.the-invariant-loop-i goal.the-decreases-loop-i c.before
+    lts.By-16-At-match6-branch-in-Ok-found tie.the-claims reads.Pre reads.Post goal.the-invariant-loop-p goal.the-decreases-loop-p
+    goal.the-invariant-loop-e goal.the-decreases-loop-e goal.the-invariant-loop-i goal.the-decreases-loop-i tie.handed_clauses c.before
     c.match-found.book c.match-found.report c.match-found.rows c.match-found.ends c.match-found.good c.match-found.next
     c.match-found.answer c.match-found.current
 
@@ -473,39 +484,49 @@ lines-by c =
             | in-Stop-request v ↦ v.request-is
             | in-Cancel-request v ↦ v.request-is
           ] ∙ request-kept d in
-          let line = w.request_line-w.result in
-          let hw : line ≡ request_line e.request part.answer o n.switch (limits_at es k) start.b.assets n.assetcount =
-          w.request_line-w.ensures
-          ∙ ap₂ (λ (v m : ℕ). request_line w.match-request-2.request part.answer o v x.limits start.b.assets m) same-book.0 same-book.1
-          ∙ ap₂ (λ (y : Request) (u : Entry). request_line y part.answer o n.switch u.limits start.b.assets n.assetcount)
-          same-request is_x in
+          let slots = d.at_most_64-slots in
+          let used = take slots.result start.b.assets in
+          let size : length start.b.assets ≡ 64 = assets-64 (entered (turn (read (judged (taken s))))) in
+          let asked : request_in w.match-request-2.request part.answer o w.if-k-lt64-3.book.switch x.limits used
+          ≡ request_in e.request part.answer o n.switch (limits_at es k) used =
+          ap (λ (v : ℕ). request_in w.match-request-2.request part.answer o v x.limits used) same-book.0
+          ∙ ap₂ (λ (y : Request) (u : Entry). request_in y part.answer o n.switch u.limits used) same-request is_x in
+          let hw = λ (r : Option ℕ) (q : r ≡ request_in e.request part.answer o n.switch (limits_at es k) used).
+          slots-request start.b.assets start.b.assetcount slots.result n.assetcount size slots.ensures (assets-kept s).1 n.switch (limits_at es k)
+          e.request part.answer o r q in
           let ha : start.b.assets ≡ b.assets = sym l.invariant.6 in
-          let after : (w.if-w-lt64-2.report ≡ recorded_all b A (ended_by e.request e.time o part.answer)) × (Good w.if-w-lt64-2.good w.if-w-lt64-2.report) ×
-          (length w.if-w-lt64-2.report ≡ 64) =
-          elim w.if-w-lt64-2.branch [
-            | then-w-lt64-2 u ↦
-                let r : Line = u.raised_for-raised-then-w-lt64-2.result in
+          let after : (w.match-request_line.report ≡ recorded_all b A (ended_by e.request e.time o part.answer))
+          × (Good w.match-request_line.good w.match-request_line.report) × (length w.match-request_line.report ≡ 64) =
+          elim w.match-request_line.branch [
+            | in-Some-request_line u ↦
+                let line = u.in-Some-request_line.k in
+                let found = u.in-Some-request_line.ensures ∙ asked in
+                let small = slots-request-below start.b.assets start.b.assetcount slots.result n.assetcount size slots.ensures (assets-kept s).1
+                n.switch (limits_at es k) e.request part.answer o line found in
                 let sec = u.request_seconds-seconds.result in
                 let y : Line = raised (limits_at es k) sec (line_at A line) in
                 let hs : sec ≡ request_seconds e.request e.time o = u.request_seconds-seconds.ensures ∙ ap
                 (λ (q : Request). request_seconds q e.time o) same-request in
-                let hr : r ≡ y = u.raised_for-raised-then-w-lt64-2.ensures ∙ ap (λ (v : Entry). raised v.limits sec (line_at A line)) is_x in
-                let to : w.if-w-lt64-2.report ≡ set A line y = u.report-is ∙ ap (set A line) hr in (
-                  to ∙ acted-raised b n e.time z.0.is-settled A start.b.assets ha o part.answer e.request k names line hw sec hs
-                      u.if-w-lt64-2.true,
-                  moved w.if-w-lt64-2.good _ w.if-w-lt64-2.report (set A line y) (u.good-is ∙ u.good_after-good-then-w-lt64-2.ensures ∙ ap₂ good_after z.4 hr) to
+                let hr : raised x.limits sec (line_at A line) ≡ y = ap (λ (v : Entry). raised v.limits sec (line_at A line)) is_x in
+                let to : w.match-request_line.report ≡ set A line y = u.report-is ∙ u.raise-good-in-Some-request_line.ensures.report_after ∙ ap (set A line) hr in (
+                  to ∙ acted-raised b n e.time z.0.is-settled A start.b.assets ha o part.answer e.request k names line (hw (Some line) found) sec hs
+                      small,
+                  moved w.match-request_line.good _ w.match-request_line.report (set A line y)
+                      (u.good-is ∙ u.raise-good-in-Some-request_line.ensures.good_value ∙ ap₂ good_after z.4 hr) to
                       (good-raised start.b.assets start.b.assetcount A start.lent line (limits_at es k) sec
-                      (omega (arith, u.if-w-lt64-2.true, z.5)) u.if-w-lt64-2.true),
+                      (omega (arith, small, z.5)) small),
                   ap length to ∙ length-set A line y ∙ z.5,
                 )
-            | else-w-lt64-2 u ↦ (
-              u.report-is ∙ acted-kept b n e.time z.0.is-settled A start.b.assets ha o part.answer e.request k names line hw u.if-w-lt64-2.false,
-              moved w.if-w-lt64-2.good s.if-next-t.good w.if-w-lt64-2.report A u.good-is u.report-is z.4,
-              ap length u.report-is ∙ z.5,
-            )
+            | in_default-request_line u ↦
+                let found = u.in_default-request_line.ensures ∙ asked in (
+                  u.report-is ∙ acted-kept b n e.time z.0.is-settled A start.b.assets ha o part.answer e.request k names 64 (hw None found)
+                      (omega arith),
+                  moved w.match-request_line.good s.if-next-t.good w.match-request_line.report A u.good-is u.report-is z.4,
+                  ap length u.report-is ∙ z.5,
+                )
           ] in (
             w.report-is ∙ after.0 ∙ ap (λ (a : Answer). recorded_all b A (ended_by e.request e.time o a)) (sym w.answer-is),
-            moved c.match-found.good w.if-w-lt64-2.good c.match-found.report w.if-w-lt64-2.report w.good-is w.report-is after.1,
+            moved c.match-found.good w.match-request_line.good c.match-found.report w.match-request_line.report w.good-is w.report-is after.1,
             ap length w.report-is ∙ after.2,
           )
       | in-Err-found w ↦
@@ -597,18 +618,22 @@ returns-then-out-count c =
 pub loop-i-init : goal.loop-i-init
 loop-i-init c =
     let start = c.before in
-    let a = start.args in (
+    let a = start.args in
+    let size : length a.b.assets ≡ 64 = assets-64 start.before.before.before.before.before.before.before.before.before.before.before.before.before.before in
+    let room : min a.b.assetcount 64 ≤ length a.b.assets = omega arith in (
       omega arith,
       progress-none a.b a.lines a.lent a.records.now a.out.now,
       expiry-start a.b.players,
-      entries-64 start.before.before.before.before.before.before.before.before.before.before.before.before,
-      players-16 start.before.before.before.before.before.before.before.before.before.before.before.before,
+      entries-64 start.before.before.before.before.before.before.before.before.before.before.before.before.before.before,
+      players-16 start.before.before.before.before.before.before.before.before.before.before.before.before.before.before,
       c.rows_of-rows.ensures,
       refl,
       refl,
       c.ends_of-ends.ensures,
-      c.good_lines-good.ensures,
-      lines-64 start.before.before.before.before.before.before.before.before.before.before.before.before,
+      c.good_lines-good.ensures
+          ∙ ap (λ (j : ℕ). good_lines (take j a.b.assets) (length (take j a.b.assets)) a.lines a.lent) c.at_most_64-slots.ensures
+          ∙ good-used a.b.assets a.b.assetcount a.lines a.lent room,
+      lines-64 start.before.before.before.before.before.before.before.before.before.before.before.before.before.before,
     )
 
 pub loop-i-preserved-in-Err : goal.loop-i-preserved-in-Err
@@ -675,6 +700,12 @@ loop-p-preserved c =
     let ht = (is-admitted start).early in
     let len : length es ≡ 64 = ap (λ (m : Book). length m.entries) l.invariant.1 ∙ settled-size t (take l.p b.players)
     b.entries ∙ g.invariant.3 in
+    let slots = c.at_most_64-slots in
+    let size : length given.b.assets ≡ 64 = assets-64 (entered (turn (read (judged start)))) in
+    let same-count : l.book.assetcount ≡ given.b.assetcount = ap (λ (m : Book). m.assetcount) l.invariant.1 ∙ g.invariant.7 in
+    let hw = λ (r : Option ℕ) (q : r ≡ line_in l.book.switch (limits_at es o.entry) (take slots.result given.b.assets) o.content).
+    slots-line given.b.assets given.b.assetcount slots.result l.book.assetcount size slots.ensures same-count l.book.switch
+    (limits_at es o.entry) o.content r q in
     let few : l.p < length b.players = omega (arith, g.invariant.4) in
     let here : l.p < length ps = omega (arith, l.invariant.5) in
     let due : leb (get_or l.ends l.p 0) t ≡ expired t o = reached ps l.ends l.invariant.4 t l.p ht here in
@@ -690,31 +721,32 @@ loop-p-preserved c =
           let inner : (w.if-k-lt64.book ≡ with l.book (released t l.p o es) ps) × (w.if-k-lt64.rows ≡ rows_for w.if-k-lt64.book) × (w.if-k-lt64.report ≡ onto) ×
           (Good w.if-k-lt64.good w.if-k-lt64.report) =
           elim w.if-k-lt64.branch [
-            | then-k-lt64+then-w-lt64 v ↦
+            | then-k-lt64+in-Some v ↦
                 let y : Entry = record { limits = limits_at es o.entry; meters = v.ended_meters-ended.result } in
-                let line = v.line_for-w.result in
-                let r : Line = v.raised_for-raised.result in
+                let line = v.in-Some.k in
+                let small = slots-line-below given.b.assets given.b.assetcount slots.result l.book.assetcount size slots.ensures same-count l.book.switch
+                (limits_at es o.entry) o.content line v.in-Some.ensures in
+                let hr = ap (λ (m : ℕ). raised (limits_at es o.entry) m (line_at l.report line)) v.saturating_sub-seconds.ensures in
                 let z : Line = raised (limits_at es o.entry) (o.until - o.begin) (line_at l.report line) in
-                let hr : r ≡ z = v.raised_for-raised.ensures ∙ ap (λ (m : ℕ). raised (limits_at es o.entry) m (line_at l.report line)) v.saturating_sub-seconds.ensures in
-                let to : w.if-k-lt64.report ≡ set l.report line z = v.report-is ∙ ap (set l.report line) hr in (
+                let to : w.if-k-lt64.report ≡ set l.report line z = v.report-is ∙ v.raise-good.ensures.report_after ∙ ap (set l.report line) hr in (
                   v.book-is ∙ ap put v.ended_meters-ended.ensures ∙ ap (λ (x : List Entry). with l.book x ps) (released-due t l.p o es d),
                   v.rows-is ∙ rows_next es l.rows o.entry y v.row_of-row.result l.invariant.3 v.row_of-row.ensures ∙ ap rows_for (sym v.book-is),
                   to ∙ lines-raised b g.report t l.p few l.book l.invariant.1 l.report l.invariant.6 given.b.assets (sym g.invariant.6) d
-                      line v.line_for-w.ensures (o.until - o.begin) refl v.if-w-lt64.true,
+                      line (hw (Some line) v.in-Some.ensures) (o.until - o.begin) refl small,
                   (
-                    v.good-is ∙ v.good_after-good.ensures ∙ ap₂ good_after l.invariant.7 hr
+                    v.good-is ∙ v.raise-good.ensures.good_value ∙ ap₂ good_after l.invariant.7 hr
                         ∙ good-raised given.b.assets b.assetcount l.report given.lent line (limits_at es o.entry) (o.until - o.begin)
-                        (omega (arith, v.if-w-lt64.true, l.invariant.8)) v.if-w-lt64.true
+                        (omega (arith, small, l.invariant.8)) small
                         ∙ ap (λ (ms : List Line). good_lines given.b.assets b.assetcount ms given.lent) (sym to),
                     ap length to ∙ length-set l.report line z ∙ l.invariant.8,
                   ),
                 )
-            | then-k-lt64+else-w-lt64 v ↦
+            | then-k-lt64+in_default v ↦
                 let y : Entry = record { limits = limits_at es o.entry; meters = v.ended_meters-ended.result } in (
                   v.book-is ∙ ap put v.ended_meters-ended.ensures ∙ ap (λ (x : List Entry). with l.book x ps) (released-due t l.p o es d),
                   v.rows-is ∙ rows_next es l.rows o.entry y v.row_of-row.result l.invariant.3 v.row_of-row.ensures ∙ ap rows_for (sym v.book-is),
                   v.report-is ∙ lines-kept b g.report t l.p few l.book l.invariant.1 l.report l.invariant.6 given.b.assets (sym g.invariant.6) d
-                      v.line_for-w.result v.line_for-w.ensures v.if-w-lt64.false,
+                      64 (hw None v.in_default.ensures) (omega arith),
                   (
                     v.good-is ∙ l.invariant.7 ∙ ap (λ (ms : List Line). good_lines given.b.assets b.assetcount ms given.lent) (sym v.report-is),
                     ap length v.report-is ∙ l.invariant.8,
@@ -774,17 +806,25 @@ loop-p-preserved c =
     )
 
 pub loop-e-init : goal.loop-e-init
-unfolding best_after choice_after choose_of any_of
+unfolding found_after choice_after choose_of any_of
 loop-e-init c =
     let n = c.if-next-t.book in
     let m = looked-most (is_on (open_at n.players ((event-at (judged
-    (taken c.before.before.before.before.before.before.before.before.before.before.before))).player % 16))) c.reach_at-reach.result.usable c.at_most_64.result in
-    (omega arith, omega (arith, m, c.looked_at-n.ensures, c.at_most_64.ensures, min-le_right n.entrycount 64), refl)
+    (taken c.before.before.before.before.before.before.before.before.before.before.before.before))).player % 16))) c.reach_at-reach.result.usable c.at_most_64.result in
+    (omega arith, omega (arith, m, c.looked_at-n.ensures, c.at_most_64.ensures, min-le_right n.entrycount 64), c.none-best.ensures)
+
+-- a line that is raised is one of the 64
+pub raise-good-requires : goal.raise-good-requires
+raise-good-requires c = few-line _ _ _ _ _ _ c.in-Some.k c.at_most_64-slots.ensures c.in-Some.ensures
+
+pub raise-good-requires-in-Some-request_line : goal.raise-good-requires-in-Some-request_line
+raise-good-requires-in-Some-request_line c =
+    few-request _ _ _ _ _ _ _ _ c.in-Some-request_line.k c.at_most_64-slots.ensures c.in-Some-request_line.ensures
 
 pub loop-e-preserved : goal.loop-e-preserved
 loop-e-preserved c =
     let l = c.loop-e in
-    let s = c.before.before.before.before.before.before.before.before.before.before.before.before.before.before.before in
+    let s = c.before.before.before.before.before.before.before.before.before.before.before.before.before.before.before.before in
     let es = s.if-next-t.book.entries in
     let ask = asks s.if-next-t.book (event-at (judged (taken s))) in
     let asset = c.in-Begin.asset in
@@ -798,10 +838,10 @@ loop-e-preserved c =
       omega arith,
       l.invariant.1,
       c.consider_row-best.ensures
-          ∙ ap (λ (x : Row). row_considered asset r.parent kind ask l.e x l.best) row
-          ∙ row-considered asset r.parent kind ask l.e (limits_at es l.e) (meters_at es l.e) l.best early
-          ∙ ap (λ (x : Best). considered asset r.parent kind ask l.e (limits_at es l.e) (meters_at es l.e) x) l.invariant.2
-          ∙ sym (best-turn es asset r.parent kind ask l.e),
+          ∙ ap (λ (x : Row). row_taken asset r.parent kind ask l.e x l.best) row
+          ∙ row-taken asset r.parent kind ask l.e (limits_at es l.e) (meters_at es l.e) l.best early
+          ∙ ap (λ (x : code.Best). entry_taken asset r.parent kind ask l.e (limits_at es l.e) (meters_at es l.e) x) l.invariant.2
+          ∙ sym (found-turn es asset r.parent kind ask l.e),
     )
 
 pub loop-i-preserved : goal.loop-i-preserved

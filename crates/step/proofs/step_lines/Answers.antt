@@ -28,5 +28,5 @@ pub returns-in-Ok : goal.returns-in-Ok
 unfolding reported_on
 returns-in-Ok c =
     let a = c.args in
-    rw (sym c.good_lines.ensures ∙ c.if-not-good_lines.false, c.in-Ok.ensures)
+    rw (sym c.good_list.ensures ∙ c.if-not-good_list.false, c.in-Ok.ensures)
     (event-on a.b _ a.lines _ _ c.step-o.ensures c.lines_after.ensures)
