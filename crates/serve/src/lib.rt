@@ -17,7 +17,7 @@ use turn::{IMAGE, INPUT, OUT};
 // Reads rights.rbk to the start of image, and returns how many bytes. A missing file counts as empty, and so does one that cannot be read.
 fn read_image(rt: &(impl Clock + Eprint + Files), image: &mut [u8; IMAGE]) -> usize {
     match fs::open(rt, "rights.rbk") {
-        Ok(mut file) => stream::read_all(rt, &mut file, b"rights.rbk", image).length,
+        Ok(mut file) => stream::read_all(rt, &mut file, b"rights.rbk", image).unwrap_or(0),
         Err(e) => {
             if e.kind() != ErrorKind::NotFound {
                 stream::fail(rt, b"rights.rbk", e);
@@ -81,8 +81,7 @@ fn answer_reads<R: Read, W: Write>(
         match read_behind(rt, reader, input, kept) {
             Ok(got) => {
                 let ended = got == 0;
-                let there = stream::filled(input, kept, got.cast_signed());
-                let t = turn::turn(book, lines, lent, input, there, ended, out);
+                let t = turn::turn(book, lines, lent, input, kept + got, ended, out);
                 if !print_first(rt, writer, out, t.written) {
                     return false;
                 }
