@@ -17,15 +17,27 @@ ghost use Rattle.embed.specs.FromXml.{xml_code, xml_image, xml_size, xml_element
 
 use book::{Ask, Book, Entry, Line, RECORD_LAST, RECORD_SIZE};
 use fill::NO_ROOM;
-use image_read::Loaded;
 use report::{give_lines, take_lines};
+
+#[derive(Clone, Copy)]
+struct Loaded {
+    code: u8,
+    book: Book,
+}
 
 // The code of an image, and the book in it; blank if the image is refused.
 fn load(image: &[u8]) -> Loaded
     ensures { (result.code ≡ read_code image.now) × (result.book ≡ held_book image.now) }
 {
-    let blank = book::blank_book();
-    image_read::read(blank, image)
+    let mut held = book::blank_book();
+    let code = match image_read::read(&mut held, image) {
+        Ok(()) => 0,
+        Err(e) => u8::from(e),
+    };
+    Loaded {
+        code: code,
+        book: held,
+    }
 }
 
 // The same for the image that is the first `size` bytes of a buffer; no byte at all if the buffer has not so many.
