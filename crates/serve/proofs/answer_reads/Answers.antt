@@ -17,23 +17,23 @@ kept_few : (input : List ℕ) (n : ℕ) (ended : Bool) (kept : ℕ) → kept ≡
 kept_few input n ended kept e = rw e (kept_small input n ended)
 
 pub print_first-requires : goal.print_first-requires
-print_first-requires g c = text_there _ _ _ _ _ _ _ _ _ c.turn-t.ensures.written_value c.turn-t.ensures.out_after
+print_first-requires g c = text_there _ _ _ _ _ _ _ _ _ c.in-Some.ensures.written_value c.in-Some.ensures.out_after
 
 pub returns-then-ended : goal.returns-then-ended
 returns-then-ended g c =
     let read = c.in-Ok.ensures in
     let room : c.loop.kept < length c.read_behind.new.input = omega arith in
     λ _ ls first lent.
-    turn_ends _ ls _ _ _ _ _ _ _ _ _ _ _ _ _ _ _ _ _ _ refl read.same read.fits c.turn-t.ensures.written_value c.turn-t.ensures.out_after
+    turn_ends _ ls _ _ _ _ _ _ _ _ _ _ _ _ _ _ _ _ _ _ refl read.same read.fits c.in-Some.ensures.written_value c.in-Some.ensures.out_after
     (c.loop.invariant.1 ls first lent) read.bytes (c.if-not-print_first.ensures (search rules)) (eq-eqb c.in-Ok.got 0 c.if-ended.true) c.if-ended.true (read.end c.if-ended.true room)
 
 pub loop-preserved : goal.loop-preserved
 loop-preserved g c =
     let read = c.in-Ok.ensures in
-    let turned = c.turn-t.ensures in (
+    let turned = c.in-Some.ensures in (
       kept_few _ _ _ _ turned.kept_value,
       λ ls first lent.
           turn_goes_on _ ls _ _ _ _ _ _ _ _ _ _ _ _ _ _ _ _ _ _ refl read.same read.fits turned.written_value turned.out_after
-          (c.loop.invariant.1 ls first lent) read.bytes (c.if-not-print_first.ensures (search rules)) _ _ _ _ (ne_eqb c.in-Ok.got 0 c.if-ended.false) turned.book_value
-          turned.lines_value turned.kept_value turned.input_after,
+          (c.loop.invariant.1 ls first lent) read.bytes (c.if-not-print_first.ensures (search rules)) _ _ _ _ _ (ne_eqb c.in-Ok.got 0 c.if-ended.false) turned.book_value
+          turned.lines_value turned.lent_value turned.kept_value turned.input_after,
     )
