@@ -11,7 +11,7 @@ use borrow.Author.Tests.{ne_eqb, le-leb, lt-leb}
 use Rattle.numbers.proofs.Tests.{on_test}
 use Rattle.book.specs.declared.Line.{Line}
 use Rattle.book.specs.declared.Book.{Book}
-use Rattle.book.specs.declared.Decoded.{Decoded}
+use Rattle.book.specs.Decoded.{Decoded}
 use Rattle.model.specs.Book.{assets_in, entries_in}
 use Rattle.model.specs.Image.{length_of, write_buffer, read_code}
 use Rattle.model.specs.Record.{decoded}

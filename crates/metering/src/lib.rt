@@ -12,7 +12,7 @@ use book::{Answer, Asset, Book, Limits, Line, Open, Request, at_most_64};
 use image_limits::asset_position;
 use numbers::saturating_sub;
 use report::raise_one;
-use rules::{kind_number, momentary};
+use rules::momentary;
 use uses::due;
 
 // No number of a list is as great as that.
@@ -131,7 +131,7 @@ pub fn record_request(
 {
     match q {
         Request::Begin(kind, asset) => {
-            if (a.code == 0) & momentary(kind_number(kind)) {
+            if (a.code == 0) & momentary(u8::from(kind)) {
                 record_end(b, lines, a.entry, asset as u32, 0)
             } else {
                 lines
@@ -180,7 +180,7 @@ pub fn request_line(
 {
     match q {
         Request::Begin(kind, asset) => {
-            if (a.code == 0) & momentary(kind_number(kind)) {
+            if (a.code == 0) & momentary(u8::from(kind)) {
                 line_for(switch, l, assets, assetcount, asset as u32)
             } else {
                 64

@@ -4,6 +4,7 @@
 #![tactic(auto)]
 
 ghost use Rattle.std.specs.Prelude.{◌≡◌, ◌≤◌};
+ghost use Rattle.book.specs.Codes.{event_code};
 ghost use Rattle.model.specs.Book.{latest_time};
 ghost use Rattle.model.specs.Meters.{expired, shut, begun, continued, ended, cancelled};
 ghost use Rattle.model.specs.Step.{starts_interval};
@@ -12,9 +13,11 @@ ghost use Rattle.uses.specs.Uses.{kept, begin_on, continue_on, stop_on, cancel_o
 ghost use Rattle.uses.specs.Room.{Room, MoreRoom};
 ghost use Rattle.uses.specs.Due.{any_due};
 
-use book::{Answer, Ask, LATEST_TIME, Limits, Meters, Open, Player, Recent, closed_use, refusal};
+use book::{
+    Answer, Ask, EventError, LATEST_TIME, Limits, Meters, Open, Player, Recent, closed_use, refusal,
+};
 use numbers::{one, pick, with_bit};
-use rules::{begin_code, flags_of, grantable, least_until, momentary, when};
+use rules::{flags_of, grantable, least_until, momentary, when};
 
 // What an operation leaves: the answer, the entry's meters, the asking player's use, and whether it opened a use that started the
 // interval.
@@ -28,11 +31,11 @@ pub struct Effect {
 
 // A refusal that leaves meters and use as they are.
 // Rules out: an entry other than 255, meters or a use changed.
-pub fn kept(code: u8, m: Meters, o: Open) -> Effect
-    ensures { result ≡ kept code m o }
+pub fn kept(error: EventError, m: Meters, o: Open) -> Effect
+    ensures { result ≡ kept (event_code error) m o }
 {
     Effect {
-        answer: refusal(code),
+        answer: refusal(error),
         meters: m,
         current: o,
         started: false,
@@ -146,12 +149,11 @@ pub fn begin_on(l: Limits, m: Meters, o: Open, i: u8, asset: u16, ask: Ask) -> E
     ensures { result ≡ begin_on i asset ask l m o }
 {
     let t = ask.time;
-    let none = begin_code(false, true, true, 64, false);
     if !grantable(l, m, ask) {
-        return kept(none, m, o);
+        return kept(EventError::Spent, m, o);
     }
     if LATEST_TIME < t {
-        return kept(none, m, o);
+        return kept(EventError::Spent, m, o);
     }
     let until = grant_until(l, m, t);
     let begun = begun_meters(l, m, ask.player, t, until);
@@ -180,14 +182,14 @@ pub fn continue_on(l: Limits, m: Meters, o: Open, t: u32) -> Effect
     ensures { result ≡ continue_on t l m o }
 {
     if !(o.on == 1) {
-        return kept(14, m, o);
+        return kept(EventError::NotOpen, m, o);
     }
     if LATEST_TIME < t {
-        return kept(15, m, o);
+        return kept(EventError::NoMore, m, o);
     }
     let until = more_until(l, m, o.until, t);
     if until <= o.until {
-        return kept(15, m, o);
+        return kept(EventError::NoMore, m, o);
     }
     let meters = continued_meters(l, m, o.until, until);
     Effect {
@@ -214,7 +216,7 @@ pub fn stop_on(l: Limits, m: Meters, o: Open, player: u8, t: u32) -> Effect
     ensures { result ≡ stop_on player t l m o }
 {
     if !(o.on == 1) {
-        return kept(14, m, o);
+        return kept(EventError::NotOpen, m, o);
     }
     let meters = ended_meters(l, m, player, o.begin, o.until, t);
     Effect {
@@ -235,10 +237,10 @@ pub fn cancel_on(l: Limits, m: Meters, o: Open, player: u8, recent: Recent) -> E
     ensures { result ≡ cancel_on player recent l m o }
 {
     if !(o.on == 1) {
-        return kept(14, m, o);
+        return kept(EventError::NotOpen, m, o);
     }
     if !recent.begun {
-        return kept(44, m, o);
+        return kept(EventError::TooLate, m, o);
     }
     let meters = cancelled_meters(l, m, player, recent, o.begin, o.until);
     Effect {

@@ -25,8 +25,7 @@ use Rattle.book.specs.declared.Kind.{Kind}
 use Rattle.book.specs.declared.Recent.{Recent}
 use Rattle.book.specs.declared.Request.{Request}
 use Rattle.book.specs.declared.Request.TheVariants.{Begin}
-use Rattle.book.specs.declared.Decoded.{Decoded}
-use Rattle.book.specs.declared.Decoded.TheVariants.{Valid}
+use Rattle.book.specs.Decoded.{Decoded, Valid}
 use Rattle.book.specs.declared.Player.{Player}
 use Rattle.book.specs.declared.Meters.{Meters}
 use Rattle.book.specs.declared.Open.{Open}

@@ -14,7 +14,7 @@ returns-then-a-momentary c =
     let a = c.args in
     rw (
       c.in-Begin.is,
-      ← c.kind_number.ensures,
+      ← c.from.ensures,
       ← c.momentary.ensures,
       c.if-a-momentary.true,
     )
@@ -26,7 +26,7 @@ returns-else-a-momentary c =
     let a = c.args in
     rw (
       c.in-Begin.is,
-      ← c.kind_number.ensures,
+      ← c.from.ensures,
       ← c.momentary.ensures,
       c.if-a-momentary.false,
     ) (all_none a.b a.lines)

@@ -10,7 +10,7 @@ unfolding request_line
 returns-then-a-momentary c =
     rw (
       c.in-Begin.is,
-      ← c.kind_number.ensures,
+      ← c.from.ensures,
       ← c.momentary.ensures,
       c.if-a-momentary.true,
     ) c.line_for.ensures
@@ -20,7 +20,7 @@ unfolding request_line
 returns-else-a-momentary c =
     rw (
       c.in-Begin.is,
-      ← c.kind_number.ensures,
+      ← c.from.ensures,
       ← c.momentary.ensures,
       c.if-a-momentary.false,
     ) refl

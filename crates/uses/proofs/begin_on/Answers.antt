@@ -20,4 +20,4 @@ pub begun_meters-begun-requires : goal.begun_meters-begun-requires
 begun_meters-begun-requires c =
     let a = c.args in
     let able : grantable a.ask a.l a.m ≡ true = cc in
-    rw c.grant_until-until.ensures (grant-room a.ask a.l a.m able (narrow c.before.before.before.before.before))
+    rw c.grant_until-until.ensures (grant-room a.ask a.l a.m able (narrow c.before.before.before.before))
