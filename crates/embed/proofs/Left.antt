@@ -1,6 +1,6 @@
 -- Why the room for the next image is known before the records are answered: no event changes its length. And that what each exit
 -- of `answer_image` leaves is what `ByValue` says.
-use Prim.Native.Nat.{ℕ, ◌*◌, ◌≤◌, ◌<◌}
+use Prim.Native.Nat.{ℕ, ◌+◌, ◌*◌, ◌/◌, ◌%◌, ◌≤◌, ◌<◌, min}
 use mathlib.Core.Path.{◌≡◌, refl, sym, ap, ◌∙◌}
 use mathlib.Core.Bool.{true, false}
 use mathlib.Core.List.{List, [], ◌∷◌}
@@ -8,7 +8,8 @@ use native.Mathlib.Omega.{arith}
 use lib.ListN.{length}
 use lib.Dec.{leb, eqb}
 use borrow.Author.Tests.{ne_eqb, le-leb, lt-leb}
-use Rattle.numbers.proofs.Tests.{on_test}
+use Rattle.std.specs.Int.{div_ceil}
+use Rattle.numbers.proofs.Tests.{on_test, on_same}
 use Rattle.book.specs.declared.Line.{Line}
 use Rattle.book.specs.declared.Book.{Book}
 use Rattle.book.specs.declared.Decoded.{Decoded}
@@ -61,6 +62,10 @@ block-length b ls count s room =
     on_test (fits s room) (λ q. rw q (book-length b ls count (records_in s))) (λ q. rw q refl)
 
 -- ## Room
+
+-- how many records there are, a last one cut short among them
+pub ceil : (n : ℕ) → div_ceil n 17 ≡ (n + 16) / 17
+ceil n = on_same (n % 17) 0 (λ z. rw z (omega arith)) (λ z. let w : min 1 (n % 17) ≡ 1 = omega arith in rw w (omega arith))
 
 pub room-there : (b : Book) (buffer : List ℕ) → length_of b ≤ length buffer → room_code b buffer ≡ 0
 unfolding room_code

@@ -4,7 +4,7 @@
 ghost use Rattle.std.specs.Prelude.{◌≡◌, length};
 ghost use Rattle.xml_image.specs.Imported.{imported_from, buffer_from, imported, import_buffer};
 
-use fill::NO_ROOM;
+use book::NO_ROOM;
 use xml_model::Reading;
 
 #[derive(Clone, Copy)]
