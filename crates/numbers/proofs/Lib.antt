@@ -1,6 +1,7 @@
 -- Laws of the definitions in specs/, and of lists, tests and tables in general.
 pub mod Tests
 pub mod TableLaws
+pub mod ListLaws
 pub mod Loops
 pub mod BitLaws
 pub mod FieldLaws

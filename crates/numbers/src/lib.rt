@@ -68,7 +68,7 @@ pub fn pick64(w: bool, a: u64, b: u64) -> u64
 pub fn one(w: bool) -> u8
     ensures { result ≡ one w }
 {
-    if w { 1 } else { 0 }
+    u8::from(w)
 }
 
 // The difference, or 0 if it would be negative.
@@ -112,12 +112,8 @@ pub fn ones(m: u32) -> u32
     ensures { result ≡ ones m }
 {
     let mut n: u32 = 0;
-    let mut rest = m;
-    let mut p: usize = 0;
-    while p < 16 {
-        n = n + rest % 2;
-        rest = rest / 2;
-        p = p + 1;
+    for p in 0..16u32 {
+        n = n + (m >> p) % 2;
     }
     n
 }
@@ -140,6 +136,6 @@ pub fn with_bit(m: u32, p: u8, on: bool) -> u32
         return low;
     }
     let w = weight(k);
-    let rest = low - pick32(low / w % 2 == 1, w, 0);
-    rest + pick32(on, w, 0)
+    let rest = low - pick(low / w % 2 == 1, w, 0);
+    rest + pick(on, w, 0)
 }

@@ -15,7 +15,7 @@ taken p m w r e h = h ∙ ap (λ (k : ℕ). cond (eqb (m / k % 2) 1) k 0) e
 pub overflow_sub-rest : goal.overflow_sub-rest
 overflow_sub-rest c =
     let a = c.args in
-    let e = taken a.p (a.m % 65536) c.weight-w.result c.pick32.result c.weight-w.ensures c.pick32.ensures in
+    let e = taken a.p (a.m % 65536) c.weight-w.result c.pick.result c.weight-w.ensures c.pick.ensures in
     omega (arith, e, bit-weighs a.p (a.m % 65536))
 
 -- the sum is the definition's
@@ -26,6 +26,6 @@ pub returns : goal.returns
 returns c =
     let a = c.args in
     let w = c.weight-w in
-    let e = taken a.p (a.m % 65536) w.result c.pick32.result w.ensures c.pick32.ensures in
-    same a.p (a.m % 65536) w.result c.pick32.result c.pick32-2.result a.on w.ensures e c.pick32-2.ensures
+    let e = taken a.p (a.m % 65536) w.result c.pick.result w.ensures c.pick.ensures in
+    same a.p (a.m % 65536) w.result c.pick.result c.pick-2.result a.on w.ensures e c.pick-2.ensures
     ∙ sym (put_is a.p a.m a.on (omega arith))
