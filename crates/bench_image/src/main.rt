@@ -20,10 +20,12 @@ struct Turn {
 // Reads the image, given the book held, and writes the resulting book.
 fn one_turn(held: Book, image: &[u8]) -> Turn {
     let mut out = [0u8; IMAGE];
-    let got = image_read::read(held, image);
-    let code = got.code;
-    let after = got.book;
-    let n = image_write::write(after, &mut out);
+    let mut after = held;
+    let code = match image_read::read(&mut after, image) {
+        Ok(()) => 0,
+        Err(e) => u8::from(e),
+    };
+    let n = image_write::write(&after, &mut out).unwrap_or(0);
     Turn {
         code: code,
         length: n,

@@ -1,37 +1,30 @@
 -- What each exit of the calls that read an image leaves is what `Seen` says.
-use Prim.Native.Nat.{ℕ, min}
-use mathlib.Core.Path.{◌≡◌, refl, sym, ap, ◌∙◌}
+use Prim.Native.Nat.{ℕ}
+use mathlib.Core.Path.{◌≡◌, refl, ap, ◌∙◌}
 use mathlib.Core.Bool.{Bool, true, false}
 use mathlib.Core.List.{List}
-use lib.ListN.{length, get_or}
-use lib.Dec.{ltb, eqb}
+use lib.ListN.{length}
+use lib.Dec.{eqb}
 use borrow.Author.Tests.{ne_eqb, eqb-true}
 use Rattle.numbers.proofs.Tests.{on_test}
 use Rattle.std.specs.Prelude.{Option, None, Some}
-use Rattle.book.specs.declared.Entry.{Entry}
-use Rattle.book.specs.declared.Book.{Book}
-use Rattle.book.specs.Blank.{no_entry}
-use Rattle.model.specs.Book.{assets_in, entries_in}
+use native.Mathlib.Omega.{arith}
+use Rattle.book.specs.Codes.{image_code}
+use Rattle.book.specs.declared.ImageError.{ImageError}
 use Rattle.model.specs.Image.{read_code}
-use Rattle.model.specs.Meters.{settled}
 use Rattle.fill.specs.Fill.{fill_code, filled}
-use Rattle.embed.specs.Calls.{held_book}
 use Rattle.embed.specs.Failure.{found, viewed_code, viewed_out}
-use Rattle.embed.specs.Seen.{absent, seen_code, seen_out, has_asset, has_entry}
+use Rattle.embed.specs.Seen.{absent, seen_code, seen_out}
 
--- the entry of a book at t, once the uses that are over by then have ended
-abbrev pub entry_then : Book → ℕ → ℕ → Entry
-entry_then b t i = get_or (settled t b.players b.entries) i no_entry
-
--- the code's count gives the same result
-module _ (s : List ℕ) (b : Book) (n i : ℕ) (same : b ≡ held_book s) where
-  pub asset-there : n ≡ min b.assetcount 64 → has_asset s i ≡ ltb i n
-  unfolding has_asset assets_in
-  asset-there e = ap (ltb i) (sym (e ∙ ap (λ (x : Book). min x.assetcount 64) same))
-
-  pub entry-there : n ≡ min b.entrycount 64 → has_entry s i ≡ ltb i n
-  unfolding has_entry entries_in
-  entry-there e = ap (ltb i) (sym (e ∙ ap (λ (x : Book). min x.entrycount 64) same))
+pub refused-some : (e : ImageError) → image_code e ≡ 0 → ⊥
+refused-some ImageError.Length h = absurd (omega arith)
+refused-some ImageError.Mark h = absurd (omega arith)
+refused-some ImageError.Version h = absurd (omega arith)
+refused-some ImageError.Header h = absurd (omega arith)
+refused-some ImageError.Assets h = absurd (omega arith)
+refused-some ImageError.Entries h = absurd (omega arith)
+refused-some ImageError.Players h = absurd (omega arith)
+refused-some ImageError.Meters h = absurd (omega arith)
 
 -- what each exit leaves
 

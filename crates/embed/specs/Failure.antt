@@ -1,6 +1,7 @@
 -- The codes of a call: 0, or the number of what made it fail.
 use Rattle.std.specs.Prelude.{ℕ, ◌≡◌, ◌≢◌, Bool, true, false, cond, Option, None, Some, Result, Ok, Err, List, [], MatchResult}
 use Rattle.book.specs.declared.Book.{Book}
+use Rattle.book.specs.Codes.{image_code}
 use Rattle.model.specs.Image.{read_code}
 use Rattle.fill.specs.Fill.{no_room}
 use Rattle.embed.specs.declared.Failure.{Failure}
@@ -8,7 +9,7 @@ use Rattle.embed.specs.Calls.{held_book}
 use Rattle.embed.specs.Seen.{absent, seen_code, seen_out}
 
 abbrev pub failure_code : Failure → ℕ
-failure_code (Failure.Image c) = c
+failure_code (Failure.Image e) = image_code e
 failure_code Failure.NoRoom = no_room
 failure_code Failure.Absent = absent
 

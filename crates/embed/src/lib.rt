@@ -20,7 +20,9 @@ ghost use Rattle.embed.specs.Seen.{left_out, grounds_code, grounds_out};
 ghost use Rattle.embed.specs.FromXml.{xml_code, xml_image, xml_size, xml_elements};
 
 use batch::Block;
-use book::{Ask, Asset, Book, Entry, Line, NO_ROOM, NoRoom, RECORD_SIZE, Reported, at_most_64};
+use book::{
+    Ask, Asset, Book, Entry, ImageError, Line, NO_ROOM, NoRoom, RECORD_SIZE, Reported, at_most_64,
+};
 use encode::RawEvent;
 use report::{give_lines, take_lines};
 use std::convert::AsSlice;
@@ -30,10 +32,18 @@ const ABSENT: u8 = 31;
 
 // Why a call leaves everything as it was.
 #[derive(Clone, Copy, Debug, PartialEq, Eq)]
-pub enum Failure {
-    Image(u8),
+enum Failure {
+    Image(ImageError),
     NoRoom,
     Absent,
+}
+
+impl From<ImageError> for Failure {
+    ghost from_gives = { λ e f. f ≡ Failure.Image e };
+
+    fn from(e: ImageError) -> Failure {
+        Failure::Image(e)
+    }
 }
 
 impl From<NoRoom> for Failure {
@@ -49,7 +59,7 @@ impl From<Failure> for u8 {
 
     fn from(f: Failure) -> u8 {
         match f {
-            Failure::Image(code) => code,
+            Failure::Image(e) => e.into(),
             Failure::NoRoom => NO_ROOM,
             Failure::Absent => ABSENT,
         }
@@ -71,11 +81,9 @@ fn code_of<T: Copy>(r: Result<T, Failure>) -> u8
 fn load(image: &[u8]) -> Result<Book, Failure>
     ensures { Loads image.now result }
 {
-    let loaded = image_read::read(book::blank_book(), image);
-    if loaded.code != 0 {
-        return Err(Failure::Image(loaded.code));
-    }
-    Ok(loaded.book)
+    let mut held = book::blank_book();
+    image_read::read(&mut held, image)?;
+    Ok(held)
 }
 
 // The same for the image that is the first `size` bytes of a buffer; no byte at all if the buffer has not so many.
@@ -115,13 +123,11 @@ fn answer_image(
     if out.len() / 19 < records.len().div_ceil(RECORD_SIZE) {
         return Err(Failure::NoRoom);
     }
-    let needed = image_write::image_length(book.assetcount, book.entrycount);
-    if image.len() < needed {
+    if image.len() < image_write::image_length(book.assetcount, book.entrycount) {
         return Err(Failure::NoRoom);
     }
     let block = batch::answer_block(book, records, out, lines, lent);
-    image_write::write(block.book, image);
-    *size = needed as u64;
+    *size = image_write::write(&block.book, image)? as u64;
     Ok(block)
 }
 
@@ -181,12 +187,7 @@ fn answer_event(
 {
     let book = load_from(image, *size)?;
     let after = step::step_lines(book, &encode::record_bytes(event), lines, lent);
-    let next_length = image_write::image_length(after.book.assetcount, after.book.entrycount);
-    if image.len() < next_length {
-        return Err(Failure::NoRoom);
-    }
-    image_write::write(after.book, image);
-    *size = next_length as u64;
+    *size = image_write::write(&after.book, image)? as u64;
     Ok(after)
 }
 

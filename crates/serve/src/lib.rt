@@ -131,11 +131,8 @@ pub fn serve(rt: &(impl Clock + Env + Eprint + Files + Input + Print)) {
     }
     let mut image = [0u8; IMAGE];
     let n = read_image(rt, &mut image);
-    let l = turn::load(&image, n);
-    if l.code != 0 {
-        print_refusal(rt, l.code);
-        return;
+    match turn::load(&image, n) {
+        Ok(b) => answer_all(rt, b),
+        Err(e) => print_refusal(rt, u8::from(e)),
     }
-    let b = l.book;
-    answer_all(rt, b);
 }

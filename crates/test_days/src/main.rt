@@ -11,8 +11,7 @@ ghost use Rattle.model.specs.Report.{receive, lines_left, lent};
 ghost use Rattle.step.specs.Lines.{outcome_of};
 
 use batch::Block;
-use book::{Book, Line, Outcome, RECORD_SIZE, Reported, at_most_64};
-use image_read::Loaded;
+use book::{Book, ImageError, Line, Outcome, RECORD_SIZE, Reported, at_most_64};
 use std::fs;
 use std::io::{self, Read};
 use text::put_line;
@@ -45,16 +44,10 @@ fn fill<F: Read>(file: &mut F, n: usize, buf: &mut [u8]) -> bool {
 }
 
 // Reads the image in the first n bytes of buf.
-fn load(n: usize, buf: &[u8]) -> Loaded {
-    let blank = book::blank_book();
-    if n <= buf.len() {
-        return image_read::read(blank, &buf[..n]);
-    }
-    image_read::read(blank, buf)
-}
-
-fn print_number(rt: &impl Print, n: u64) -> io::Result<()> {
-    println!(rt; "{n}")
+fn load(n: usize, buf: &[u8]) -> Result<Book, ImageError> {
+    let mut b = book::blank_book();
+    image_read::read(&mut b, &buf[..n.min(buf.len())])?;
+    Ok(b)
 }
 
 // Writes the first n bytes of text.
@@ -141,8 +134,8 @@ fn same(a: &[u8], b: &[u8]) -> bool {
 fn same_book(a: Book, b: Book) -> bool {
     let mut first = [0u8; 5399];
     let mut second = [0u8; 5399];
-    let n = image_write::write(a, &mut first);
-    let m = image_write::write(b, &mut second);
+    let n = image_write::write(&a, &mut first);
+    let m = image_write::write(&b, &mut second);
     (n == m) & same(&first, &second)
 }
 
@@ -230,13 +223,10 @@ fn one_day<F: Read>(rt: &impl Print, file: &mut F, number: u64) -> io::Result<bo
         println!(rt; "cut short or too long")?;
         return Ok(false);
     }
-    let l = load(first.length, &image);
-    if l.code != 0 {
-        print_number(rt, l.code as u64)?;
-        return Ok(true);
+    match load(first.length, &image) {
+        Ok(b) => print_answers(rt, b, second.length, &events)?,
+        Err(e) => println!(rt; "{}", u8::from(e))?,
     }
-    let b = l.book;
-    print_answers(rt, b, second.length, &events)?;
     Ok(true)
 }
 

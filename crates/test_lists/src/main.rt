@@ -6,7 +6,6 @@
 #![tactic(auto)]
 
 use book::{Book, Line, RECORD_SIZE};
-use image_read::Loaded;
 use std::fs;
 use std::io::{self, Read};
 use text::put_line;
@@ -84,18 +83,11 @@ fn fill<F: Read>(file: &mut F, n: usize, buf: &mut [u8]) -> bool {
     false
 }
 
-// Reads the image in the first n bytes of buf; none is the book held.
-fn load(held: Book, n: usize, buf: &[u8]) -> Loaded {
-    if n == 0 {
-        return Loaded {
-            code: 0,
-            book: held,
-        };
+// Reads the image in the first n bytes of buf, if it has any. An image that is refused leaves the book held.
+fn load(held: &mut Book, n: usize, buf: &[u8]) {
+    if n != 0 {
+        let _ = image_read::read(held, &buf[..n.min(buf.len())]);
     }
-    if n <= buf.len() {
-        return image_read::read(held, &buf[..n]);
-    }
-    image_read::read(held, buf)
 }
 
 fn same_line(x: Line, y: Line) -> bool {
@@ -243,8 +235,8 @@ fn one_case<F: Read>(rt: &impl Print, file: &mut F, held: Book, before: Lent) ->
             list: before,
         });
     }
-    let l = load(held, first.number, &image);
-    let b = l.book;
+    let mut b = held;
+    load(&mut b, first.number, &image);
     let list = read_list(file, before);
     let lines = list.lines;
     let expected = read_after(file, lines, list.count);

@@ -3,8 +3,9 @@
 // it does.
 #![tactic(auto)]
 
-ghost use Rattle.std.specs.Prelude.{◌≡◌, cond, List, ◌++◌, ℕ, ◌+◌, ◌≤◌, length, take, drop};
+ghost use Rattle.std.specs.Prelude.{◌≡◌, cond, List, ◌++◌, ℕ, ◌+◌, ◌≤◌, length, take, drop, MatchResult};
 ghost use Rattle.book.specs.Blank.{no_book};
+ghost use Rattle.book.specs.Codes.{image_code};
 ghost use Rattle.model.specs.Image.{read_code, read_book};
 ghost use Rattle.model.specs.Run.{zero_lines};
 ghost use Rattle.report.specs.Report.{taken_lines};
@@ -12,9 +13,7 @@ ghost use Rattle.batch.specs.Block.{block_book, block_lines, block_written, bloc
 ghost use Rattle.turn.specs.Turn.{inside, book_after, lines_after, written_after, out_after, kept_after, input_after, Begins};
 
 use batch::Block;
-use book::{Book, Line, RECORD_SIZE, at_most_64};
-use image_read::Loaded;
-use numbers::min_size;
+use book::{Book, ImageError, Line, RECORD_SIZE, at_most_64};
 
 // The input buffer's size: 3,855 records, and what is kept of one more.
 pub const INPUT: usize = 65551;
@@ -66,14 +65,6 @@ fn answer_first(
     ensures out_after { out.new ≡ block_buffer b lines lent (take n input.now) out.old }
 {
     batch::answer_block(b, &input[..n], out, lines, lent)
-}
-
-// Reads the book in the first n bytes.
-fn read_first(image: &[u8], n: usize) -> Loaded
-    requires { n ≤ length image.now }
-    ensures { (result.code ≡ read_code (take n image.now)) × (result.book ≡ read_book no_book (take n image.now)) }
-{
-    image_read::read(book::blank_book(), &image[..n])
 }
 
 // Moves the n bytes at offset `from` to the start.
@@ -159,8 +150,11 @@ pub fn zero_lines(b: Book) -> [Line; 64]
 // The book in rights.rbk, given the first n bytes of the file at the start of image: all of them, or as many as image holds.
 // The answer is the one for every file f that begins with these bytes.
 // Rules out: a file longer than any image, accepted for its first bytes.
-pub fn load(image: &[u8; IMAGE], n: usize) -> Loaded
-    ensures { (f : List ℕ) → Begins image.now n f → (result.code ≡ read_code f) × (result.book ≡ read_book no_book f) }
+pub fn load(image: &[u8; IMAGE], n: usize) -> Result<Book, ImageError>
+    ensures { (f : List ℕ) → Begins image.now n f
+        → MatchResult result (λ b. (read_code f ≡ 0) × (b ≡ read_book no_book f)) (λ e. read_code f ≡ image_code e) }
 {
-    read_first(image, min_size(n, IMAGE))
+    let mut b = book::blank_book();
+    image_read::read(&mut b, &image[..n.min(IMAGE)])?;
+    Ok(b)
 }

@@ -4,7 +4,6 @@
 ghost use Rattle.std.specs.Prelude.{◌≡◌, length};
 ghost use Rattle.xml_image.specs.Imported.{imported_from, buffer_from, imported, import_buffer};
 
-use book::NO_ROOM;
 use xml_model::Reading;
 
 #[derive(Clone, Copy)]
@@ -26,19 +25,17 @@ fn put(r: Reading, image: &mut [u8]) -> Imported
             length: 0,
         };
     }
-    let b = r.book;
-    let n = image_write::write(b, image);
-    if n == 30 {
-        return Imported {
-            code: NO_ROOM,
+    match image_write::write(&r.book, image) {
+        Ok(n) => Imported {
+            code: 0,
+            elements: r.elements,
+            length: n,
+        },
+        Err(e) => Imported {
+            code: u8::from(e),
             elements: 0,
             length: 0,
-        };
-    }
-    Imported {
-        code: 0,
-        elements: r.elements,
-        length: n,
+        },
     }
 }
 
