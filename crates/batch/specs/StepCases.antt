@@ -1,7 +1,9 @@
 -- The cases of a record, each as one law: what the loop over the records has stored is what the step leaves.
 use Rattle.std.specs.Prelude.{ℕ, suc, ◌+◌, ◌-◌, ◌%◌, ◌<◌, ◌≤◌, min, ◌≡◌, Bool, not, ◌&&◌, cond, length, set, take, leb, ltb, eqb}
+use Rattle.std.specs.Prelude.{Result, Ok, Err, MatchResult, Option, Some, is_some}
 use Rattle.std.proofs.Math.Path.{refl, sym, ap}
-use Rattle.std.proofs.Common.{ap₂, subst, ◌∙◌, arith, ltb-true, ltb-false}
+use Rattle.std.specs.Option.{unwrap_or}
+use Rattle.std.proofs.Common.{length-take-le, length-take, ap₂, subst, ◌∙◌, arith, ltb-true, ltb-false}
 use Rattle.std.proofs.Math.Bool.{true, false}
 use mathlib.Core.List.{List, map}
 use Rattle.std.proofs.lemmas.List.{set-get_or}
@@ -20,11 +22,9 @@ use Rattle.book.specs.declared.Recent.{Recent}
 use Rattle.book.specs.declared.Event.{Event}
 use Rattle.book.specs.declared.Request.{Request}
 use Rattle.book.specs.declared.Request.TheVariants.{Begin, Continue, Stop, Cancel}
-use Rattle.book.specs.declared.Gate.{Gate}
-use Rattle.book.specs.declared.Gate.TheVariants.{Refuse, Resend, Take}
+use Rattle.book.specs.Gate.{Gate, Refuse, Resend, Take}
 use Rattle.book.specs.declared.Kind.{Kind}
-use Rattle.book.specs.declared.Decoded.{Decoded}
-use Rattle.book.specs.declared.Decoded.TheVariants.{Invalid, Valid}
+use Rattle.book.specs.Decoded.{Decoded, Invalid, Valid}
 use Rattle.book.specs.declared.Line.{Line}
 use Rattle.book.specs.declared.Outcome.{Outcome}
 use Rattle.book.specs.declared.Reported.{Reported}
@@ -45,9 +45,8 @@ use Rattle.rules.specs.declared.Wire.{Wire}
 use Rattle.rules.specs.Rules.{wire_of}
 use Rattle.model.proofs.Legal.Step.{gate-passed}
 use Rattle.choice.specs.declared.Reach.{Reach}
-use Rattle.choice.specs.Reach.{reach_in, table_of, reach-in-book}
-use Rattle.choice.specs.declared.Best.{Best}
-use Rattle.choice.specs.Best.{best_after}
+use Rattle.choice.specs.Reach.{reach_in, table_of, reach-in-book, reach-used, table-of-list}
+use Rattle.choice.specs.Best.{Best, best_after}
 use Rattle.rules.specs.Codes.{begin_code}
 use Rattle.choice.specs.Choice.{best-suits, best-switched}
 use Rattle.choice.specs.declared.Row.{Row}
@@ -60,10 +59,12 @@ use Rattle.uses.specs.Uses.{kept, placed, stored, begun_on, begin_on, continue_o
 use Rattle.uses.specs.Uses.{cancel-placed}
 use Rattle.step.specs.Settle.{settled_book, settled_to, player-next, released-out}
 use Rattle.metering.specs.Good.{good_lines}
-use Rattle.metering.specs.Recording.{line_for, due-still, due-out, due-raised, due-kept, request_line, request_seconds, request_entry}
+use Rattle.metering.specs.Recording.{line_for, line_in, line-as, line-below, line-within, request_in, request-as, request-below, request-within, due-still, due-out, due-raised, due-kept, request_line, request_seconds, request_entry}
 use Rattle.metering.specs.Recording.{request-onward, request-still}
 use Rattle.step.specs.Lines.{lines_taken, lines_with, lines-own, reported_on}
-use Rattle.step.specs.Step.{stored_book, taken_from, recent_on, taken_is, begin-refused, begin-placed-at}
+use Rattle.step.specs.Step.{stored_book, taken_from, recent_on, taken_is, found_at, some-found, begin-refused, begin-granted}
+use Rattle.book.specs.Codes.{event_code}
+use Rattle.book.specs.declared.EventError.{EventError}
 
 -- ## A record with its lines
 
@@ -225,16 +226,16 @@ act_on Continue i ask r l m o = continue_on ask.time l m o
 act_on Stop i ask r l m o = stop_on ask.player ask.time l m o
 act_on Cancel i ask r l m o = cancel_on ask.player r l m o
 
--- what a taken event is about to do: refused by a code that is not 0, or done at entry k
-pub record Planned (n : Book) (e : Event) (o : Open) (k code : ℕ) : Type 0 where
-  pub refuses : (code ≡ 0 → ⊥) → unchanged code n.entries o ≡ done_on n e
+-- what a taken event is about to do: refused, or done at entry k
+pub record Planned (n : Book) (e : Event) (o : Open) (found : Result ℕ EventError) : Type 0 where
+  pub refuses : (x : EventError) → found ≡ Err x → unchanged (event_code x) n.entries o ≡ done_on n e
   pub acts :
-      code ≡ 0 → (part : Effect) →
+      (k : ℕ) → found ≡ Ok k → (part : Effect) →
       part ≡ act_on e.request (k % 256) (asks n e) (recent_on n e) (limits_at n.entries k) (meters_at n.entries k) o →
       placed k part n.entries ≡ done_on n e
   -- the entry that a granted request names is the one at k
   pub names :
-      code ≡ 0 → (part : Effect) →
+      (k : ℕ) → found ≡ Ok k → (part : Effect) →
       part ≡ act_on e.request (k % 256) (asks n e) (recent_on n e) (limits_at n.entries k) (meters_at n.entries k) o →
       eqb part.answer.code 0 ≡ true →
       request_entry e.request o part.answer ≡ k
@@ -245,7 +246,18 @@ module _ (n : Book) (e : Event) (o : Open) (ho : o ≡ open_at n.players e.playe
       ap (λ (x : Request). done x (catalog_of n) n.entries o (asks n e) (recent_on n e)) (sym hq)
       ∙ ap (λ (x : Open). done e.request (catalog_of n) n.entries x (asks n e) (recent_on n e)) ho
 
-  module _ (k code : ℕ) (hk : k ≡ o.entry) (hc : code ≡ cond (is_on o) 0 14) where
+  module _ (found : Result ℕ EventError)
+      (h : MatchResult found (λ k. (is_on o ≡ true) × (k ≡ o.entry)) (λ x. (is_on o ≡ false) × (x ≡ EventError.NotOpen))) where
+    on-entry : (k : ℕ) → found ≡ Ok k → k ≡ o.entry
+    on-entry k q =
+        (subst (λ (r : Result ℕ EventError). MatchResult r (λ j. (is_on o ≡ true) × (j ≡ o.entry))
+        (λ x. (is_on o ≡ false) × (x ≡ EventError.NotOpen))) q h).1
+
+    not-open : (x : EventError) → found ≡ Err x → (is_on o ≡ false) × (x ≡ EventError.NotOpen)
+    not-open x q =
+        subst (λ (r : Result ℕ EventError). MatchResult r (λ j. (is_on o ≡ true) × (j ≡ o.entry))
+        (λ y. (is_on o ≡ false) × (y ≡ EventError.NotOpen))) q h
+
     -- a continue, a stop or a cancel, with what it does to its entry
     further :
         (q : Request) (d : Done) →
@@ -256,32 +268,34 @@ module _ (n : Book) (e : Event) (o : Open) (ho : o ≡ open_at n.players e.playe
         (act_on q (o.entry % 256) (asks n e) (recent_on n e) (limits_at n.entries o.entry) (meters_at n.entries o.entry) o)
         n.entries ≡ d →
         ((a : Answer) → request_entry q o a ≡ o.entry) →
-        Planned n e o k code
+        Planned n e o found
     further q d hq hd off-is on-is own = record {
-      refuses = λ some.
-          on_test (is_on o) (λ on. absurd (some (hc ∙ rw on refl)))
-          (λ off. ap (λ (x : ℕ). unchanged x n.entries o) (hc ∙ rw off refl) ∙ off-is off ∙ hd);
-      acts = λ none part hp.
+      refuses = λ x is-err.
+          let f = not-open x is-err in
+          ap (λ (y : EventError). unchanged (event_code y) n.entries o) f.1 ∙ off-is f.0 ∙ hd;
+      acts = λ k is-ok part hp.
+          let hk = on-entry k is-ok in
           ap (λ (x : ℕ). placed x part n.entries) hk
           ∙ ap (λ (x : Effect). placed o.entry x n.entries) (hp ∙ rw (hk, hq) refl)
           ∙ on-is
           ∙ hd;
-      names = λ none part hp granted. ap (λ (x : Request). request_entry x o part.answer) hq ∙ own part.answer ∙ sym hk;
+      names = λ k is-ok part hp granted.
+          ap (λ (x : Request). request_entry x o part.answer) hq ∙ own part.answer ∙ sym (on-entry k is-ok);
     }
 
-    pub planned-continue : e.time ≤ latest_time → e.request ≡ Continue → Planned n e o k code
+    pub planned-continue : e.time ≤ latest_time → e.request ≡ Continue → Planned n e o found
     unfolding done do_continue request_entry
     planned-continue ht hq =
         further Continue (do_continue n.entries o e.time) hq (done-as Continue hq) (λ off. rw off refl)
         (continue-placed e.time n.entries o ht) (λ a. refl)
 
-    pub planned-stop : e.request ≡ Stop → Planned n e o k code
+    pub planned-stop : e.request ≡ Stop → Planned n e o found
     unfolding done do_stop request_entry
     planned-stop hq =
         further Stop (do_stop n.entries o (asks n e)) hq (done-as Stop hq) (λ off. rw off refl) (stop-placed (asks n e) n.entries o)
         (λ a. refl)
 
-    pub planned-cancel : e.request ≡ Cancel → Planned n e o k code
+    pub planned-cancel : e.request ≡ Cancel → Planned n e o found
     unfolding done do_cancel request_entry
     planned-cancel hq =
         further Cancel (do_cancel n.entries o e.player (recent_on n e)) hq (done-as Cancel hq) (λ off. rw off refl)
@@ -308,25 +322,11 @@ begun-names sort asset i ask l m o part h g =
     (λ w. let p : part ≡ begun_on i asset ask l m o = h ∙ rw w refl in ap (λ (x : Effect). x.answer.entry) p)
     (λ w. let p : part ≡ kept 13 m o = h ∙ rw w refl in clash g (ap (λ (x : Effect). eqb x.answer.code 0) p))
 
-never-granted : (on us su sw : Bool) → begin_code on us su false sw ≡ 0 → ⊥
-never-granted true us su sw h = omega (arith, h)
-never-granted false false su sw h = omega (arith, h)
-never-granted false true false sw h = omega (arith, h)
-never-granted false true true true h = omega (arith, h)
-never-granted false true true false h = omega (arith, h)
-
--- a code of 0 is that of an entry of the book
-small-entry : (on us su sw : Bool) (k code : ℕ) → code ≡ begin_code on us su (ltb k 64) sw → code ≡ 0 → k % 256 ≡ k
-small-entry on us su sw k code hc none =
-    on_test (ltb k 64)
-    (λ l. let h = ltb-true k 64 l in omega (arith, h))
-    (λ l. absurd (never-granted on us su sw (sym (hc ∙ rw l refl) ∙ none)))
-
 few-entries : (b : Book) → (catalog_of b).entry_count ≤ 64
 unfolding catalog_of entries_in
 few-entries b = omega arith
 
-module _ (n : Book) (e : Event) (o : Open) (sort : Kind) (asset kind k code m : ℕ) (r : Reach) (best : Best)
+module _ (n : Book) (e : Event) (o : Open) (sort : Kind) (asset kind m : ℕ) (r : Reach) (best : Best)
     (ho : o ≡ open_at n.players e.player)
     (hq : e.request ≡ Begin sort asset)
     (hk : kind ≡ kind_number sort)
@@ -359,24 +359,35 @@ module _ (n : Book) (e : Event) (o : Open) (sort : Kind) (asset kind k code m : 
     switched-is : best.switched ≡ any_of (fails_for_switch c es (asks n e) asset kind) c.entry_count
     switched-is = ap (λ (x : Best). x.switched) whole ∙ best-switched c es (asks n e) asset kind
 
-    at-is : best.at ≡ (best_after es asset (parent_of c asset) kind (asks n e) c.entry_count).at
-    at-is = ap (λ (x : Best). x.at) whole
+    at-is : found_at best ≡ found_at (best_after es asset (parent_of c asset) kind (asks n e) c.entry_count)
+    at-is = ap found_at whole
 
-  pub planned-begin : e.time ≤ latest_time → k ≡ best.at
-      → code ≡ begin_code (is_on o) r.usable best.suits (ltb k 64) best.switched → Planned n e o k code
-  planned-begin ht hat hc =
-      let chosen_is : is_on o ≡ false → usable c asset ≡ true → k ≡ (best_after es asset (parent_of c asset) kind (asks n e) c.entry_count
-      ).at = λ off u. hat ∙ at-is off u in record {
-        refuses = λ some. begin-refused c es o (asks n e) asset kind r.usable best.suits best.switched k code hu suits-is
-            chosen_is switched-is (few-entries n) hc some ∙ begin-on;
-        acts = λ none part part-is.
-            begin-placed-at c es o (asks n e) asset kind r.usable best.suits best.switched k code hu suits-is chosen_is
-            switched-is (few-entries n) hc ht none part (part-is ∙ rw hq refl)
+  pub planned-begin : e.time ≤ latest_time → (at : Option ℕ) → at ≡ found_at best → (found : Result ℕ EventError)
+      → MatchResult found (λ k. (at ≡ Some k) × (begin_code (is_on o) r.usable best.suits true best.switched ≡ 0))
+      (λ x. event_code x ≡ begin_code (is_on o) r.usable best.suits (is_some at) best.switched)
+      → Planned n e o found
+  planned-begin ht at hat found h =
+      let at-found : is_on o ≡ false → usable c asset ≡ true
+      → at ≡ found_at (best_after es asset (parent_of c asset) kind (asks n e) c.entry_count) = λ off u. hat ∙ at-is off u in
+      let told : (r' : Result ℕ EventError) → found ≡ r'
+      → MatchResult r' (λ k. (at ≡ Some k) × (begin_code (is_on o) r.usable best.suits true best.switched ≡ 0))
+      (λ x. event_code x ≡ begin_code (is_on o) r.usable best.suits (is_some at) best.switched) = λ r' q.
+      subst (λ (y : Result ℕ EventError). MatchResult y
+      (λ k. (at ≡ Some k) × (begin_code (is_on o) r.usable best.suits true best.switched ≡ 0))
+      (λ x. event_code x ≡ begin_code (is_on o) r.usable best.suits (is_some at) best.switched)) q h in record {
+        refuses = λ x is-err. begin-refused c es o (asks n e) asset kind r.usable best.suits best.switched at hu suits-is
+            at-found switched-is (few-entries n) x (told (Err x) is-err) ∙ begin-on;
+        acts = λ k is-ok part part-is.
+            let f = told (Ok k) is-ok in
+            begin-granted c es o (asks n e) asset kind r.usable best.suits best.switched at hu suits-is at-found switched-is
+            k f.0 f.1 ht part (part-is ∙ rw hq refl)
             ∙ begin-on;
-        names = λ none part part-is granted.
+        names = λ k is-ok part part-is granted.
+            let below = some-found best k (sym hat ∙ (told (Ok k) is-ok).0) in
+            let small : k % 256 ≡ k = omega (arith, below.0, below.1) in
             ap (λ (x : Request). request_entry x o part.answer) hq
             ∙ begun-names sort asset (k % 256) (asks n e) (limits_at es k) (meters_at es k) o part (part-is ∙ rw hq refl) granted
-            ∙ small-entry (is_on o) r.usable best.suits best.switched k code hc none;
+            ∙ small;
       }
 
 -- ## Settling
@@ -417,24 +428,70 @@ module _ (n : Book) (ats : List Asset) (count asset : ℕ) (r : Reach)
     (ha : n.assets ≡ ats)
     (hc : n.assetcount ≡ count)
     (small : asset ≤ 65535)
-    (hr : r ≡ reach_at (places_of ats count) (parents_of ats count) asset) where
+    (room : min count 64 ≤ length ats)
+    (hr : r ≡ reach_at (places_of (take (min count 64) ats) (length (take (min count 64) ats)))
+    (parents_of (take (min count 64) ats) (length (take (min count 64) ats))) asset) where
+  abbrev used : List Asset
+  used = take (min count 64) ats
+
+  -- the used slots as a list
+  in-list : reach_in (table_of used (length used)) asset ≡ reach_in (table_of ats count) asset
+  in-list =
+      ap (λ (x : _). reach_in x asset) (table-of-list used (omega (arith, length-take-le (min count 64) ats room)))
+      ∙ reach-used ats count asset room
+
   in-book : reach_in (table_of ats count) asset ≡ reach_in (table_of n.assets n.assetcount) asset
   in-book = ap (λ (x : List Asset). reach_in (table_of x count) asset) (sym ha) ∙ ap (λ (x : ℕ). reach_in (table_of n.assets x) asset)
       (sym hc)
 
   pub usable-is : r.usable ≡ usable (catalog_of n) asset
   unfolding reach_in
-  usable-is = ap (λ (x : Reach). x.usable) hr ∙ reach-usable ats count asset small ∙ ap (λ (x : Reach). x.usable)
-      (in-book ∙ reach-in-book n asset)
+  usable-is = ap (λ (x : Reach). x.usable) hr ∙ reach-usable used (length used) asset small ∙ ap (λ (x : Reach). x.usable)
+      (in-list ∙ in-book ∙ reach-in-book n asset)
 
   pub parent_is : usable (catalog_of n) asset ≡ true → r.parent ≡ parent_of (catalog_of n) asset
   unfolding reach_in
   parent_is u =
       ap (λ (x : Reach). x.parent) hr
-      ∙ reach-parent ats count asset small (ap (λ (x : Reach). x.usable) (in-book ∙ reach-in-book n asset) ∙ u)
-      ∙ ap (λ (x : Reach). x.parent) (in-book ∙ reach-in-book n asset)
+      ∙ reach-parent used (length used) asset small (ap (λ (x : Reach). x.usable) (in-list ∙ in-book ∙ reach-in-book n asset) ∙ u)
+      ∙ ap (λ (x : Reach). x.parent) (in-list ∙ in-book ∙ reach-in-book n asset)
 
 -- ## The lines
+
+-- the line that was found in the used slots
+module _ (ats : List Asset) (size n count : ℕ) (room : length ats ≡ 64) (hn : n ≡ min size 64) (hc : count ≡ size) (switch : ℕ) (l : Limits) where
+  holds-used : min size 64 ≤ length ats
+  holds-used = omega arith
+
+  pub slots-line : (content : ℕ) (r : Option ℕ) → r ≡ line_in switch l (take n ats) content
+      → unwrap_or r 64 ≡ line_for switch l ats count content
+  slots-line content r h =
+      ap (λ (x : Option ℕ). unwrap_or x 64) (h ∙ ap (λ (j : ℕ). line_in switch l (take j ats) content) hn)
+      ∙ line-as switch l ats size content holds-used ∙ ap (λ (j : ℕ). line_for switch l ats j content) (sym hc)
+
+  pub slots-line-below : (content k : ℕ) → Some k ≡ line_in switch l (take n ats) content → k < 64
+  slots-line-below content k h =
+      line-below switch l ats size content holds-used k (sym (h ∙ ap (λ (j : ℕ). line_in switch l (take j ats) content) hn))
+
+  pub slots-request : (q : Request) (a : Answer) (o : Open) (r : Option ℕ) → r ≡ request_in q a o switch l (take n ats)
+      → unwrap_or r 64 ≡ request_line q a o switch l ats count
+  slots-request q a o r h =
+      ap (λ (x : Option ℕ). unwrap_or x 64) (h ∙ ap (λ (j : ℕ). request_in q a o switch l (take j ats)) hn)
+      ∙ request-as a o switch l ats size holds-used q ∙ ap (λ (j : ℕ). request_line q a o switch l ats j) (sym hc)
+
+  pub slots-request-below : (q : Request) (a : Answer) (o : Open) (k : ℕ) → Some k ≡ request_in q a o switch l (take n ats) → k < 64
+  slots-request-below q a o k h =
+      request-below a o switch l ats size holds-used q k (sym (h ∙ ap (λ (j : ℕ). request_in q a o switch l (take j ats)) hn))
+
+pub few-line : (n size switch : ℕ) (l : Limits) (ats : List Asset) (content k : ℕ) → n ≡ min size 64
+    → Some k ≡ line_in switch l (take n ats) content → k < 64
+few-line n size switch l ats content k hn h =
+    let w = line-within switch l (take n ats) content k (sym h) in omega (arith, length-take n ats)
+
+pub few-request : (n size switch : ℕ) (l : Limits) (ats : List Asset) (q : Request) (a : Answer) (o : Open) (k : ℕ) → n ≡ min size 64
+    → Some k ≡ request_in q a o switch l (take n ats) → k < 64
+few-request n size switch l ats q a o k hn h =
+    let w = request-within q a o switch l (take n ats) k (sym h) in omega (arith, length-take n ats)
 
 -- settling player i: A are the lines so far, n is the book so far
 module _ (b : Book) (ls : List Line) (t i : ℕ) (h : i < length b.players) (n : Book) (hn : n ≡ settled_to t i b) (A : List Line)

@@ -6,24 +6,29 @@
 // the assets by number.
 #![tactic(auto)]
 
-ghost use Rattle.std.specs.Prelude.{◌≡◌, cond};
+ghost use Rattle.std.specs.Prelude.{◌≡◌, ◌<◌, set, true, false, MatchResult};
+ghost use Rattle.book.specs.Codes.{event_code};
+ghost use Rattle.book.specs.Decoded.{Invalid, Valid};
+ghost use Rattle.book.specs.declared.EventError.{EventError};
+ghost use Rattle.model.specs.Meters.{is_on};
 ghost use Rattle.model.specs.Record.{decoded};
+ghost use Rattle.model.specs.Report.{line_at, raised};
+ghost use Rattle.metering.specs.Good.{good_after};
 ghost use Rattle.batch.specs.Block.{Answered};
 ghost use Rattle.batch.specs.StepCases.{looked, admit};
 
 use book::{
-    Ask, Book, Decoded, Entry, Gate, Line, NEVER, Player, RECORD_LAST, RECORD_SIZE, Rank, Request,
-    at_most_64, blank_entry, refusal,
+    Admission, Ask, Book, Entry, Event, EventError, Limits, Line, NEVER, Open, Player, RECORD_LAST,
+    RECORD_SIZE, Request, at_most_64, blank_entry, refusal,
 };
 use choice::{Best, consider_row, refreshed, row_of};
 use index::{end_of, ends_of, fill_places, reach_at, rows_of};
 use lent::shut_player;
 use metering::{good_after, good_lines, line_for, raised_for, request_line, request_seconds};
-use numbers::{min_size, min_time, saturating_sub};
 use record::decode;
-use rules::{begin_code, gate_of, kind_number, latest_by, noted_last, recent_of};
+use rules::{begin_entry, gate_of, latest_by, noted_last, recent_of};
 use text::put_line;
-use uses::{begin_on, cancel_on, continue_on, ended_meters, kept, stop_on};
+use uses::{begin_on, cancel_on, continue_on, ended_meters, stop_on};
 
 // The book and the lines after the records, how many of the lines were lent, and how many bytes of text were written.
 #[derive(Clone, Copy)]
@@ -45,22 +50,37 @@ fn looked_at(on: bool, usable: bool, entries: usize) -> usize
     }
 }
 
-// The code that refuses a continue, a stop or a cancel before its entry is looked at, otherwise 0.
-fn further_code(on: bool) -> u8
-    ensures { result ≡ cond on 0 14 }
+// The entry of a continue, a stop or a cancel, which is that of the open use.
+fn further_entry(o: Open) -> Result<usize, EventError>
+    ensures { MatchResult result (λ k. (is_on o ≡ true) × (k ≡ o.entry)) (λ e. (is_on o ≡ false) × (e ≡ EventError.NotOpen)) }
 {
-    if on { 0 } else { 14 }
+    if o.on == 1 {
+        Ok(o.entry as usize)
+    } else {
+        Err(EventError::NotOpen)
+    }
 }
 
 // What a record holds if its list is good, otherwise 30.
-fn received(good: bool, s: &[u8]) -> Decoded
-    ensures { result ≡ admit good (decoded s.now) }
+fn received(good: bool, s: &[u8]) -> Result<Event, EventError>
+    ensures { MatchResult result (λ e. admit good (decoded s.now) ≡ Valid e) (λ e. admit good (decoded s.now) ≡ Invalid (event_code e)) }
 {
     if good {
         decode(s)
     } else {
-        Decoded::Invalid(30)
+        Err(EventError::Lines)
     }
+}
+
+// Raises a line by a use of so many seconds, of an entry with these limits; returns whether the list is still good.
+fn raise(report: &mut [Line; 64], k: usize, l: Limits, seconds: u32, good: bool) -> bool
+    requires { k < 64 }
+    ensures report_after { report.new ≡ set report.old k (raised l seconds (line_at report.old k)) }
+    ensures good_value { result ≡ good_after good (raised l seconds (line_at report.old k)) }
+{
+    let raised = raised_for(l, report[k], seconds);
+    report[k] = raised;
+    good_after(good, raised)
 }
 
 // If out has no room for 19 bytes per record, nothing is done.
@@ -91,44 +111,46 @@ pub fn answer_block(
     let mut places = [0u8; 65536];
     let mut parents = [0u16; 64];
     let assets = book.assets;
-    fill_places(&mut places, &mut parents, assets, book.assetcount);
+    let slots = at_most_64(book.assetcount);
+    let used = &assets[..slots];
+    fill_places(&mut places, &mut parents, used);
     let entries = book.entries;
     let mut rows = rows_of(entries);
     let players = book.players;
     let mut ends = ends_of(players);
-    let mut good = good_lines(assets, book.assetcount, lines, lent);
+    let mut good = good_lines(used, lines, lent);
     let mut next: u32 = 0;
     let mut at: usize = 0;
-    let mut i: usize = 0;
-    while i < count {
+    for i in 0..count {
         let from = RECORD_SIZE * i;
-        let to = min_size(from + RECORD_SIZE, size);
-        i = i + 1;
+        let to = size.min(from + RECORD_SIZE);
         match received(good, &records[from..to]) {
-            Decoded::Invalid(code) => {
-                at = put_line(out, at, refusal(code));
+            Err(e) => {
+                at = put_line(out, at, refusal(e));
+                continue;
             }
-            Decoded::Valid(event) => {
+            Ok(event) => {
                 let request = event.request;
                 // Read before the checks, which is quicker; the answer is put in once it is known.
-                let noted = noted_last(event, refusal(0));
+                let noted = noted_last(event, refusal(EventError::Lines));
                 let j = (event.player % 16) as usize;
                 let asking = book.players[j];
                 let last = asking.last;
                 match gate_of(book.time, last, event) {
-                    Gate::Refuse(code) => {
-                        at = put_line(out, at, refusal(code));
+                    Err(e) => {
+                        at = put_line(out, at, refusal(e));
+                        continue;
                     }
-                    Gate::Resend => {
+                    Ok(Admission::Resend) => {
                         let again = last.answer;
                         at = put_line(out, at, again);
+                        continue;
                     }
-                    Gate::Take => {
+                    Ok(Admission::Take) => {
                         let t = event.time;
                         if next <= t {
                             next = NEVER;
-                            let mut p: usize = 0;
-                            while p < 16 {
+                            for p in 0..16 {
                                 let end = ends[p];
                                 if end <= t {
                                     let player = book.players[p];
@@ -149,20 +171,9 @@ pub fn answer_block(
                                         book.entries[k] = y;
                                         let row = row_of(l, ended);
                                         rows[k] = row;
-                                        let content = o.content;
-                                        let w = line_for(
-                                            book.switch,
-                                            l,
-                                            assets,
-                                            book.assetcount,
-                                            content,
-                                        );
-                                        if w < 64 {
-                                            let seconds = saturating_sub(o.until, o.begin);
-                                            let line = report[w];
-                                            let raised = raised_for(l, line, seconds);
-                                            report[w] = raised;
-                                            good = good_after(good, raised);
+                                        if let Some(k) = line_for(book.switch, l, used, o.content) {
+                                            let seconds = o.until.saturating_sub(o.begin);
+                                            good = raise(&mut report, k, l, seconds, good);
                                         }
                                     }
                                     let shutting = book.players[p];
@@ -170,9 +181,8 @@ pub fn answer_block(
                                     book.players[p] = q;
                                     ends[p] = NEVER;
                                 } else {
-                                    next = min_time(next, end);
+                                    next = next.min(end);
                                 }
-                                p = p + 1;
                             }
                         }
                         let player = book.players[j];
@@ -182,29 +192,17 @@ pub fn answer_block(
                             time: t,
                             switch: book.switch,
                         };
-                        let mut k = o.entry as usize;
-                        let mut code = further_code(o.on == 1);
-                        match request {
+                        let found = match request {
                             Request::Begin(sort, asset) => {
-                                let kind = kind_number(sort);
+                                let kind = u8::from(sort);
                                 let reach = reach_at(&places, &parents, asset);
                                 let n = looked_at(
                                     o.on == 1,
                                     reach.usable,
                                     at_most_64(book.entrycount),
                                 );
-                                let mut best = Best {
-                                    suits: false,
-                                    switched: false,
-                                    at: 64,
-                                    rank: Rank {
-                                        flags: 2,
-                                        last: 0,
-                                        inherited: 0,
-                                    },
-                                };
-                                let mut e: usize = 0;
-                                while e < n {
+                                let mut best = Best::none();
+                                for e in 0..n {
                                     let row = rows[e];
                                     best = consider_row(
                                         best,
@@ -215,87 +213,80 @@ pub fn answer_block(
                                         ask,
                                         e,
                                     );
-                                    e = e + 1;
                                 }
-                                k = best.at;
-                                code = begin_code(
+                                begin_entry(
                                     o.on == 1,
                                     reach.usable,
                                     best.suits,
-                                    k,
+                                    best.at(),
                                     best.switched,
-                                );
+                                )
                             }
-                            Request::Continue => {}
-                            Request::Stop => {}
-                            Request::Cancel => {}
-                        }
+                            Request::Continue => further_entry(o),
+                            Request::Stop => further_entry(o),
+                            Request::Cancel => further_entry(o),
+                        };
                         book.time = t;
-                        let mut answer = refusal(code);
-                        let mut current = o;
-                        if code == 0 {
-                            let mut x = blank_entry();
-                            if k < 64 {
-                                let held = book.entries[k];
-                                x = held;
-                            }
-                            let l = x.limits;
-                            let m = x.meters;
-                            let mut part = kept(0, m, o);
-                            match request {
-                                Request::Begin(_, asset) => {
-                                    part = begin_on(l, m, o, (k % 256) as u8, asset, ask);
+                        let answer;
+                        let current;
+                        match found {
+                            Ok(k) => {
+                                let mut x = blank_entry();
+                                if k < 64 {
+                                    let held = book.entries[k];
+                                    x = held;
                                 }
-                                Request::Continue => {
-                                    part = continue_on(l, m, o, t);
+                                let l = x.limits;
+                                let m = x.meters;
+                                let part = match request {
+                                    Request::Begin(_, asset) => {
+                                        begin_on(l, m, o, (k % 256) as u8, asset, ask)
+                                    }
+                                    Request::Continue => continue_on(l, m, o, t),
+                                    Request::Stop => stop_on(l, m, o, ask.player, t),
+                                    Request::Cancel => {
+                                        let latest = book.latest;
+                                        let own = book.players[j];
+                                        let begin = own.last;
+                                        let recent = recent_of(latest, ask.player, begin, o);
+                                        cancel_on(l, m, o, ask.player, recent)
+                                    }
+                                };
+                                if k < 64 {
+                                    let meters = part.meters;
+                                    let mut y = book.entries[k];
+                                    y.meters = meters;
+                                    book.entries[k] = y;
+                                    let was = rows[k];
+                                    let row = refreshed(was, l, meters);
+                                    rows[k] = row;
                                 }
-                                Request::Stop => {
-                                    part = stop_on(l, m, o, ask.player, t);
+                                answer = part.answer;
+                                current = part.current;
+                                // The header is written in both cases and not behind them, which is quicker.
+                                let header = latest_by(ask.player, part.started);
+                                book.latest = header;
+                                if let Some(k) = request_line(
+                                    request,
+                                    answer,
+                                    o,
+                                    book.switch,
+                                    l,
+                                    used,
+                                ) {
+                                    let seconds = request_seconds(request, t, o);
+                                    good = raise(&mut report, k, l, seconds, good);
                                 }
-                                Request::Cancel => {
-                                    let latest = book.latest;
-                                    let own = book.players[j];
-                                    let begin = own.last;
-                                    let recent = recent_of(latest, ask.player, begin, o);
-                                    part = cancel_on(l, m, o, ask.player, recent);
-                                }
+                                let end = end_of(current);
+                                ends[j] = end;
+                                next = next.min(end);
                             }
-                            if k < 64 {
-                                let meters = part.meters;
-                                let mut y = book.entries[k];
-                                y.meters = meters;
-                                book.entries[k] = y;
-                                let was = rows[k];
-                                let row = refreshed(was, l, meters);
-                                rows[k] = row;
+                            Err(e) => {
+                                let unmarked = latest_by(ask.player, false);
+                                book.latest = unmarked;
+                                answer = refusal(e);
+                                current = o;
                             }
-                            answer = part.answer;
-                            current = part.current;
-                            // The header is written in both cases and not behind them, which is quicker.
-                            let header = latest_by(ask.player, part.started);
-                            book.latest = header;
-                            let w = request_line(
-                                request,
-                                answer,
-                                o,
-                                book.switch,
-                                l,
-                                assets,
-                                book.assetcount,
-                            );
-                            if w < 64 {
-                                let seconds = request_seconds(request, t, o);
-                                let line = report[w];
-                                let raised = raised_for(l, line, seconds);
-                                report[w] = raised;
-                                good = good_after(good, raised);
-                            }
-                            let end = end_of(current);
-                            ends[j] = end;
-                            next = min_time(next, end);
-                        } else {
-                            let unmarked = latest_by(ask.player, false);
-                            book.latest = unmarked;
                         }
                         let mut stored = noted;
                         stored.answer = answer;

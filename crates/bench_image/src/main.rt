@@ -51,7 +51,7 @@ fn read_image(rt: &(impl Clock + Eprint + Files), image: &mut [u8; IMAGE]) -> us
     ensures { result ≤ length image.new }
 {
     match fs::open(rt, "full.rbk") {
-        Ok(mut file) => stream::read_all(rt, &mut file, b"full.rbk", image).length,
+        Ok(mut file) => stream::read_all(rt, &mut file, b"full.rbk", image).unwrap_or(0),
         Err(_) => 0,
     }
 }

@@ -3,9 +3,10 @@
 // Fields to which an image can give an illegal value (a kind of 9, an open mark of 2) are plain numbers here; the reader validates them.
 #![tactic(auto)]
 
-ghost use Rattle.std.specs.Prelude.{◌≡◌, min, get_or};
+ghost use Rattle.std.specs.Prelude.{◌≡◌, ◌||◌, min, get_or, nat_lt, IsTrue, MatchResult};
 ghost use Rattle.book.specs.Blank.{no_asset, no_entry, no_player, no_book, closed, no_line};
 ghost use Rattle.book.specs.Codes.{kind_code, event_code, image_code};
+ghost use Rattle.book.specs.declared.EventError.{EventError};
 
 // The latest time that an event can have.
 pub const LATEST_TIME: u32 = 4000000000;
@@ -231,17 +232,9 @@ pub struct Grounds {
     pub thresholdfull: bool,
 }
 
-// What the bytes of an event record decode to: an event, or the code that refuses them.
-#[derive(Clone, Copy)]
-pub enum Decoded {
-    Invalid(u8),
-    Valid(Event),
-}
-
-// What the checks say of an event before the book is touched: turned away with a code, a resend, or taken.
-#[derive(Clone, Copy)]
-pub enum Gate {
-    Refuse(u8),
+// What the checks let an event do before the book is touched: get its stored answer again, or be taken.
+#[derive(Clone, Copy, Debug, PartialEq, Eq)]
+pub enum Admission {
     Resend,
     Take,
 }
@@ -279,6 +272,25 @@ impl From<Kind> for u8 {
 
     fn from(k: Kind) -> u8 {
         k as u8
+    }
+}
+
+// Rules out: a kind for 0 or 6, a kind for another kind's number.
+impl TryFrom<u8> for Kind {
+    type Error = EventError;
+
+    ghost try_from_gives = { λ n r. MatchResult r (λ k. n ≡ kind_code k)
+        (λ e. (IsTrue (nat_lt n 1 || nat_lt 5 n)) × (e ≡ EventError.Request)) };
+
+    fn try_from(n: u8) -> Result<Kind, EventError> {
+        match n {
+            1 => Ok(Kind::Play),
+            2 => Ok(Kind::Display),
+            3 => Ok(Kind::Execute),
+            4 => Ok(Kind::Print),
+            5 => Ok(Kind::Export),
+            _ => Err(EventError::Request),
+        }
     }
 }
 
@@ -458,11 +470,11 @@ pub fn closed_use() -> Open
 
 // "Each of 1 to 15 returns entry 255 and until 0.", and so do 30, 43 and 44.
 // Rules out: entry 0, the code in another place.
-pub fn refusal(code: u8) -> Answer
-    ensures { result ≡ record { code = code; entry = 255; until = 0 } }
+pub fn refusal(error: EventError) -> Answer
+    ensures { result ≡ record { code = event_code error; entry = 255; until = 0 } }
 {
     Answer {
-        code: code,
+        code: u8::from(error),
         entry: 255,
         until: 0,
     }

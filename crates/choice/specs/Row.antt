@@ -1,5 +1,5 @@
 -- What the choice needs to know of an entry, as a row: a turn of the choice on a row is a turn on its entry.
-use Rattle.std.specs.Prelude.{ℕ, ◌+◌, ◌<◌, min, ◌≡◌, refl, Bool, true, false, not, ◌&&◌, ◌||◌, cond, List, [], ◌∷◌, ◌++◌, leb, ltb, eqb}
+use Rattle.std.specs.Prelude.{ℕ, Some, ◌+◌, ◌<◌, min, ◌≡◌, refl, Bool, true, false, not, ◌&&◌, ◌||◌, cond, List, [], ◌∷◌, leb, ltb, eqb}
 use Rattle.std.proofs.Common.{sym, ap, ◌∙◌, arith, add-zero, ltb-true, ltb-false, leb-true, leb-false, lt-ltb, le-ltb, le-leb, eq-eqb, ne_eqb}
 use Rattle.std.proofs.Math.Bool.{not-not, and-true, and-false}
 use Rattle.std.proofs.lemmas.Bool.{false≢true}
@@ -16,9 +16,9 @@ use Rattle.model.specs.Choice.{no_end, own, suitable, fails, grounds_of, ground_
 use Rattle.model.proofs.Ledger.Facts.{not-positive}
 use Rattle.numbers.proofs.Tests.{on_test, on_same, none_row}
 use Rattle.book.specs.declared.Rank.{Rank}
-use Rattle.choice.specs.declared.Best.{Best}
+use Rattle.choice.specs.declared.Best as code
 use Rattle.choice.specs.declared.Row.{Row}
-use Rattle.choice.specs.Best.{considered}
+use Rattle.choice.specs.Best.{Best, seen, held, considered, entry_taken}
 
 -- a flagged count is used up, or the seconds are, or the interval is 0, or the threshold is full
 unfoldable pub spent : Limits → Meters → Bool
@@ -91,6 +91,27 @@ row_considered asset parent kind ask i row best =
     (record { suits = true; switched = best.switched; at = i; rank = row_rank asset row })
     (record { suits = true; switched = best.switched || (row_open ask row && row_barred ask row); at = best.at; rank = best.rank }))
     best
+
+-- the same on the best so far as the code holds it
+unfoldable pub row_taken : ℕ → ℕ → ℕ → Ask → ℕ → Row → code.Best → code.Best
+row_taken asset parent kind ask i row x =
+    cond (row_suits asset parent kind row)
+    (cond (ranks_before (row_rank asset row) (held x.granted) && (row_open ask row && not (row_barred ask row)))
+    (record { suits = true; switched = x.switched; granted = Some (record { at = i; rank = row_rank asset row }) })
+    (record { suits = true; switched = x.switched || (row_open ask row && row_barred ask row); granted = x.granted }))
+    x
+
+seen-either : (b d : Bool) (x y z : code.Best) → seen (cond b (cond d x y) z) ≡ cond b (cond d (seen x) (seen y)) (seen z)
+seen-either true true x y z = refl
+seen-either true false x y z = refl
+seen-either false d x y z = refl
+
+pub seen-row : (asset parent kind : ℕ) (ask : Ask) (i : ℕ) (row : Row) (x : code.Best)
+    → seen (row_taken asset parent kind ask i row x) ≡ row_considered asset parent kind ask i row (seen x)
+unfolding row_taken row_considered
+seen-row asset parent kind ask i row x =
+    seen-either (row_suits asset parent kind row)
+    (ranks_before (row_rank asset row) (held x.granted) && (row_open ask row && not (row_barred ask row))) _ _ x
 
 -- ## A turn on a row is a turn on its entry
 
@@ -230,27 +251,54 @@ open-last ask l m e =
     (λ q. rw q refl)
 
 -- only an open row is taken, so what its rank is otherwise does not matter
-open-rank : (o z : Bool) (r s held : Rank) (f : Rank → Best) (x : Best) → (o ≡ true → r ≡ s)
+open-rank : {X : Type 0} (o z : Bool) (r s held : Rank) (f : Rank → X) (x : X) → (o ≡ true → r ≡ s)
     → cond (ranks_before r held && (o && z)) (f r) x ≡ cond (ranks_before s held && (o && z)) (f s) x
 open-rank true z r s held f x h = ap (λ (y : Rank). cond (ranks_before y held && z) (f y) x) (h refl)
 open-rank false z r s held f x h = rw (and-false (ranks_before r held), and-false (ranks_before s held)) refl
+
+-- for either form of the best so far: f with the entry in it, g without
+turn-on-row :
+    {X : Type 0} (asset parent kind : ℕ) (ask : Ask) (l : Limits) (m : Meters) (held : Rank) (sw : Bool) (f : Rank → X) (g : Bool → X) (x : X) →
+    ask.time < no_end →
+    cond (row_suits asset parent kind (row_of l m))
+    (cond (ranks_before (row_rank asset (row_of l m)) held && (row_open ask (row_of l m) && not (row_barred ask (row_of l m))))
+    (f (row_rank asset (row_of l m)))
+    (g (sw || (row_open ask (row_of l m) && row_barred ask (row_of l m)))))
+    x
+    ≡ cond (suitable asset parent kind l)
+    (cond (ranks_before (rank_of asset l m) held && grantable ask l m) (f (rank_of asset l m)) (g (sw || switch_only ask l m)))
+    x
+unfolding row_of rank_of suitable own grantable switch_only
+turn-on-row asset parent kind ask l m held sw f g x h =
+    let gs = grounds_of ask l m in
+    let row = row_of l m in
+    ap (λ (y : _). cond (row_suits asset parent kind row) y x)
+    (open-rank (row_open ask row) (not (row_barred ask row)) (row_rank asset row) (rank_of asset l m) held f
+    (g (sw || (row_open ask row && row_barred ask row)))
+    (λ e. λ k. record { flags = row.flags; last = open-last ask l m e k; inherited = one (not (eqb l.asset asset)) }))
+    ∙ rw (
+      window-open ask l m h,
+      barred-is ask l m,
+      none-one (how_many (others gs)) (how_many (ground_list gs)) gs.switchoff (all-of-them gs),
+      only_one (how_many (others gs)) (how_many (ground_list gs)) gs.switchoff (all-of-them gs),
+    ) refl
 
 pub row-considered :
     (asset parent kind : ℕ) (ask : Ask) (i : ℕ) (l : Limits) (m : Meters) (best : Best) →
     ask.time < no_end →
     row_considered asset parent kind ask i (row_of l m) best ≡ considered asset parent kind ask i l m best
-unfolding row_considered row_of considered rank_of suitable own grantable switch_only
+unfolding row_considered considered
 row-considered asset parent kind ask i l m best h =
-    let g = grounds_of ask l m in
-    let row = row_of l m in
-    ap (λ (x : Best). cond (row_suits asset parent kind row) x best)
-    (open-rank (row_open ask row) (not (row_barred ask row)) (row_rank asset row) (rank_of asset l m) best.rank
+    turn-on-row asset parent kind ask l m best.rank best.switched
     (λ r. record { suits = true; switched = best.switched; at = i; rank = r })
-    (record { suits = true; switched = best.switched || (row_open ask row && row_barred ask row); at = best.at; rank = best.rank })
-    (λ e. λ k. record { flags = row.flags; last = open-last ask l m e k; inherited = one (not (eqb l.asset asset)) }))
-    ∙ rw (
-      window-open ask l m h,
-      barred-is ask l m,
-      none-one (how_many (others g)) (how_many (ground_list g)) g.switchoff (all-of-them g),
-      only_one (how_many (others g)) (how_many (ground_list g)) g.switchoff (all-of-them g),
-    ) refl
+    (λ w. record { suits = true; switched = w; at = best.at; rank = best.rank }) best h
+
+pub row-taken :
+    (asset parent kind : ℕ) (ask : Ask) (i : ℕ) (l : Limits) (m : Meters) (x : code.Best) →
+    ask.time < no_end →
+    row_taken asset parent kind ask i (row_of l m) x ≡ entry_taken asset parent kind ask i l m x
+unfolding row_taken entry_taken
+row-taken asset parent kind ask i l m x h =
+    turn-on-row asset parent kind ask l m (held x.granted) x.switched
+    (λ r. record { suits = true; switched = x.switched; granted = Some (record { at = i; rank = r }) })
+    (λ w. record { suits = true; switched = w; granted = x.granted }) x h

@@ -1,90 +1,103 @@
 // What a begin for an asset reaches in a table of assets: whether the asset is usable, and the parent whose entries also serve it.
-// A count above 64, which no image has, counts as 64.
 // Then the entry that the begin gets: among the suitable and grantable ones, the one that comes first in document 01's order.
 // A loop over the entries keeps the best so far. It considers one entry per turn, through a row that holds what the choice needs to
 // know of it.
 #![tactic(auto)]
 
-ghost use Rattle.std.specs.Prelude.{◌≡◌, min};
-ghost use Rattle.choice.specs.Reach.{table_of, found_in, reach_in};
-ghost use Rattle.choice.specs.Best.{best_after};
-ghost use Rattle.choice.specs.Row.{window_of, row_of, refreshed_row, row_open, row_considered};
+ghost use Rattle.std.specs.Prelude.{◌≡◌, length, eqb};
+ghost use Rattle.std.specs.List.{find};
+ghost use Rattle.choice.specs.Reach.{catalog_from, parent_in, reach_in};
+ghost use Rattle.choice.specs.Best.{none_found, at_of, found_after};
+ghost use Rattle.choice.specs.Row.{window_of, row_of, refreshed_row, row_open, row_taken};
 
-use book::{Ask, Asset, Entry, Limits, Meters, Rank, at_most_64};
-use numbers::{one, pick16, pick64};
+use book::{Ask, Asset, Entry, Limits, Meters, Rank};
+use numbers::{one, pick};
 use rules::{flags_of, last_moment, ranks_before, threshold_full, when};
 
-// The asset with that number, blank if there is none.
-#[derive(Clone, Copy)]
-pub struct Found {
-    pub there: bool,
-    pub asset: Asset,
-}
-
-// Parent 0: none.
+// Parent is the asset's inherit, or 0 for none, as an inherit is in images and in the model's `parent_of` and `suitable`.
 #[derive(Clone, Copy)]
 pub struct Reach {
     pub usable: bool,
     pub parent: u16,
 }
 
-// Rules out: a slot past the count, a second asset with that number.
-fn asset_named(assets: [Asset; 64], count: u8, number: u16) -> Found
-    ensures { result ≡ found_in (table_of assets count) number }
+// Rules out: a second asset with that number.
+fn asset_named(assets: &[Asset], number: u16) -> Option<Asset>
+    ensures { result ≡ find (λ a. eqb a.number number) assets.now }
 {
-    let n = at_most_64(count);
-    let mut i: usize = 0;
-    while i < n {
-        let a = assets[i];
-        if a.number == number {
-            return Found {
-                there: true,
-                asset: a,
-            };
-        }
-        i = i + 1;
-    }
-    Found {
-        there: false,
-        asset: Asset {
-            number: 0,
-            inherit: 0,
-            key: 0,
-        },
+    assets.iter().copied().find(|a| a.number == number)
+}
+
+// An inherit if it names a parent, otherwise 0.
+fn parent_in(assets: &[Asset], inherit: u16) -> u16
+    ensures { result ≡ parent_in (catalog_from assets.now) inherit }
+{
+    match asset_named(assets, inherit) {
+        Some(p) => pick((p.key == 0) & (p.inherit == 0), inherit, 0),
+        None => 0,
     }
 }
 
 // Rules out: using a parent or an illegal asset, reaching a parent through an illegal asset or over two levels, an inherit that is not
 // in the book.
-pub fn reach_of(assets: [Asset; 64], count: u8, number: u16) -> Reach
-    ensures { result ≡ reach_in (table_of assets count) number }
+pub fn reach_of(assets: &[Asset], number: u16) -> Reach
+    ensures { result ≡ reach_in (catalog_from assets.now) number }
 {
-    let f = asset_named(assets, count, number);
-    let a = f.asset;
-    let usable = f.there & (a.key == 1);
-    if a.inherit == 0 {
-        return Reach {
-            usable: usable,
+    match asset_named(assets, number) {
+        Some(a) => Reach {
+            usable: a.key == 1,
+            parent: parent_in(assets, a.inherit),
+        },
+        None => Reach {
+            usable: false,
             parent: 0,
-        };
-    }
-    let g = asset_named(assets, count, a.inherit);
-    let p = g.asset;
-    Reach {
-        usable: usable,
-        parent: pick16(g.there & ((p.key == 0) & (p.inherit == 0)), a.inherit, 0),
+        },
     }
 }
 
-// Whether any entry is suitable, whether one of them fails for the switch only, the position of the best grantable one (64 if there is
-// none), and its rank.
+// An entry that can be granted, and its rank.
+#[derive(Clone, Copy)]
+pub struct Candidate {
+    pub at: usize,
+    pub rank: Rank,
+}
+
+// Whether any entry is suitable, whether one of them fails for the switch only, and the best grantable one.
 #[derive(Clone, Copy)]
 pub struct Best {
     pub suits: bool,
     pub switched: bool,
-    pub at: usize,
-    pub rank: Rank,
+    pub granted: Option<Candidate>,
 }
+
+impl Best {
+    // Before any entry is considered.
+    // Rules out: a suitable entry, an entry to grant.
+    pub fn none() -> Best
+        ensures { result ≡ none_found }
+    {
+        Best {
+            suits: false,
+            switched: false,
+            granted: None,
+        }
+    }
+
+    // The position of the best grantable entry.
+    // Rules out: another number of the entry, a position where none is grantable.
+    pub fn at(self) -> Option<usize>
+        ensures { result ≡ at_of self.granted }
+    {
+        self.granted.map(|c| c.at)
+    }
+}
+
+// A rank after that of every entry.
+const LAST_RANK: Rank = Rank {
+    flags: 2,
+    last: 0,
+    inherited: 0,
+};
 
 // The entry is grantable from start (0 if none is flagged) until before window (its last moment, or 0 if a count or the seconds are
 // spent, the interval is 0, or the threshold is full); if it is guarded, only with the switch on. Flags and window are the rank of an
@@ -100,6 +113,7 @@ pub struct Row {
 }
 
 // Rules out: a limit tested without its flag, a limit that is used up left open, an interval of 0 or a full threshold left open.
+#[tactic(auto, unfolding(crate::specs::Row::window_of, crate::specs::Row::spent, rules::specs::Rules::flags_of))]
 fn window_of(l: Limits, m: Meters) -> u64
     ensures { result ≡ window_of l m }
 {
@@ -108,10 +122,11 @@ fn window_of(l: Limits, m: Meters) -> u64
         | (f.timed & (l.timed <= m.timed))
         | (f.accumulated & (l.accumulated <= m.seconds))
         | ((f.interval & (l.interval == 0)) | threshold_full(l, m));
-    pick64(spent, 0, last_moment(l, m))
+    pick(spent, 0, last_moment(l, m))
 }
 
 // Rules out: a window that closes at end, an open row where a count is spent.
+#[tactic(auto, unfolding(crate::specs::Row::row_of, crate::specs::Row::start_of, rules::specs::Rules::flags_of))]
 pub fn row_of(l: Limits, m: Meters) -> Row
     ensures { result ≡ row_of l m }
 {
@@ -150,6 +165,7 @@ fn row_open(row: Row, ask: Ask) -> bool
 // One turn of the choice, on the entry's row. The dates are tested first: that takes two comparisons, and comparing ranks takes more.
 // Rules out: every entry taken as inherited, the later entry at equal ranks, an entry that is suitable but not grantable, the switch held
 // against an entry that is spent.
+#[tactic(auto, unfolding(crate::specs::Row::row_taken))]
 pub fn consider_row(
     best: Best,
     row: Row,
@@ -159,7 +175,7 @@ pub fn consider_row(
     ask: Ask,
     i: usize,
 ) -> Best
-    ensures { result ≡ row_considered asset parent kind ask i row best }
+    ensures { result ≡ row_taken asset parent kind ask i row best }
 {
     if row.kind != kind {
         return best;
@@ -167,23 +183,20 @@ pub fn consider_row(
     if !((row.asset == asset) | (!(parent == 0) & (row.asset == parent))) {
         return best;
     }
-    let held = best.rank;
     if !row_open(row, ask) {
         return Best {
             suits: true,
-            switched: best.switched,
-            at: best.at,
-            rank: held,
+            ..best
         };
     }
     if row.guarded & !(ask.switch == 1) {
         return Best {
             suits: true,
             switched: true,
-            at: best.at,
-            rank: held,
+            ..best
         };
     }
+    let held = best.granted.map_or(LAST_RANK, |c| c.rank);
     let rank = Rank {
         flags: row.flags,
         last: row.window,
@@ -192,42 +205,24 @@ pub fn consider_row(
     if !ranks_before(rank, held) {
         return Best {
             suits: true,
-            switched: best.switched,
-            at: best.at,
-            rank: held,
+            ..best
         };
     }
     Best {
         suits: true,
-        switched: best.switched,
-        at: i,
-        rank: rank,
+        granted: Some(Candidate { at: i, rank: rank }),
+        ..best
     }
 }
 
-// Rules out: an entry past the count, 12 where an entry is suitable, 13 where one is grantable.
-pub fn chosen(es: [Entry; 64], count: u8, asset: u16, parent: u16, kind: u8, ask: Ask) -> Best
-    ensures { result ≡ best_after es asset parent kind ask (min count 64) }
+// Rules out: the last entry left out, 12 where an entry is suitable, 13 where one is grantable.
+pub fn chosen(entries: &[Entry], asset: u16, parent: u16, kind: u8, ask: Ask) -> Best
+    ensures { result ≡ found_after entries.now asset parent kind ask (length entries.now) }
 {
-    let n = at_most_64(count);
-    let mut best = Best {
-        suits: false,
-        switched: false,
-        at: 64,
-        rank: Rank {
-            flags: 2,
-            last: 0,
-            inherited: 0,
-        },
-    };
-    let mut i: usize = 0;
-    while i < n {
-        let e = es[i];
-        let l = e.limits;
-        let m = e.meters;
-        let row = row_of(l, m);
+    let mut best = Best::none();
+    for (i, e) in entries.iter().enumerate() {
+        let row = row_of(e.limits, e.meters);
         best = consider_row(best, row, asset, parent, kind, ask, i);
-        i = i + 1;
     }
     best
 }

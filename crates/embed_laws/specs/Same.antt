@@ -11,7 +11,7 @@ use Rattle.numbers.specs.Fields.{Fit}
 use Rattle.book.specs.declared.Line.{Line}
 use Rattle.book.specs.declared.Book.{Book}
 use Rattle.model.specs.Image.{Bytes, read_code}
-use Rattle.book.specs.declared.Decoded.{Decoded}
+use Rattle.book.specs.Decoded.{Decoded}
 use Rattle.model.specs.Record.{record_size, record_widths}
 use Rattle.model.specs.Report.{receive, lines_left, lent}
 use Rattle.model.specs.History.{record_answers, record_final, record_lines}

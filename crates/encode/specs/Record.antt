@@ -7,8 +7,7 @@ use Rattle.std.proofs.Math.Bool.{cond}
 use mathlib.Core.List.{List, [], ◌∷◌, append-nil}
 use Rattle.numbers.specs.Fields.{laid_out, values_at, Fit}
 use Rattle.numbers.proofs.FieldLaws.{values-back, laid-bytes}
-use Rattle.book.specs.declared.Decoded.{Decoded}
-use Rattle.book.specs.declared.Decoded.TheVariants.{Invalid, Valid}
+use Rattle.book.specs.Decoded.{Decoded, Invalid, Valid}
 use Rattle.model.specs.Book.{request_legal}
 use Rattle.model.specs.Image.{Bytes}
 use Rattle.model.specs.Record.{record_widths, record_size, request_of, event_in, decoded}

@@ -51,15 +51,13 @@ fn answer(rt: &(impl Clock + Eprint + Print), text: &[u8], n: usize) {
 }
 
 fn import_into(rt: &(impl Clock + Eprint + Input + Print), text: &mut [u8; TEXT]) {
-    let i = stream::read_all(rt, &mut rt.reader(), b"standard input", text);
-    if !i.good {
-        return;
+    if let Some(n) = stream::read_all(rt, &mut rt.reader(), b"standard input", text) {
+        if n < TEXT {
+            answer(rt, text, n);
+        } else {
+            too_long(rt);
+        }
     }
-    if TEXT <= i.length {
-        too_long(rt);
-        return;
-    }
-    answer(rt, text, i.length);
 }
 
 fn import(rt: &(impl Clock + Eprint + Input + Print)) {

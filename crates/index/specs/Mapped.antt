@@ -1,7 +1,10 @@
 -- A table that is a map over another one: what is at a position, what a store does to both, and the loop that fills it.
 use Rattle.std.specs.Prelude.{ℕ, zero, suc, ◌+◌, ◌-◌, ◌<◌, ◌≡◌, refl}
 use Rattle.std.proofs.Math.Path.{sym, ap, ap₂}
-use Rattle.std.proofs.Common.{◌∙◌}
+use Rattle.std.proofs.Common.{◌∙◌, ext_get_or}
+use Rattle.std.specs.Array.{IsMapOf}
+use Rattle.std.specs.Fn.{Called}
+use denote.Param.Members.{Mut}
 use mathlib.Core.List.{List, [], ◌∷◌, ◌++◌, map}
 use native.Mathlib.Omega.{arith}
 use Rattle.std.proofs.Math.ListN.{length, get_or, set, replicate, length-map, get_or-eq_default}
@@ -44,3 +47,17 @@ module _ {A B : Type 0} (f : A → B) where
       ∙ ap (λ (j : ℕ). listed (λ k. get_or (map f l) k e) j ++ replicate (m - j) e) z
       ∙ ap (λ (j : ℕ). listed (λ k. get_or (map f l) k e) m ++ replicate j e) none
       ∙ slots-back (map f l) m 0 e k (λ j h. get_or-eq_default (map f l) e (omega arith))
+
+-- an array's `map` with a closure that computes f
+pub map-computes :
+    {F A B : Type 0} (g : Mut F (A × Unit {0}) B) (s : F) (xs : List A) (ys : List B) (n : ℕ) (f : A → B) (d : A) (e : B) →
+    IsMapOf g s xs ys n →
+    length xs ≡ n →
+    ((x : A) (y : B) (p q : F) → Called g p (x, tt) y q → y ≡ f x) →
+    ys ≡ map f xs
+map-computes g s xs ys n f d e h size computes =
+    ext_get_or e ys (map f xs) (h.long ∙ sym (length-map xs f ∙ size))
+    (λ i l.
+    let few : i < n = omega (arith, l, h.long) in
+    let k = h.at i d e few in
+    computes (get_or xs i d) (get_or ys i e) k.0 k.1 k.2 ∙ sym (mapped_at f xs i d e (omega (arith, few, size))))

@@ -1,21 +1,22 @@
 -- When a list of lines, by value in 64 places, is good: the same as for the list.
-use Rattle.std.specs.Prelude.{ℕ, zero, suc, ◌<◌, ◌≤◌, min, ◌≡◌, refl, Bool, false, not, ◌&&◌, ◌||◌, List, [], ◌∷◌, length, get_or, set, replicate}
-use Rattle.std.proofs.Common.{not-suc-le-zero, le_of_suc-le-suc, arith, sym, ◌∙◌, get_or-set_same, get_or-set_other}
+use Rattle.std.specs.Prelude.{ℕ, zero, suc, ◌<◌, ◌≤◌, min, ◌≡◌, refl, Bool, not, ◌&&◌, ◌||◌, List, [], ◌∷◌, length, get_or, set, replicate, take}
+use Rattle.std.proofs.lemmas.List.{get_or-take}
+use Rattle.std.proofs.Common.{length-take-le, not-suc-le-zero, le_of_suc-le-suc, arith, sym, ◌∙◌, get_or-set_same, get_or-set_other}
 use Rattle.std.proofs.Math.Path.{ap}
 use Rattle.std.proofs.Math.Bool.{true}
 use Rattle.std.proofs.Math.ListN.{get_or-eq_default}
 use Rattle.std.proofs.Math.Dec.{ltb, leb, eqb}
 use borrow.Author.Tests.{eqb-true, eq-eqb, ltb-true, lt-ltb, leb-true, le-leb}
 use Rattle.numbers.specs.Count.{all, one}
-use Rattle.numbers.proofs.TableLaws.{below_or_not}
+use Rattle.numbers.proofs.TableLaws.{below_or_not, all_same}
 use Rattle.numbers.proofs.Tests.{on_test, on_same, clash, and_left, and_right, and_both, implied, implied-at, row-passed, all-below}
 use Rattle.book.specs.declared.Asset.{Asset}
 use Rattle.book.specs.declared.Limits.{Limits}
 use Rattle.book.specs.declared.Line.{Line}
 use Rattle.book.specs.declared.Book.{Book}
-use Rattle.book.specs.Blank.{no_line}
+use Rattle.book.specs.Blank.{no_asset, no_line}
 use Rattle.model.specs.Book.{asset_at, assets_in}
-use Rattle.model.specs.Report.{line_at, line_bound, line_small, good, sum64, raised}
+use Rattle.model.specs.Report.{line_at, line_bound, good, sum64, raised}
 use Rattle.model.specs.Demand1.{GoodList}
 use Rattle.model.proofs.Demand3.Lines.{good-list, list-good}
 use Rattle.model.proofs.Legal.Facts.{all_of}
@@ -119,6 +120,19 @@ module _ (b : Book) (ls : List Line) where
       on_test by_value
       (λ q. q ∙ sym (list-good b ls (from-value q)))
       (λ q. on_test (good b ls) (λ r. clash (to-value (good-list b ls r)) q) (λ r. q ∙ sym r))
+
+-- the used slots of a table, as a list
+pub good-used : (ats : List Asset) (assetcount : ℕ) (lines : List Line) (count : ℕ) → min assetcount 64 ≤ length ats →
+    good_lines (take (min assetcount 64) ats) (length (take (min assetcount 64) ats)) lines count ≡ good_lines ats assetcount lines count
+unfolding good_lines
+good-used ats assetcount lines count h =
+    let n = min assetcount 64 in
+    let size : min (length (take n ats)) 64 ≡ n = omega (arith, length-take-le n ats h) in
+    rw size (ap (λ (w : Bool). (leb n count && leb count 64) && w)
+    (all_same (fine_at (take n ats) n lines) (fine_at ats n lines) 64
+    (λ k q. on_test (ltb k n)
+    (λ r. ap (λ (a : Asset). fine (ltb k n) a.number (line_at lines k)) (get_or-take n ats k no_asset (ltb-true k n r)))
+    (λ r. rw r refl))))
 
 -- ## A line raised
 

@@ -1,12 +1,14 @@
 -- What is recorded, as the loops compute it: the line by position, one use after another.
-use Rattle.std.specs.Prelude.{ℕ, ◌+◌, ◌-◌, ◌<◌, ◌≤◌, min, ◌≡◌, Bool, true, false, ◌&&◌, cond, List, [], ◌∷◌, ◌++◌, length, get_or, set, take, leb, ltb}
-use Rattle.std.proofs.Common.{add-one, arith, ap, ◌∙◌, take-suc}
+use Rattle.std.specs.Prelude.{ℕ, Option, None, Some, position, ◌+◌, ◌-◌, ◌<◌, ◌≤◌, min, ◌≡◌, Bool, true, false, ◌&&◌, cond, List, [], ◌∷◌, ◌++◌, length, get_or, set, take, leb, ltb}
+use Rattle.std.specs.Option.{unwrap_or}
+use Rattle.std.proofs.Common.{add-one, arith, ap, ap₂, ◌∙◌, take-suc, length-take-le}
 use Rattle.std.proofs.Math.Path.{refl, sym}
 use Rattle.std.proofs.Math.Bool.{and-false}
 use Rattle.std.proofs.Math.ListN.{get_or-eq_default}
 use Rattle.std.proofs.Math.Dec.{eqb}
 use borrow.Author.Tests.{ltb-true, lt-ltb, le-ltb}
 use Rattle.numbers.proofs.Tests.{on_test, cond-on, cond-off}
+use Rattle.numbers.proofs.ListLaws.{position-first-of}
 use Rattle.book.specs.declared.Asset.{Asset}
 use Rattle.book.specs.declared.Limits.{Limits}
 use Rattle.book.specs.declared.Entry.{Entry}
@@ -14,7 +16,7 @@ use Rattle.book.specs.declared.Line.{Line}
 use Rattle.book.specs.declared.Open.{Open}
 use Rattle.book.specs.declared.Player.{Player}
 use Rattle.book.specs.declared.Book.{Book}
-use Rattle.book.specs.Blank.{no_entry, no_player}
+use Rattle.book.specs.Blank.{no_asset, no_entry, no_player}
 use Rattle.book.specs.declared.Answer.{Answer}
 use Rattle.book.specs.declared.Request.{Request}
 use Rattle.book.specs.declared.Request.TheVariants.{Begin, Continue, Stop, Cancel}
@@ -22,7 +24,7 @@ use Rattle.model.specs.Book.{limits_at, player_at, assets_in, asset_position, in
 use Rattle.model.specs.Record.{kind_number}
 use Rattle.model.specs.Meters.{expired}
 use Rattle.model.specs.Step.{open_at}
-use Rattle.model.specs.Report.{line_at, Ended, raised, counted, line_of, recorded, recorded_all, ended_at, overdue, ended_by}
+use Rattle.model.specs.Report.{line_at, Ended, raised, counted, recorded, recorded_all, ended_at, overdue, ended_by}
 use Rattle.report.specs.Report.{raised_line, raised_is}
 
 -- the line of a content, 64 if the use is not recorded
@@ -31,6 +33,78 @@ line_for switch l ats assetcount content =
     cond (eqb switch 1 && eqb l.tracked 1)
     (cond (ltb (asset_position ats (min assetcount 64) content) (min assetcount 64)) (asset_position ats (min assetcount 64) content) 64)
     64
+
+-- the same in a list of assets
+unfoldable pub line_in : ℕ → Limits → List Asset → ℕ → Option ℕ
+line_in switch l ats content = cond (eqb switch 1 && eqb l.tracked 1) (position (λ (a : Asset). eqb a.number content) ats) None
+
+some-64 : (t w : Bool) (p : ℕ) → unwrap_or (cond t (cond w (Some p) None) None) 64 ≡ cond t (cond w p 64) 64
+some-64 true true p = refl
+some-64 true false p = refl
+some-64 false w p = refl
+
+some-below : (t : Bool) (p m k : ℕ) → cond t (cond (ltb p m) (Some p) None) None ≡ Some k → k < m
+some-below true p m k h =
+    on_test (ltb p m)
+    (λ q. let e : Some p ≡ Some k = rw q at h in let same : p ≡ k = cc in omega (arith, ltb-true p m q))
+    (λ q. let e : None ≡ Some k = rw q at h in absurd (cc))
+some-below false p m k h = absurd (cc)
+
+pub line-within : (switch : ℕ) (l : Limits) (ats : List Asset) (content k : ℕ) → line_in switch l ats content ≡ Some k → k < length ats
+unfolding line_in
+line-within switch l ats content k h = some-below (eqb switch 1 && eqb l.tracked 1) _ (length ats) k h
+
+-- in the used slots of a table
+module _ (switch : ℕ) (l : Limits) (ats : List Asset) (assetcount content : ℕ) (h : min assetcount 64 ≤ length ats) where
+  abbrev m : ℕ
+  m = min assetcount 64
+
+  abbrev found : ℕ
+  found = asset_position ats m content
+
+  line-found : line_in switch l (take m ats) content
+      ≡ cond (eqb switch 1 && eqb l.tracked 1) (cond (ltb found m) (Some found) None) None
+  unfolding line_in asset_position
+  line-found =
+      ap₂ (λ (p n : ℕ). cond (eqb switch 1 && eqb l.tracked 1) (cond (ltb p n) (Some p) None) None)
+      (position-first-of (λ (a : Asset). eqb a.number content) ats no_asset m h) (length-take-le m ats h)
+
+  pub line-as : unwrap_or (line_in switch l (take m ats) content) 64 ≡ line_for switch l ats assetcount content
+  unfolding line_for
+  line-as = ap (λ (r : Option ℕ). unwrap_or r 64) line-found ∙ some-64 (eqb switch 1 && eqb l.tracked 1) (ltb found m) found
+
+  pub line-below : (k : ℕ) → line_in switch l (take m ats) content ≡ Some k → k < 64
+  line-below k e = let w = some-below (eqb switch 1 && eqb l.tracked 1) found m k (sym line-found ∙ e) in omega arith
+
+-- in the first n slots of a book's table, if these are the used ones
+module _ (b : Book) (n : ℕ) (hn : n ≡ min b.assetcount 64) (h : min b.assetcount 64 ≤ length b.assets) (l : Limits) (content : ℕ) where
+  to-used : line_in b.switch l (take n b.assets) content ≡ line_in b.switch l (take (min b.assetcount 64) b.assets) content
+  to-used = ap (λ (k : ℕ). line_in b.switch l (take k b.assets) content) hn
+
+  pub used-as : unwrap_or (line_in b.switch l (take n b.assets) content) 64 ≡ line_for b.switch l b.assets b.assetcount content
+  used-as = ap (λ (r : Option ℕ). unwrap_or r 64) to-used ∙ line-as b.switch l b.assets b.assetcount content h
+
+  pub used-below : (k : ℕ) → Some k ≡ line_in b.switch l (take n b.assets) content → k < 64
+  used-below k e = line-below b.switch l b.assets b.assetcount content h k (sym (e ∙ to-used))
+
+cond-64 : (t : Bool) (r : Option ℕ) → unwrap_or (cond t r None) 64 ≡ cond t (unwrap_or r 64) 64
+cond-64 true r = refl
+cond-64 false r = refl
+
+cond-some : {P : Type 0} (t : Bool) (r : Option ℕ) (k : ℕ) → (r ≡ Some k → P) → cond t r None ≡ Some k → P
+cond-some true r k f h = f h
+cond-some false r k f h = absurd (cc)
+
+-- that of a use that is due
+module _ (b : Book) (n : ℕ) (hn : n ≡ min b.assetcount 64) (h : min b.assetcount 64 ≤ length b.assets) (l : Limits) (t : ℕ) (o : Open) where
+  abbrev due_in : Option ℕ
+  due_in = cond (expired t o) (line_in b.switch l (take n b.assets) o.content) None
+
+  pub due-as : unwrap_or due_in 64 ≡ cond (expired t o) (line_for b.switch l b.assets b.assetcount o.content) 64
+  due-as = cond-64 (expired t o) _ ∙ ap (λ (k : ℕ). cond (expired t o) k 64) (used-as b n hn h l o.content)
+
+  pub due-below : (k : ℕ) → Some k ≡ due_in → k < 64
+  due-below k e = cond-some (expired t o) _ k (λ (x : _). used-below b n hn h l o.content k (sym x)) (sym e)
 
 module _ (switch : ℕ) (l : Limits) (ats : List Asset) (assetcount content : ℕ) where
   -- by the tests of the code
@@ -182,6 +256,43 @@ request_line (Begin kind asset) a o switch l ats n =
 request_line Continue a o switch l ats n = 64
 request_line Stop a o switch l ats n = cond (eqb a.code 0) (line_for switch l ats n o.content) 64
 request_line Cancel a o switch l ats n = 64
+
+-- the same in a list of assets
+unfoldable pub request_in : Request → Answer → Open → ℕ → Limits → List Asset → Option ℕ
+request_in (Begin kind asset) a o switch l ats = cond (eqb a.code 0 && momentary (kind_number kind)) (line_in switch l ats asset) None
+request_in Continue a o switch l ats = None
+request_in Stop a o switch l ats = cond (eqb a.code 0) (line_in switch l ats o.content) None
+request_in Cancel a o switch l ats = None
+
+pub request-within : (q : Request) (a : Answer) (o : Open) (switch : ℕ) (l : Limits) (ats : List Asset) (k : ℕ)
+    → request_in q a o switch l ats ≡ Some k → k < length ats
+unfolding request_in
+request-within (Begin kind asset) a o switch l ats k e = cond-some _ _ k (line-within switch l ats asset k) e
+request-within Continue a o switch l ats k e = absurd (cc)
+request-within Stop a o switch l ats k e = cond-some _ _ k (line-within switch l ats o.content k) e
+request-within Cancel a o switch l ats k e = absurd (cc)
+
+module _ (a : Answer) (o : Open) (switch : ℕ) (l : Limits) (ats : List Asset) (assetcount : ℕ) (h : min assetcount 64 ≤ length ats) where
+  abbrev slots : List Asset
+  slots = take (min assetcount 64) ats
+
+  pub request-as : (q : Request) → unwrap_or (request_in q a o switch l slots) 64 ≡ request_line q a o switch l ats assetcount
+  unfolding request_in request_line
+  request-as (Begin kind asset) =
+      let t = eqb a.code 0 && momentary (kind_number kind) in
+      cond-64 t (line_in switch l slots asset) ∙ ap (λ (k : ℕ). cond t k 64) (line-as switch l ats assetcount asset h)
+  request-as Continue = refl
+  request-as Stop =
+      cond-64 (eqb a.code 0) (line_in switch l slots o.content)
+      ∙ ap (λ (k : ℕ). cond (eqb a.code 0) k 64) (line-as switch l ats assetcount o.content h)
+  request-as Cancel = refl
+
+  pub request-below : (q : Request) (k : ℕ) → request_in q a o switch l slots ≡ Some k → k < 64
+  unfolding request_in
+  request-below (Begin kind asset) k e = cond-some _ _ k (line-below switch l ats assetcount asset h k) e
+  request-below Continue k e = absurd (cc)
+  request-below Stop k e = cond-some _ _ k (line-below switch l ats assetcount o.content h k) e
+  request-below Cancel k e = absurd (cc)
 
 unfoldable pub request_seconds : Request → ℕ → Open → ℕ
 request_seconds (Begin kind asset) t o = 0

@@ -2,17 +2,15 @@
 // The lines are held by value, in 64 places; how many of them were lent is passed beside them.
 #![tactic(auto)]
 
-ghost use Rattle.std.specs.Prelude.{◌≡◌, cond};
+ghost use Rattle.std.specs.Prelude.{◌≡◌, ◌<◌, cond, length, None, position, eqb, set};
 ghost use Rattle.model.specs.Meters.{expired};
-ghost use Rattle.model.specs.Report.{raised, recorded, recorded_all, overdue, ended_by};
-ghost use Rattle.metering.specs.Recording.{line_for, request_line, request_seconds};
+ghost use Rattle.model.specs.Report.{line_at, raised, recorded, recorded_all, overdue, ended_by};
+ghost use Rattle.metering.specs.Recording.{line_in, request_in, request_seconds};
 ghost use Rattle.metering.specs.Good.{fine, good_lines, good_after};
 
-use book::{Answer, Asset, Book, Limits, Line, Open, Request, at_most_64};
-use image_limits::asset_position;
-use numbers::saturating_sub;
+use book::{Answer, Asset, Book, Limits, Line, Open, Request, at_most_64, blank_asset, entry_at};
 use report::raise_one;
-use rules::{kind_number, momentary};
+use rules::momentary;
 use uses::due;
 
 // No number of a list is as great as that.
@@ -31,33 +29,44 @@ fn fine_line(named: bool, number: u16, l: Line) -> bool
 
 // Whether a list of so many lines is good: 30 otherwise.
 // Rules out: a list that is too short or too long, a line that names another asset, a number of 2 to the 62.
-pub fn good_lines(assets: [Asset; 64], assetcount: u8, lines: [Line; 64], count: usize) -> bool
-    ensures { result ≡ good_lines assets assetcount lines count }
+pub fn good_lines(assets: &[Asset], lines: [Line; 64], count: usize) -> bool
+    ensures { result ≡ good_lines assets.now (length assets.now) lines count }
 {
-    let n = at_most_64(assetcount);
+    let n = assets.len().min(64);
     let mut good = (n <= count) & (count <= 64);
-    let mut k: usize = 0;
-    while k < 64 {
-        let a = assets[k];
-        let l = lines[k];
-        let w = fine_line(k < n, a.number, l);
-        good = good & w;
-        k = k + 1;
+    for k in 0..64 {
+        let a = assets.get(k).copied().unwrap_or(blank_asset());
+        good = good & fine_line(k < n, a.number, lines[k]);
     }
     good
 }
 
-// The line of a content, by the position of its asset, if a use of an entry with these limits is recorded; 64 if it is not.
+// The position of the asset with that number.
+// Rules out: the last of two with that number.
+fn position_of(assets: &[Asset], number: u32) -> Option<usize>
+    ensures { result ≡ position (λ a. eqb a.number number) assets.now }
+{
+    assets.iter().position(|a| a.number as u32 == number)
+}
+
+// The line of a content, by the position of its asset, if a use of an entry with these limits is recorded.
 // Rules out: a use recorded with the switch off or for an untracked entry, a content that the book lacks.
-pub fn line_for(switch: u32, l: Limits, assets: [Asset; 64], assetcount: u8, content: u32) -> usize
-    ensures { result ≡ line_for switch l assets assetcount content }
+#[tactic(auto, unfolding(crate::specs::Recording::line_in))]
+pub fn line_for(switch: u32, l: Limits, assets: &[Asset], content: u32) -> Option<usize>
+    ensures { result ≡ line_in switch l assets.now content }
 {
     if !((switch == 1) & (l.tracked == 1)) {
-        return 64;
+        return None;
     }
-    let n = at_most_64(assetcount);
-    let k = asset_position(assets, n, content);
-    if k < n { k } else { 64 }
+    position_of(assets, content)
+}
+
+// Raises line k by a use of so many seconds, of an entry with these limits.
+fn raise_line(lines: &mut [Line; 64], k: usize, l: Limits, seconds: u32)
+    requires { k < 64 }
+    ensures { lines.new ≡ set lines.old k (raised l seconds (line_at lines.old k)) }
+{
+    lines[k] = raised_for(l, lines[k], seconds);
 }
 
 // What the end of a use records.
@@ -65,29 +74,25 @@ pub fn line_for(switch: u32, l: Limits, assets: [Asset; 64], assetcount: u8, con
 fn record_end(b: Book, lines: [Line; 64], entry: u8, content: u32, seconds: u32) -> [Line; 64]
     ensures { result ≡ recorded b lines (record { entry = entry; content = content; seconds = seconds }) }
 {
-    let entries = b.entries;
-    let assets = b.assets;
-    let x = book::entry_at(entries, entry as usize);
-    let l = x.limits;
-    let k = line_for(b.switch, l, assets, b.assetcount, content);
+    let assets = &b.assets[..at_most_64(b.assetcount)];
+    let l = entry_at(b.entries, entry as usize).limits;
     let mut after = lines;
-    if k < 64 {
-        let y = after[k];
-        let z = raise_one(y, seconds as u64, l.timedvalue <= seconds);
-        after[k] = z;
+    if let Some(k) = line_for(b.switch, l, assets, content) {
+        raise_line(&mut after, k, l, seconds);
     }
     after
 }
 
-// The line that settling a player's use at t raises; 64 if it raises none.
+// The line that settling a player's use at t raises.
 // Rules out: a use that is not due recorded.
-fn due_line(o: Open, t: u32, switch: u32, l: Limits, assets: [Asset; 64], assetcount: u8) -> usize
-    ensures { result ≡ cond (expired t o) (line_for switch l assets assetcount o.content) 64 }
+fn due_line(o: Open, t: u32, switch: u32, l: Limits, assets: &[Asset]) -> Option<usize>
+    ensures { result ≡ cond (expired t o) (line_in switch l assets.now o.content) None }
 {
     if due(o, t) {
-        return line_for(switch, l, assets, assetcount, o.content);
+        line_for(switch, l, assets, o.content)
+    } else {
+        None
     }
-    64
 }
 
 // What settling at t records, players 0 to 15 in turn.
@@ -95,30 +100,22 @@ fn due_line(o: Open, t: u32, switch: u32, l: Limits, assets: [Asset; 64], assetc
 pub fn record_due(b: Book, lines: [Line; 64], t: u32) -> [Line; 64]
     ensures { result ≡ recorded_all b lines (overdue t b.players) }
 {
-    let players = b.players;
-    let entries = b.entries;
-    let assets = b.assets;
+    let assets = &b.assets[..at_most_64(b.assetcount)];
     let mut after = lines;
-    let mut i: usize = 0;
-    while i < 16 {
-        let p = players[i];
-        let o = p.current;
-        let x = book::entry_at(entries, o.entry as usize);
-        let l = x.limits;
-        let k = due_line(o, t, b.switch, l, assets, b.assetcount);
-        let seconds = saturating_sub(o.until, o.begin);
-        if k < 64 {
-            let y = after[k];
-            let z = raise_one(y, seconds as u64, l.timedvalue <= seconds);
-            after[k] = z;
+    for i in 0..16 {
+        let o = b.players[i].current;
+        let l = entry_at(b.entries, o.entry as usize).limits;
+        if let Some(k) = due_line(o, t, b.switch, l, assets) {
+            let seconds = o.until.saturating_sub(o.begin);
+            raise_line(&mut after, k, l, seconds);
         }
-        i = i + 1;
     }
     after
 }
 
 // What the request itself records, answered with a: a granted stop ends the use, a granted momentary begin ends as it begins.
 // Rules out: a continue or a cancel recorded, a refused stop recorded, a momentary use with seconds.
+#[tactic(auto, unfolding(model::specs::Report::ended_by))]
 pub fn record_request(
     b: Book,
     lines: [Line; 64],
@@ -131,7 +128,7 @@ pub fn record_request(
 {
     match q {
         Request::Begin(kind, asset) => {
-            if (a.code == 0) & momentary(kind_number(kind)) {
+            if (a.code == 0) & momentary(u8::from(kind)) {
                 record_end(b, lines, a.entry, asset as u32, 0)
             } else {
                 lines
@@ -140,7 +137,7 @@ pub fn record_request(
         Request::Continue => lines,
         Request::Stop => {
             if a.code == 0 {
-                record_end(b, lines, o.entry, o.content, saturating_sub(t, o.begin))
+                record_end(b, lines, o.entry, o.content, t.saturating_sub(o.begin))
             } else {
                 lines
             }
@@ -165,48 +162,49 @@ pub fn good_after(good: bool, y: Line) -> bool
     good & ((y.times < LINE_BOUND) & (y.seconds < LINE_BOUND))
 }
 
-// The line that a request raises, answered with a, if its entry has these limits; 64 if it raises none.
+// The line that a request raises, answered with a, if its entry has these limits.
 // Rules out: a continue or a cancel recorded, a refused stop recorded.
+#[tactic(auto, unfolding(crate::specs::Recording::request_in))]
 pub fn request_line(
     q: Request,
     a: Answer,
     o: Open,
     switch: u32,
     l: Limits,
-    assets: [Asset; 64],
-    assetcount: u8,
-) -> usize
-    ensures { result ≡ request_line q a o switch l assets assetcount }
+    assets: &[Asset],
+) -> Option<usize>
+    ensures { result ≡ request_in q a o switch l assets.now }
 {
     match q {
         Request::Begin(kind, asset) => {
-            if (a.code == 0) & momentary(kind_number(kind)) {
-                line_for(switch, l, assets, assetcount, asset as u32)
+            if (a.code == 0) & momentary(u8::from(kind)) {
+                line_for(switch, l, assets, asset as u32)
             } else {
-                64
+                None
             }
         }
-        Request::Continue => 64,
+        Request::Continue => None,
         Request::Stop => {
             if a.code == 0 {
-                line_for(switch, l, assets, assetcount, o.content)
+                line_for(switch, l, assets, o.content)
             } else {
-                64
+                None
             }
         }
-        Request::Cancel => 64,
+        Request::Cancel => None,
     }
 }
 
 // The seconds of the use that a request ends.
 // Rules out: a momentary use with seconds.
+#[tactic(auto, unfolding(crate::specs::Recording::request_seconds))]
 pub fn request_seconds(q: Request, t: u32, o: Open) -> u32
     ensures { result ≡ request_seconds q t o }
 {
     match q {
         Request::Begin(_, _) => 0,
         Request::Continue => 0,
-        Request::Stop => saturating_sub(t, o.begin),
+        Request::Stop => t.saturating_sub(o.begin),
         Request::Cancel => 0,
     }
 }

@@ -19,10 +19,8 @@ use Rattle.book.specs.declared.Kind.{Kind}
 use Rattle.book.specs.declared.Kind.TheVariants.{Play, Display, Execute, Print, Export}
 use Rattle.book.specs.declared.Recent.{Recent}
 use Rattle.book.specs.declared.Request.TheVariants.{Begin, Continue, Stop, Cancel}
-use Rattle.book.specs.declared.Decoded.{Decoded}
-use Rattle.book.specs.declared.Decoded.TheVariants.{Invalid, Valid}
-use Rattle.book.specs.declared.Gate.{Gate}
-use Rattle.book.specs.declared.Gate.TheVariants.{Refuse, Resend, Take}
+use Rattle.book.specs.Decoded.{Decoded, Invalid, Valid}
+use Rattle.book.specs.Gate.{Gate, Refuse, Resend, Take}
 use Rattle.book.specs.Blank.{no_last, closed}
 use Rattle.model.specs.Book.{asset_at, limits_at, meters_at, assets_in, entries_in, flagged}
 use Rattle.model.specs.Book.{count_flag, timed_flag, start_flag, end_flag, interval_flag, accumulated_flag}

@@ -27,7 +27,7 @@ use Rattle.book.specs.declared.Latest.{Latest}
 use Rattle.book.specs.declared.Line.{Line}
 use Rattle.book.specs.declared.Book.{Book}
 use Rattle.book.specs.declared.Event.{Event}
-use Rattle.book.specs.declared.Gate.TheVariants.{Take}
+use Rattle.book.specs.Gate.{Take}
 use Rattle.model.specs.Book.{limits_at, meters_at, flagged, players_legal, latest_legal, Legal}
 use Rattle.model.specs.Book.{count_flag, timed_flag, accumulated_flag}
 use Rattle.model.specs.Meters.{is_on, expired, shut, released, settled}

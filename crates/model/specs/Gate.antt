@@ -4,8 +4,7 @@ use Rattle.std.specs.Prelude.{ℕ, ◌+◌, ◌/◌, ◌%◌, Bool, not, ◌&&�
 use Rattle.book.specs.declared.Last.{Last}
 use Rattle.book.specs.declared.Event.{Event}
 use Rattle.book.specs.declared.Request.{Request}
-use Rattle.book.specs.declared.Gate.{Gate}
-use Rattle.book.specs.declared.Gate.TheVariants.{Refuse, Resend, Take}
+use Rattle.book.specs.Gate.{Gate, Refuse, Resend, Take}
 use Rattle.model.specs.Book.{latest_time}
 use Rattle.model.specs.Record.{operation_number, request_asset, request_kind}
 

@@ -3,7 +3,7 @@ use Rattle.std.specs.Prelude.{ℕ, List, [], ◌∷◌}
 use Rattle.book.specs.declared.Answer.{Answer}
 use Rattle.book.specs.declared.Line.{Line}
 use Rattle.book.specs.declared.Book.{Book}
-use Rattle.book.specs.declared.Decoded.{Decoded}
+use Rattle.book.specs.Decoded.{Decoded}
 use Rattle.model.specs.Report.{Arrival, receive, lines_left, lent}
 
 -- the answers to a list of events, each with the list it is lent, and the book after it

@@ -8,8 +8,7 @@ use Rattle.book.specs.declared.Kind.TheVariants.{Play, Display, Execute, Print, 
 use Rattle.book.specs.Codes.{kind_code}
 use Rattle.book.specs.declared.Request.{Request}
 use Rattle.book.specs.declared.Request.TheVariants.{Begin, Continue, Stop, Cancel}
-use Rattle.book.specs.declared.Decoded.{Decoded}
-use Rattle.book.specs.declared.Decoded.TheVariants.{Invalid, Valid}
+use Rattle.book.specs.Decoded.{Decoded, Invalid, Valid}
 use Rattle.model.specs.Book.{request_legal}
 
 -- "kind (1 play, 2 display, 3 execute, 4 print, 5 export)"

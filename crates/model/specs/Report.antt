@@ -11,10 +11,8 @@ use Rattle.book.specs.declared.Book.{Book}
 use Rattle.book.specs.declared.Event.{Event}
 use Rattle.book.specs.declared.Request.{Request}
 use Rattle.book.specs.declared.Request.TheVariants.{Begin, Continue, Stop, Cancel}
-use Rattle.book.specs.declared.Decoded.{Decoded}
-use Rattle.book.specs.declared.Decoded.TheVariants.{Invalid, Valid}
-use Rattle.book.specs.declared.Gate.{Gate}
-use Rattle.book.specs.declared.Gate.TheVariants.{Refuse, Resend, Take}
+use Rattle.book.specs.Decoded.{Decoded, Invalid, Valid}
+use Rattle.book.specs.Gate.{Gate, Refuse, Resend, Take}
 use Rattle.book.specs.declared.Outcome.{Outcome}
 use Rattle.book.specs.Blank.{no_line}
 use Rattle.model.specs.Book.{asset_at, limits_at, assets_in, asset_position, in_book, is_tracked, is_metered, momentary}

@@ -6,8 +6,7 @@ use Rattle.book.specs.declared.Answer.{Answer}
 use Rattle.book.specs.declared.Line.{Line}
 use Rattle.book.specs.declared.Book.{Book}
 use Rattle.book.specs.declared.Event.{Event}
-use Rattle.book.specs.declared.Decoded.{Decoded}
-use Rattle.book.specs.declared.Decoded.TheVariants.{Invalid, Valid}
+use Rattle.book.specs.Decoded.{Decoded, Invalid, Valid}
 use Rattle.model.specs.Book.{Legal}
 use Rattle.model.specs.Image.{Typed, Bytes, image, read_code, read_book}
 use Rattle.model.specs.Record.{request_asset, decoded}

@@ -1,5 +1,5 @@
 -- The lines of the usage report as the code holds them: one raised, and a list by value in 64 places.
-use Rattle.std.specs.Prelude.{ℕ, zero, suc, ◌<◌, min, ◌≡◌, refl, Bool, true, false, cond, List, [], ◌∷◌, length, get_or, set, replicate, leb}
+use Rattle.std.specs.Prelude.{ℕ, zero, suc, ◌<◌, ◌≤◌, min, ◌≡◌, refl, Bool, true, false, cond, List, [], ◌∷◌, length, get_or, set, replicate, take, drop, ◌++◌, leb}
 use Rattle.std.proofs.Common.{not-suc-le-zero, le_of_suc-le-suc, ap}
 use Rattle.numbers.specs.Count.{one}
 use Rattle.book.specs.declared.Limits.{Limits}
@@ -57,6 +57,14 @@ copied_next zero (x ∷ xs) [] d a b = absurd (not-suc-le-zero b)
 copied_next (suc n) (x ∷ xs) [] d a b = absurd (not-suc-le-zero b)
 copied_next zero (x ∷ xs) (y ∷ ys) d a b = refl
 copied_next (suc n) (x ∷ xs) (y ∷ ys) d a b = ap (λ r. x ∷ r) (copied_next n xs ys d (le_of_suc-le-suc a) (le_of_suc-le-suc b))
+
+-- within both, the first n of one are followed by what is behind the first n of the other
+pub copied-parts : {A : Type 0} (n : ℕ) (src dst : List A) → n ≤ length src → n ≤ length dst → take n src ++ drop n dst ≡ copied n src dst
+unfolding copied
+copied-parts zero src dst a b = refl
+copied-parts (suc n) [] dst a b = absurd (not-suc-le-zero a)
+copied-parts (suc n) (x ∷ xs) [] a b = absurd (not-suc-le-zero b)
+copied-parts (suc n) (x ∷ xs) (y ∷ ys) a b = ap (λ r. x ∷ r) (copied-parts n xs ys (le_of_suc-le-suc a) (le_of_suc-le-suc b))
 
 -- the first 64 lines of a list, blank ones behind its last
 unfoldable pub taken_lines : List Line → List Line

@@ -2,33 +2,42 @@
 // taken by value and stored back, and a line is raised where it is lent.
 #![tactic(auto)]
 
-ghost use Rattle.std.specs.Prelude.{◌≡◌, min};
+ghost use Rattle.std.specs.Prelude.{◌≡◌};
 ghost use Rattle.model.specs.Report.{sum64};
 ghost use Rattle.report.specs.Report.{raised_line, raised_at, taken_lines, given_lines};
 
-use book::Line;
-use numbers::{min_size, pick64};
+use book::{Line, blank_line};
+use numbers::pick;
+
+// A list as it is lent, by value: its first 64 lines, blank ones after the last, and how many were lent.
+#[derive(Clone, Copy, Debug, PartialEq, Eq)]
+pub struct Report {
+    pub lines: [Line; 64],
+    pub lent: usize,
+}
 
 // A sum that stops at the greatest number.
+#[tactic(auto, unfolding(model::specs::Report::sum64))]
 fn sum(a: u64, b: u64) -> u64
     ensures { result ≡ sum64 a b }
 {
-    let room = u64::MAX - b;
-    if a < room { a + b } else { u64::MAX }
+    a.saturating_add(b)
 }
 
 // Rules out: the seconds added to the times, a time for a use that does not count.
+#[tactic(auto, unfolding(crate::specs::Report::raised_line))]
 fn raised_line(l: Line, seconds: u64, counted: bool) -> Line
     ensures { result ≡ raised_line l seconds counted }
 {
     Line {
         content: l.content,
-        times: sum(l.times, pick64(counted, 1, 0)),
+        times: sum(l.times, pick(counted, 1, 0)),
         seconds: sum(l.seconds, seconds),
     }
 }
 
 // Rules out: another line raised, a line past the end taken for the last one.
+#[tactic(auto, unfolding(crate::specs::Report::raised_at))]
 fn raise(report: &mut [Line], k: usize, seconds: u64, counted: bool)
     ensures { report.new ≡ raised_at report.old k seconds counted }
 {
@@ -40,6 +49,7 @@ fn raise(report: &mut [Line], k: usize, seconds: u64, counted: bool)
 
 // What the loops call when a use ends: a list of the line alone is lent, raised in place, and handed back.
 // Rules out: an unchanged line.
+#[tactic(auto, unfolding(crate::specs::Report::raised_at))]
 pub fn raise_one(l: Line, seconds: u64, counted: bool) -> Line
     ensures { result ≡ raised_line l seconds counted }
 {
@@ -48,42 +58,24 @@ pub fn raise_one(l: Line, seconds: u64, counted: bool) -> Line
     q[0]
 }
 
-// The smaller of two lengths.
-fn lesser(a: usize, b: usize) -> usize
-    ensures { result ≡ min a b }
-{
-    min_size(a, b)
-}
-
 // The first 64 lines of a lent list by value, blank lines after the last.
 // Rules out: a line of the list left out.
+#[tactic(auto, unfolding(crate::specs::Report::taken_lines))]
 pub fn take_lines(report: &[Line]) -> [Line; 64]
     ensures { result ≡ taken_lines report.now }
 {
-    let n = lesser(report.len(), 64);
-    let blank = Line {
-        content: 0,
-        times: 0,
-        seconds: 0,
-    };
-    let mut lines = [blank; 64];
-    let mut i: usize = 0;
-    while i < n {
-        lines[i] = report[i];
-        i = i + 1;
-    }
+    let n = report.len().min(64);
+    let mut lines = [blank_line(); 64];
+    lines[..n].copy_from_slice(&report[..n]);
     lines
 }
 
 // The lines stored to a lent list, as many as it has.
 // Rules out: a line past the 64th touched.
+#[tactic(auto, unfolding(crate::specs::Report::given_lines))]
 pub fn give_lines(report: &mut [Line], lines: [Line; 64])
     ensures { report.new ≡ given_lines lines report.old }
 {
-    let n = lesser(report.len(), 64);
-    let mut i: usize = 0;
-    while i < n {
-        report[i] = lines[i];
-        i = i + 1;
-    }
+    let n = report.len().min(64);
+    report[..n].copy_from_slice(&lines[..n]);
 }

@@ -6,8 +6,7 @@ use Rattle.numbers.proofs.Tests.{on_test, on_same}
 use Rattle.numbers.proofs.TableLaws.{below_or_not}
 use Rattle.book.specs.declared.Last.{Last}
 use Rattle.book.specs.declared.Event.{Event}
-use Rattle.book.specs.declared.Gate.{Gate}
-use Rattle.book.specs.declared.Gate.TheVariants.{Refuse, Resend}
+use Rattle.book.specs.Gate.{Gate, Refuse, Resend}
 use Rattle.model.specs.Gate.{largest_number, boot_of, counter_of, same_number, same_request, in_line}
 use Rattle.model.specs.Demand1.{Follows}
 use Rattle.model.proofs.Demand3.Checks.{none_after, other-number, line-is, line-follows, follows-not}

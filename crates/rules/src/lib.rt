@@ -6,9 +6,10 @@
 // Every function is total, and its contract gives its whole result.
 #![tactic(auto)]
 
-ghost use Rattle.std.specs.Prelude.{◌≡◌, ◌+◌, ◌-◌, ltb};
+ghost use Rattle.std.specs.Prelude.{◌≡◌, ◌+◌, ◌-◌, ltb, is_some, Some, true, MatchResult};
+ghost use Rattle.book.specs.Codes.{event_code};
+ghost use Rattle.book.specs.Gate.{Refuse, passed};
 ghost use Rattle.model.specs.Book.{grant_length, is_group, momentary, opens, marks_of};
-ghost use Rattle.model.specs.Record.{kind_number};
 ghost use Rattle.model.specs.Gate.{same_request, in_line, gate};
 ghost use Rattle.model.specs.Step.{noted, just_begun, recent_of};
 ghost use Rattle.model.specs.Choice.{fails, grounds_of, grantable, last_moment, ranks_before, cap, least_until};
@@ -20,10 +21,10 @@ ghost use Rattle.rules.specs.Line.{out_of_line};
 ghost use Rattle.rules.specs.Rules.{wire_of, flags_of};
 
 use book::{
-    Answer, Ask, Event, Gate, Grounds, Kind, LATEST_TIME, Last, Latest, Limits, Meters, NO_END,
-    Open, Player, Rank, Recent, Request,
+    Admission, Answer, Ask, Event, EventError, Grounds, LATEST_TIME, Last, Latest, Limits, Meters,
+    NO_END, Open, Player, Rank, Recent, Request,
 };
-use numbers::{min_wide, one, ones, pick32, pick64, saturating_sub};
+use numbers::{ones, pick};
 
 // The three numbers of a request, as event records and images have them.
 #[derive(Clone, Copy)]
@@ -49,71 +50,59 @@ pub struct Flags {
 pub fn when(w: bool, v: u32) -> u32
     ensures { result ≡ where_flagged w v }
 {
-    if w { v } else { 0 }
-}
-
-// Rules out: two kinds with the same number, numbers from 0.
-pub fn kind_number(k: Kind) -> u8
-    ensures { result ≡ kind_number k }
-{
-    match k {
-        Kind::Play => 1,
-        Kind::Display => 2,
-        Kind::Execute => 3,
-        Kind::Print => 4,
-        Kind::Export => 5,
-    }
+    pick(w, v, 0)
 }
 
 // Rules out: a kind or an asset for any request but a begin, two operations with the same number.
-fn wire_of(q: Request) -> Wire
-    ensures { result ≡ wire_of q }
-{
-    match q {
-        Request::Begin(k, a) => Wire {
-            operation: 1,
-            asset: a,
-            kind: kind_number(k),
-        },
-        Request::Continue => Wire {
-            operation: 2,
-            asset: 0,
-            kind: 0,
-        },
-        Request::Stop => Wire {
-            operation: 3,
-            asset: 0,
-            kind: 0,
-        },
-        Request::Cancel => Wire {
-            operation: 4,
-            asset: 0,
-            kind: 0,
-        },
+impl From<Request> for Wire {
+    ghost from_gives = { λ q w. w ≡ wire_of q };
+
+    fn from(q: Request) -> Wire {
+        match q {
+            Request::Begin(k, a) => Wire {
+                operation: 1,
+                asset: a,
+                kind: u8::from(k),
+            },
+            Request::Continue => Wire {
+                operation: 2,
+                asset: 0,
+                kind: 0,
+            },
+            Request::Stop => Wire {
+                operation: 3,
+                asset: 0,
+                kind: 0,
+            },
+            Request::Cancel => Wire {
+                operation: 4,
+                asset: 0,
+                kind: 0,
+            },
+        }
     }
 }
 
 // Rules out: taking a begin of another asset or kind for the same request.
+#[tactic(auto, unfolding(model::specs::Gate::same_request))]
 fn same_request(last: Last, q: Request) -> bool
     ensures { result ≡ same_request last q }
 {
-    let w = wire_of(q);
+    let w = Wire::from(q);
     (w.operation == last.operation) & (w.asset == last.asset) & (w.kind == last.kind)
 }
 
-// "only the largest 64-bit number has none after it"
-const LARGEST_NUMBER: u64 = u64::MAX;
-
-// Whether a number is in line after the player's last one: the next number, or counter 1 under a greater boot number.
+// Whether a number is in line after the player's last one: the next number, or counter 1 under a greater boot number; "only the largest
+// 64-bit number has none after it".
 // Rules out: counter 2 under a greater boot number, counter 0 there unless it is the next number, counter 1 again under the same boot
 // number or under a smaller one, a number after the largest.
 fn in_line(last: Last, number: u64) -> bool
     ensures { result ≡ in_line last number }
 {
-    if last.number == LARGEST_NUMBER {
+    let Some(next) = last.number.checked_add(1) else {
         return false;
-    }
-    if last.number + 1 == number {
+    };
+    if next == number {
         return true;
     }
     // With counter 1, and not the next one, a greater number is one with a greater boot number.
@@ -121,47 +110,41 @@ fn in_line(last: Last, number: u64) -> bool
 }
 
 // A number that is not in line: a resend or 4 if it is the last one, otherwise 3.
-fn out_of_line(last: Last, e: Event) -> Gate
-    ensures { result ≡ out_of_line last e }
+#[tactic(auto, unfolding(crate::specs::Line::out_of_line, model::specs::Gate::same_number))]
+fn out_of_line(last: Last, e: Event) -> Result<Admission, EventError>
+    ensures { MatchResult result (λ a. out_of_line last e ≡ passed a) (λ x. out_of_line last e ≡ Refuse (event_code x)) }
 {
-    if last.number == 0 {
-        return Gate::Refuse(3);
+    if (last.number == 0) | (e.number != last.number) {
+        return Err(EventError::OutOfLine);
     }
-    if e.number != last.number {
-        return Gate::Refuse(3);
+    if !same_request(last, e.request) {
+        return Err(EventError::OtherRequest);
     }
-    let q = e.request;
-    if same_request(last, q) {
-        return Gate::Resend;
-    }
-    Gate::Refuse(4)
+    Ok(Admission::Resend)
 }
 
 // Rules out: reading the time of a resend, a resend of number 0, the time checked before the number.
-pub fn gate_of(now: u32, last: Last, e: Event) -> Gate
-    ensures { result ≡ gate now last e }
+#[tactic(auto, unfolding(model::specs::Gate::gate, model::specs::Gate::timely, crate::specs::Line::out_of_line))]
+pub fn gate_of(now: u32, last: Last, e: Event) -> Result<Admission, EventError>
+    ensures { MatchResult result (λ a. gate now last e ≡ passed a) (λ x. gate now last e ≡ Refuse (event_code x)) }
 {
     if 15 < e.player {
-        return Gate::Refuse(2);
+        return Err(EventError::Player);
     }
     if !in_line(last, e.number) {
         return out_of_line(last, e);
     }
-    if e.time < now {
-        return Gate::Refuse(5);
+    if (e.time < now) | (LATEST_TIME < e.time) {
+        return Err(EventError::Time);
     }
-    if LATEST_TIME < e.time {
-        return Gate::Refuse(5);
-    }
-    Gate::Take
+    Ok(Admission::Take)
 }
 
 // Rules out: storing a number, request or answer other than the event's.
 pub fn noted_last(e: Event, a: Answer) -> Last
     ensures { result ≡ noted e a }
 {
-    let q = e.request;
-    let w = wire_of(q);
+    let w = Wire::from(e.request);
     Last {
         number: e.number,
         operation: w.operation,
@@ -178,12 +161,13 @@ pub fn latest_by(player: u8, started: bool) -> Latest
 {
     Latest {
         player: player as u32 + 1,
-        started: one(started) as u32,
+        started: u32::from(started),
     }
 }
 
 // Whether the event taken last was this player's begin of the use that it has open.
 // Rules out: another player's event passed over, a begin that was refused, a begin of another use, a continue since.
+#[tactic(auto, unfolding(model::specs::Step::just_begun))]
 fn just_begun(latest: Latest, player: u8, last: Last, o: Open) -> bool
     ensures { result ≡ just_begun latest player last o }
 {
@@ -223,6 +207,7 @@ pub fn flags_of(l: Limits) -> Flags
 
 // How many seconds a grant of a kind gives at most.
 // Rules out: 59 or 61 seconds.
+#[tactic(auto, unfolding(model::specs::Book::grant_length))]
 pub fn grant_length(kind: u8) -> u32
     ensures { result ≡ grant_length kind }
 {
@@ -230,6 +215,7 @@ pub fn grant_length(kind: u8) -> u32
 }
 
 // Rules out: treating execute as momentary, or export as not.
+#[tactic(auto, unfolding(model::specs::Book::momentary))]
 pub fn momentary(kind: u8) -> bool
     ensures { result ≡ momentary kind }
 {
@@ -249,6 +235,7 @@ pub fn threshold_full(l: Limits, m: Meters) -> bool
 
 // Whether a player's use is open and of entry i.
 // Rules out: true for a closed use, or for one of another entry.
+#[tactic(auto, unfolding(model::specs::Book::opens))]
 pub fn opens_entry(i: usize, o: Open) -> bool
     ensures { result ≡ opens i o }
 {
@@ -263,14 +250,11 @@ pub fn marks_of(players: [Player; 16], i: usize) -> u32
 {
     let mut marks: u32 = 0;
     let mut weight: u32 = 1;
-    let mut p: usize = 0;
-    while p < 16 {
+    for p in 0..16 {
         let q = players[p];
-        let o = q.current;
-        let w = opens_entry(i, o);
-        marks = marks + pick32(w, weight, 0);
+        let w = opens_entry(i, q.current);
+        marks = marks + pick(w, weight, 0);
         weight = weight * 2;
-        p = p + 1;
     }
     marks
 }
@@ -278,6 +262,7 @@ pub fn marks_of(players: [Player; 16], i: usize) -> u32
 // What stands against granting an entry to who asks.
 // Rules out: end taken as excluded, a limit tested without its flag, a sum that wraps, an interval of 0 that is granted once, a tracked
 // entry granted with the switch off and no mark, a full threshold passed over.
+#[tactic(auto, unfolding(model::specs::Choice::grounds_of, crate::specs::Rules::flags_of))]
 pub fn grounds_of(l: Limits, m: Meters, ask: Ask) -> Grounds
     ensures { result ≡ grounds_of ask l m }
 {
@@ -319,6 +304,7 @@ pub fn grantable(l: Limits, m: Meters, ask: Ask) -> bool
 
 // The smaller of end + 1 and, if the interval has started, first + interval; NO_END if there is neither.
 // Rules out: end for end + 1, an end that is not flagged, an interval that has not started, the larger of the two.
+#[tactic(auto, unfolding(model::specs::Choice::last_moment, crate::specs::Rules::flags_of))]
 pub fn last_moment(l: Limits, m: Meters) -> u64
     ensures { result ≡ last_moment l m }
 {
@@ -328,36 +314,26 @@ pub fn last_moment(l: Limits, m: Meters) -> u64
     let due = first + interval;
     let end = l.end as u64;
     let over = end + 1;
-    min_wide(
-        pick64(f.end, over, NO_END),
-        pick64(f.interval & (m.started == 1), due, NO_END),
-    )
+    let closed = pick(f.end, over, NO_END);
+    closed.min(pick(f.interval & (m.started == 1), due, NO_END))
 }
 
 // Rules out: own after inherited, a later last moment first, fields compared in another order.
 pub fn ranks_before(a: Rank, b: Rank) -> bool
     ensures { result ≡ ranks_before a b }
 {
-    if !(a.flags == b.flags) {
-        return a.flags < b.flags;
-    }
-    if !(a.last == b.last) {
-        return a.last < b.last;
-    }
-    a.inherited < b.inherited
+    (a.flags, a.last, a.inherited) < (b.flags, b.last, b.inherited)
 }
 
 // Rules out: a cap applied without its flag, the larger of the two.
 fn capped(w: bool, v: u64, x: u64) -> u64
     ensures { result ≡ cap w v x }
 {
-    if w {
-        return min_wide(v, x);
-    }
-    x
+    pick(w, v.min(x), x)
 }
 
 // Rules out: a limit left out, a limit that is not flagged, first instead of t where no interval has started.
+#[tactic(auto, unfolding(model::specs::Choice::least_until, crate::specs::Rules::flags_of))]
 pub fn least_until(t: u32, from: u32, l: Limits, m: Meters) -> u64
     ensures { result ≡ least_until t from l m }
 {
@@ -365,9 +341,9 @@ pub fn least_until(t: u32, from: u32, l: Limits, m: Meters) -> u64
     let now = t as u64;
     let length = grant_length(l.kind) as u64;
     let granted = now + length;
-    let unused = saturating_sub(l.accumulated, m.seconds) as u64;
+    let unused = l.accumulated.saturating_sub(m.seconds) as u64;
     let paid = from as u64 + unused;
-    let first = pick32(m.started == 1, m.first, t) as u64;
+    let first = pick(m.started == 1, m.first, t) as u64;
     let interval = l.interval as u64;
     let due = first + interval;
     let end = l.end as u64;
@@ -378,26 +354,28 @@ pub fn least_until(t: u32, from: u32, l: Limits, m: Meters) -> u64
     )
 }
 
-// The code that refuses a begin, or 0 if it is granted at that position: "**Begin**, in order: 11, 10, 12, 13.", or 43 in place of 13 if
-// some suitable entry fails for the switch only.
+// The entry that a begin gets, which is the one at that position, or why it gets none: "**Begin**, in order: 11, 10, 12, 13.", or 43 in
+// place of 13 if some suitable entry fails for the switch only.
 // Rules out: 10 before 11, 13 where nothing is suitable, 43 where an entry is granted.
-pub fn begin_code(on: bool, usable: bool, suits: bool, at: usize, switched: bool) -> u8
-    ensures { result ≡ begin_code on usable suits (ltb at 64) switched }
+pub fn begin_entry(
+    on: bool,
+    usable: bool,
+    suits: bool,
+    at: Option<usize>,
+    switched: bool,
+) -> Result<usize, EventError>
+    ensures { MatchResult result
+        (λ k. (at ≡ Some k) × (begin_code on usable suits true switched ≡ 0))
+        (λ e. event_code e ≡ begin_code on usable suits (is_some at) switched) }
 {
     if on {
-        return 11;
+        return Err(EventError::AlreadyOpen);
     }
     if !usable {
-        return 10;
+        return Err(EventError::Unusable);
     }
     if !suits {
-        return 12;
+        return Err(EventError::Unsuitable);
     }
-    if at < 64 {
-        return 0;
-    }
-    if switched {
-        return 43;
-    }
-    13
+    at.ok_or(pick(switched, EventError::SwitchOff, EventError::Spent))
 }

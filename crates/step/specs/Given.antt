@@ -8,11 +8,9 @@ use Rattle.std.proofs.lemmas.List.{length-replicate}
 use Rattle.numbers.proofs.Tests.{on_test, on_same}
 use Rattle.book.specs.declared.Line.{Line}
 use Rattle.book.specs.declared.Book.{Book}
-use Rattle.book.specs.declared.Decoded.{Decoded}
-use Rattle.book.specs.declared.Decoded.TheVariants.{Invalid, Valid}
+use Rattle.book.specs.Decoded.{Decoded, Invalid, Valid}
 use Rattle.book.specs.declared.Event.{Event}
-use Rattle.book.specs.declared.Gate.{Gate}
-use Rattle.book.specs.declared.Gate.TheVariants.{Refuse, Resend, Take}
+use Rattle.book.specs.Gate.{Gate, Refuse, Resend, Take}
 use Rattle.book.specs.declared.Reported.{Reported}
 use Rattle.book.specs.Blank.{no_line}
 use Rattle.model.specs.Book.{limits_at, assets_in}

@@ -1,8 +1,9 @@
 -- What a taken event leaves, as the code computes it: an operation on one entry, and the book stored after it.
-use Rattle.std.specs.Prelude.{ℕ, suc, ◌%◌, ◌≤◌, ◌<◌, ◌≡◌, refl, Bool, true, false, cond, List, map, length, set, ltb}
+use Rattle.std.specs.Prelude.{ℕ, suc, ◌%◌, ◌≤◌, ◌<◌, ◌≡◌, refl, Bool, true, false, cond, List, map, length, set, ltb, Result, Ok, Err, Option, None, Some, is_some, unwrap_or}
 use Rattle.std.proofs.Common.{arith, sym, ap, ◌∙◌, ltb-true, ltb-false}
 use Rattle.std.proofs.Math.Seq.{set_out}
-use Rattle.numbers.proofs.Tests.{on_test}
+use Rattle.numbers.proofs.Tests.{on_test, clash}
+use Rattle.book.proofs.Codes.{never-granted}
 use Rattle.book.specs.declared.Entry.{Entry}
 use Rattle.book.specs.declared.Open.{Open}
 use Rattle.book.specs.declared.Book.{Book}
@@ -13,7 +14,8 @@ use Rattle.book.specs.declared.Last.{Last}
 use Rattle.book.specs.declared.Latest.{Latest}
 use Rattle.book.specs.declared.Recent.{Recent}
 use Rattle.book.specs.declared.Outcome.{Outcome}
-use Rattle.book.specs.Blank.{no_meters}
+use Rattle.book.specs.Codes.{event_code}
+use Rattle.book.specs.declared.EventError.{EventError}
 use Rattle.book.specs.Changed.{changed}
 use Rattle.model.specs.Book.{limits_at, meters_at, latest_time, assets_in, entries_in}
 use Rattle.model.specs.Choice.{asks, Catalog, usable, parent_of, suits, any_of, grantable, chosen, choose, catalog_of, fails_for_switch}
@@ -21,8 +23,7 @@ use Rattle.model.specs.Choice.{none_grantable}
 use Rattle.model.specs.Step.{Done, unchanged, noted, latest_by, recent_of, granted, do_begin, done, last_at, open_at, taken_step}
 use Rattle.model.specs.Meters.{shut, settled, is_on}
 use Rattle.model.proofs.Ledger.Concrete.{shut-last}
-use Rattle.choice.specs.declared.Best.{Best}
-use Rattle.choice.specs.Best.{best_after}
+use Rattle.choice.specs.Best.{Best, best_after}
 use Rattle.rules.specs.Codes.{begin_code}
 use Rattle.choice.specs.Choice.{best-some, best-nobody}
 use Rattle.uses.specs.declared.Effect.{Effect}
@@ -31,13 +32,10 @@ use Rattle.uses.specs.Due.{any_due, none-due}
 use Rattle.step.specs.declared.Act.{Act}
 use Rattle.step.specs.Settle.{with, settled_book}
 
--- a refusal, which changes no entry
-abbrev pub refused : ℕ → Open → Act
-refused code o = record { at = 64; part = kept code no_meters o }
-
-pub refused-placed : (code : ℕ) (o : Open) (es : List Entry) → length es ≤ 64 → placed 64 (kept code no_meters o) es ≡ unchanged code es o
-unfolding placed stored
-refused-placed code o es h = ap (λ (x : List Entry). unchanged code x o) (set_out es 64 _ h)
+-- what an operation leaves: what it did to an entry, or a refusal, which changes no entry
+abbrev pub left : Result Act EventError → Open → List Entry → Done
+left (Ok a) o es = placed a.at a.part es
+left (Err e) o es = unchanged (event_code e) es o
 
 -- the book after the event is stored
 unfoldable pub stored_book : Book → Event → Done → Book
@@ -52,6 +50,26 @@ settled-none t b h e = sym (ap (λ (ps : List Player). with b (settled t b.playe
     (none-due t b.players b.entries h e).1)
 
 -- ## A begin, by the code's tests in order
+
+-- the position that the choice found
+abbrev pub found_at : Best → Option ℕ
+found_at x = cond (ltb x.at 64) (Some x.at) None
+
+none-found : (x : Best) → found_at x ≡ None → 64 ≤ x.at
+none-found x h =
+    on_test (ltb x.at 64)
+    (λ l. let z : ◌≡◌ {A = Option ℕ} (Some x.at) None = rw l at h in absurd (some-none z))
+    (λ l. ltb-false x.at 64 l)
+  where
+    some-none : {k : ℕ} → ◌≡◌ {A = Option ℕ} (Some k) None → ⊥
+    some-none q = let z : ◌≡◌ {A = Bool} true false = ap is_some q in clash refl z
+
+pub some-found : (x : Best) (k : ℕ) → found_at x ≡ Some k → (x.at < 64) × (x.at ≡ k)
+some-found x k h =
+    on_test (ltb x.at 64)
+    (λ l. let z : ◌≡◌ {A = Option ℕ} (Some x.at) (Some k) = rw l at h in (ltb-true x.at 64 l, ap (λ (m : Option ℕ). unwrap_or m 0) z))
+    (λ l. let z : ◌≡◌ {A = Option ℕ} None (Some k) = rw l at h in
+    let w : ◌≡◌ {A = Bool} false true = ap is_some z in clash w refl)
 
 module _ (c : Catalog) (es : List Entry) (o : Open) (ask : Ask) (asset kind : ℕ) where
   abbrev best : Best
@@ -71,76 +89,73 @@ module _ (c : Catalog) (es : List Entry) (o : Open) (ask : Ask) (asset kind : �
       unfolding do_begin
       begin-12 s = rw (off, u, s)
 
-      module _ (s : any_of (suits c es asset kind) c.entry_count ≡ true) (k : ℕ) (e : k ≡ best.at) where
+      module _ (s : any_of (suits c es asset kind) c.entry_count ≡ true) where
         begin-choice : do_begin c es o ask asset kind
             ≡ granted (none_grantable c es ask asset kind) ask asset es o (choose c es ask asset kind)
         unfolding do_begin
         begin-choice = rw (off, u, s)
 
-        pub begin-none : c.entry_count ≤ 64 → 64 ≤ k → do_begin c es o ask asset kind ≡ unchanged (none_grantable c es ask asset kind) es o
+        begin-none : c.entry_count ≤ 64 → found_at best ≡ None → do_begin c es o ask asset kind ≡ unchanged (none_grantable c es ask asset kind) es o
         begin-none h p =
             begin-choice
-            ∙ ap (granted (none_grantable c es ask asset kind) ask asset es o) (best-nobody c es ask asset kind h (omega arith))
+            ∙ ap (granted (none_grantable c es ask asset kind) ask asset es o) (best-nobody c es ask asset kind h (none-found best p))
 
-        pub begin-grants : (part : Effect) → k < 64 → ask.time ≤ latest_time → part ≡ begin_on k asset ask (limits_at es k) (meters_at es k) o
-            → placed k part es ≡ do_begin c es o ask asset kind
-        begin-grants part p h q =
-            let w = best-some c es ask asset kind (omega arith) in
-            let g : grantable ask (limits_at es k) (meters_at es k) ≡ true = rw e w.1 in
-            ap (λ (x : Effect). placed k x es) q ∙ begin-placed k asset (none_grantable c es ask asset kind) ask es o g h
-            ∙ sym (begin-choice ∙ ap (granted (none_grantable c es ask asset kind) ask asset es o) (w.0 ∙ ap chosen (sym e)))
+        begin-grants : (k : ℕ) → found_at best ≡ Some k → (part : Effect) → ask.time ≤ latest_time
+            → part ≡ begin_on (k % 256) asset ask (limits_at es k) (meters_at es k) o → placed k part es ≡ do_begin c es o ask asset kind
+        begin-grants k p part h q =
+            let f = some-found best k p in
+            let w = best-some c es ask asset kind f.0 in
+            let g : grantable ask (limits_at es k) (meters_at es k) ≡ true = rw (sym f.1) w.1 in
+            let whole : k % 256 ≡ k = omega (arith, f.0, f.1) in
+            ap (λ (x : Effect). placed k x es) (q ∙ rw whole refl)
+            ∙ begin-placed k asset (none_grantable c es ask asset kind) ask es o g h
+            ∙ sym (begin-choice ∙ ap (granted (none_grantable c es ask asset kind) ask asset es o) (w.0 ∙ ap chosen f.1))
 
-  -- the same by the code that is returned: `us`, `su` and `sw` are what the code found, and k the position chosen
-  module _ (us su sw : Bool) (k code : ℕ)
+  -- the same by what `begin_entry` returns: `us`, `su`, `sw` and `at` are what the code found
+  module _ (us su sw : Bool) (at : Option ℕ)
       (hu : us ≡ usable c asset)
       (hs : is_on o ≡ false → usable c asset ≡ true → su ≡ any_of (suits c es asset kind) c.entry_count)
-      (hk : is_on o ≡ false → usable c asset ≡ true → k ≡ best.at)
-      (hw : is_on o ≡ false → usable c asset ≡ true → sw ≡ any_of (fails_for_switch c es ask asset kind) c.entry_count)
-      (few : c.entry_count ≤ 64)
-      (hc : code ≡ begin_code (is_on o) us su (ltb k 64) sw) where
-    refused-by : (x : ℕ) → code ≡ x → do_begin c es o ask asset kind ≡ unchanged x es o → unchanged code es o ≡ do_begin c es o ask asset kind
-    refused-by x h d = ap (λ (y : ℕ). unchanged y es o) h ∙ sym d
-
+      (hk : is_on o ≡ false → usable c asset ≡ true → at ≡ found_at best)
+      (hw : is_on o ≡ false → usable c asset ≡ true → sw ≡ any_of (fails_for_switch c es ask asset kind) c.entry_count) where
     none_is : sw ≡ any_of (fails_for_switch c es ask asset kind) c.entry_count → cond sw 43 13 ≡ none_grantable c es ask asset kind
     unfolding none_grantable
     none_is h = rw h
 
-    none-some : (w : Bool) → ◌≡◌ {A = ℕ} (cond w 43 13) 0 → ⊥
-    none-some true h = omega arith
-    none-some false h = omega arith
-
-    pub begin-refused : (code ≡ 0 → ⊥) → unchanged code es o ≡ do_begin c es o ask asset kind
-    begin-refused some =
+    pub begin-refused : c.entry_count ≤ 64 → (e : EventError) → event_code e ≡ begin_code (is_on o) us su (is_some at) sw
+        → unchanged (event_code e) es o ≡ do_begin c es o ask asset kind
+    begin-refused few e hc =
         on_test (is_on o)
         (λ on. refused-by 11 (hc ∙ rw on refl) (begin-11 on))
         (λ off. on_test (usable c asset)
         (λ u. on_test su
-        (λ s. on_test (ltb k 64)
-        (λ l. absurd (some (hc ∙ rw (off, hu ∙ u, s, l) refl)))
-        (λ l. refused-by (none_grantable c es ask asset kind) (hc ∙ rw (off, hu ∙ u, s, l) (none_is (hw off u)))
-        (begin-none off u (sym (hs off u) ∙ s) k (hk off u) few (omega (arith, ltb-false k 64 l)))))
+        (λ s. go off u s at refl)
         (λ s. refused-by 12 (hc ∙ rw (off, hu ∙ u, s) refl) (begin-12 off u (sym (hs off u) ∙ s))))
         (λ u. refused-by 10 (hc ∙ rw (off, hu ∙ u) refl) (begin-10 off u)))
+      where
+        refused-by : (x : ℕ) → event_code e ≡ x → do_begin c es o ask asset kind ≡ unchanged x es o
+            → unchanged (event_code e) es o ≡ do_begin c es o ask asset kind
+        refused-by x h d = ap (λ (y : ℕ). unchanged y es o) h ∙ sym d
 
-    not-zero : (x : ℕ) → code ≡ 0 → code ≡ suc x → ⊥
-    not-zero x z h = omega (arith, sym z ∙ h)
+        go : is_on o ≡ false → usable c asset ≡ true → su ≡ true → (m : Option ℕ) → at ≡ m
+            → unchanged (event_code e) es o ≡ do_begin c es o ask asset kind
+        go off u s None q =
+            refused-by (none_grantable c es ask asset kind) (hc ∙ rw (off, hu ∙ u, s, q) (none_is (hw off u)))
+            (begin-none off u (sym (hs off u) ∙ s) few (sym (hk off u) ∙ q))
+        go off u s (Some k) q = absurd (never-granted e (hc ∙ rw (off, hu ∙ u, s, q) refl))
 
-    pub begin-placed-at : ask.time ≤ latest_time → code ≡ 0 → (part : Effect) → part ≡ begin_on (k % 256) asset ask (limits_at es k)
-        (meters_at es k) o
-        → placed k part es ≡ do_begin c es o ask asset kind
-    begin-placed-at ht none part part-is =
+    pub begin-granted : (k : ℕ) → at ≡ Some k → begin_code (is_on o) us su true sw ≡ 0 → ask.time ≤ latest_time → (part : Effect)
+        → part ≡ begin_on (k % 256) asset ask (limits_at es k) (meters_at es k) o → placed k part es ≡ do_begin c es o ask asset kind
+    begin-granted k q none ht part part-is =
         on_test (is_on o)
-        (λ on. absurd (not-zero 10 none (hc ∙ rw on refl)))
+        (λ on. absurd (not-zero 10 (rw on at none)))
         (λ off. on_test (usable c asset)
         (λ u. on_test su
-        (λ s. on_test (ltb k 64)
-        (λ l.
-        let small = ltb-true k 64 l in
-        let whole : k % 256 ≡ k = omega arith in
-        begin-grants off u (sym (hs off u) ∙ s) k (hk off u) part small ht (part-is ∙ rw whole refl))
-        (λ l. absurd (none-some sw (sym (hc ∙ rw (off, hu ∙ u, s, l) refl) ∙ none))))
-        (λ s. absurd (not-zero 11 none (hc ∙ rw (off, hu ∙ u, s) refl))))
-        (λ u. absurd (not-zero 9 none (hc ∙ rw (off, hu ∙ u) refl))))
+        (λ s. begin-grants off u (sym (hs off u) ∙ s) k (sym (hk off u) ∙ q) part ht part-is)
+        (λ s. absurd (not-zero 11 (rw (off, hu ∙ u, s) at none))))
+        (λ u. absurd (not-zero 9 (rw (off, hu ∙ u) at none))))
+      where
+        not-zero : (x : ℕ) → ◌≡◌ {A = ℕ} (suc x) 0 → ⊥
+        not-zero x z = omega (arith, z)
 
 -- ## The step
 

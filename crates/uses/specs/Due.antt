@@ -1,5 +1,6 @@
 -- Whether any player's use is due, and that settling changes nothing if none is.
 use Rattle.std.specs.Prelude.{ℕ, zero, suc, ◌+◌, ◌≤◌, ◌≡◌, refl, Bool, false, ◌||◌, List, [], ◌∷◌, map, length}
+use Rattle.std.specs.List.{list_any}
 use Rattle.std.proofs.Common.{sym, ap₂, ap, ◌∙◌, arith, add-one}
 use Rattle.std.proofs.Math.Bool.{or-false, or_assoc}
 use Rattle.numbers.proofs.Tests.{neither}
@@ -28,6 +29,17 @@ unfolding any_of
 any-of-first f zero = sym (or-false (f 0))
 any-of-first f (suc n) =
     ap (λ (a : Bool). a || f (suc n)) (any-of-first f n) ∙ or_assoc (f 0) (any_of (λ i. f (suc i)) n) (f (suc n))
+
+-- the test of each player in turn
+any-listed : (t : ℕ) (ps : List Player) → list_any (λ (p : Player). expired t p.current) ps ≡ any_of (due_at t ps) (length ps)
+unfolding due_at any_of
+any-listed t [] = refl
+any-listed t (p ∷ ps) =
+    ap (λ (b : Bool). expired t p.current || b) (any-listed t ps) ∙ sym (any-of-first (due_at t (p ∷ ps)) (length ps))
+
+pub due-listed : (t : ℕ) (ps : List Player) → length ps ≡ 16 → list_any (λ (p : Player). expired t p.current) ps ≡ any_due t ps
+unfolding any_due
+due-listed t ps h = any-listed t ps ∙ ap (any_of (due_at t ps)) h
 
 shut-same : (t : ℕ) (p : Player) → expired t p.current ≡ false → shut t p ≡ p
 unfolding shut

@@ -3,7 +3,8 @@
 // Every function is total. A time that no event has (above 4000000000) grants nothing, so no sum passes 32 bits.
 #![tactic(auto)]
 
-ghost use Rattle.std.specs.Prelude.{◌≡◌, cond, ◌≤◌};
+ghost use Rattle.std.specs.Prelude.{◌≡◌, ◌≤◌};
+ghost use Rattle.book.specs.Codes.{event_code};
 ghost use Rattle.model.specs.Book.{latest_time};
 ghost use Rattle.model.specs.Meters.{expired, shut, begun, continued, ended, cancelled};
 ghost use Rattle.model.specs.Step.{starts_interval};
@@ -12,9 +13,11 @@ ghost use Rattle.uses.specs.Uses.{kept, begin_on, continue_on, stop_on, cancel_o
 ghost use Rattle.uses.specs.Room.{Room, MoreRoom};
 ghost use Rattle.uses.specs.Due.{any_due};
 
-use book::{Answer, Ask, LATEST_TIME, Limits, Meters, Open, Player, Recent, closed_use, refusal};
-use numbers::{one, pick8, pick32, saturating_sub, with_bit};
-use rules::{begin_code, flags_of, grantable, least_until, momentary, when};
+use book::{
+    Answer, Ask, EventError, LATEST_TIME, Limits, Meters, Open, Player, Recent, closed_use, refusal,
+};
+use numbers::{one, pick, with_bit};
+use rules::{flags_of, grantable, least_until, momentary, when};
 
 // What an operation leaves: the answer, the entry's meters, the asking player's use, and whether it opened a use that started the
 // interval.
@@ -26,41 +29,29 @@ pub struct Effect {
     pub started: bool,
 }
 
-// Rules out: the two swapped, the first whatever the test.
-fn pick_open(w: bool, a: Open, b: Open) -> Open
-    ensures { result ≡ cond w a b }
-{
-    if w { a } else { b }
-}
-
-// Rules out: the two swapped, the first whatever the test.
-fn pick_meters(w: bool, a: Meters, b: Meters) -> Meters
-    ensures { result ≡ cond w a b }
-{
-    if w { a } else { b }
-}
-
 // A refusal that leaves meters and use as they are.
 // Rules out: an entry other than 255, meters or a use changed.
-pub fn kept(code: u8, m: Meters, o: Open) -> Effect
-    ensures { result ≡ kept code m o }
+pub fn kept(error: EventError, m: Meters, o: Open) -> Effect
+    ensures { result ≡ kept (event_code error) m o }
 {
     Effect {
-        answer: refusal(code),
+        answer: refusal(error),
         meters: m,
         current: o,
         started: false,
     }
 }
 
+#[tactic(auto, unfolding(model::specs::Choice::grant_until))]
 fn grant_until(l: Limits, m: Meters, t: u32) -> u32
     requires { t ≤ latest_time }
     ensures { result ≡ grant_until t l m }
 {
     let until = least_until(t, t, l, m) as u32;
-    pick32(momentary(l.kind), t, until)
+    pick(momentary(l.kind), t, until)
 }
 
+#[tactic(auto, unfolding(model::specs::Choice::more_until))]
 fn more_until(l: Limits, m: Meters, old: u32, t: u32) -> u32
     requires { t ≤ latest_time }
     ensures { result ≡ more_until t old l m }
@@ -70,6 +61,7 @@ fn more_until(l: Limits, m: Meters, old: u32, t: u32) -> u32
 
 // Whether a begin on the entry opens a use that starts its interval.
 // Rules out: a momentary use, an entry without an interval, an interval that has started.
+#[tactic(auto, unfolding(model::specs::Step::starts_interval, rules::specs::Rules::flags_of))]
 fn starts_interval(l: Limits, m: Meters) -> bool
     ensures { result ≡ starts_interval l m }
 {
@@ -78,43 +70,47 @@ fn starts_interval(l: Limits, m: Meters) -> bool
 }
 
 // Rules out: a first that a later begin overwrites, a meter that rises without its flag, a mark for a momentary use.
+#[tactic(auto, unfolding(model::specs::Meters::begun, rules::specs::Rules::flags_of))]
 fn begun_meters(l: Limits, m: Meters, player: u8, t: u32, until: u32) -> Meters
     requires { Room t until l m }
     ensures { result ≡ begun player t until l m }
 {
     let f = flags_of(l);
-    let first = pick32(m.started == 1, m.first, t);
+    let first = pick(m.started == 1, m.first, t);
     Meters {
         count: m.count + when(f.count, 1),
         timed: m.timed + when(f.timed, 1),
         first: when(f.interval, first),
-        seconds: m.seconds + when(f.accumulated, saturating_sub(until, t)),
+        seconds: m.seconds + when(f.accumulated, until.saturating_sub(t)),
         started: one(f.interval),
-        marks: pick32(momentary(l.kind), m.marks, with_bit(m.marks, player, true)),
+        marks: pick(momentary(l.kind), m.marks, with_bit(m.marks, player, true)),
     }
 }
 
+#[tactic(auto, unfolding(model::specs::Meters::continued, rules::specs::Rules::flags_of))]
 fn continued_meters(l: Limits, m: Meters, old: u32, until: u32) -> Meters
     requires { MoreRoom old until l m }
     ensures { result ≡ continued old until l m }
 {
     let f = flags_of(l);
     let mut n = m;
-    n.seconds = m.seconds + when(f.accumulated, saturating_sub(until, old));
+    n.seconds = m.seconds + when(f.accumulated, until.saturating_sub(old));
     n
 }
 
 // Rules out: a count that goes back, a timed count that stays after a short use, seconds that stay after a stop, a mark that stays.
+#[tactic(auto, unfolding(model::specs::Meters::ended, rules::specs::Rules::flags_of))]
 pub fn ended_meters(l: Limits, m: Meters, player: u8, begin: u32, until: u32, end: u32) -> Meters
     ensures { result ≡ ended player begin until end l m }
 {
     let f = flags_of(l);
-    let short = saturating_sub(end, begin) < l.timer;
+    let short = end.saturating_sub(begin) < l.timer;
+    let unused = when(f.accumulated, until.saturating_sub(end));
     Meters {
         count: m.count,
-        timed: saturating_sub(m.timed, when(f.timed & short, 1)),
+        timed: m.timed.saturating_sub(when(f.timed & short, 1)),
         first: m.first,
-        seconds: saturating_sub(m.seconds, when(f.accumulated, saturating_sub(until, end))),
+        seconds: m.seconds.saturating_sub(unused),
         started: m.started,
         marks: with_bit(m.marks, player, false),
     }
@@ -122,6 +118,7 @@ pub fn ended_meters(l: Limits, m: Meters, player: u8, begin: u32, until: u32, en
 
 // Rules out: a count that stays, a timed count that a long timer keeps, an interval that stays started by the begin taken back, one
 // unstarted that another use started, a mark that stays.
+#[tactic(auto, unfolding(model::specs::Meters::cancelled, rules::specs::Rules::flags_of))]
 fn cancelled_meters(
     l: Limits,
     m: Meters,
@@ -134,28 +131,29 @@ fn cancelled_meters(
 {
     let f = flags_of(l);
     let marks = with_bit(m.marks, player, false);
+    let paid = when(f.accumulated, until.saturating_sub(begin));
     Meters {
-        count: saturating_sub(m.count, when(f.count, 1)),
-        timed: saturating_sub(m.timed, when(f.timed, 1)),
-        first: pick32(recent.started, 0, m.first),
-        seconds: saturating_sub(m.seconds, when(f.accumulated, saturating_sub(until, begin))),
-        started: pick8(recent.started, 0, m.started),
+        count: m.count.saturating_sub(when(f.count, 1)),
+        timed: m.timed.saturating_sub(when(f.timed, 1)),
+        first: pick(recent.started, 0, m.first),
+        seconds: m.seconds.saturating_sub(paid),
+        started: pick(recent.started, 0, m.started),
         marks: marks,
     }
 }
 
 // Neither owner calls it on an entry that is not grantable; it then answers as for a begin that finds none grantable.
 // Rules out: an until past end + 1, a momentary use that opens, a grant that is not metered, a use without the content asked for.
+#[tactic(auto, unfolding(crate::specs::Uses::begin_on))]
 pub fn begin_on(l: Limits, m: Meters, o: Open, i: u8, asset: u16, ask: Ask) -> Effect
     ensures { result ≡ begin_on i asset ask l m o }
 {
     let t = ask.time;
-    let none = begin_code(false, true, true, 64, false);
     if !grantable(l, m, ask) {
-        return kept(none, m, o);
+        return kept(EventError::Spent, m, o);
     }
     if LATEST_TIME < t {
-        return kept(none, m, o);
+        return kept(EventError::Spent, m, o);
     }
     let until = grant_until(l, m, t);
     let begun = begun_meters(l, m, ask.player, t, until);
@@ -173,24 +171,25 @@ pub fn begin_on(l: Limits, m: Meters, o: Open, i: u8, asset: u16, ask: Ask) -> E
             until: until,
         },
         meters: begun,
-        current: pick_open(momentary(l.kind), o, use_begun),
+        current: pick(momentary(l.kind), o, use_begun),
         started: starts_interval(l, m),
     }
 }
 
 // Rules out: 15 with time unspent, a begin time that moves, seconds counted twice.
+#[tactic(auto, unfolding(crate::specs::Uses::continue_on))]
 pub fn continue_on(l: Limits, m: Meters, o: Open, t: u32) -> Effect
     ensures { result ≡ continue_on t l m o }
 {
     if !(o.on == 1) {
-        return kept(14, m, o);
+        return kept(EventError::NotOpen, m, o);
     }
     if LATEST_TIME < t {
-        return kept(15, m, o);
+        return kept(EventError::NoMore, m, o);
     }
     let until = more_until(l, m, o.until, t);
     if until <= o.until {
-        return kept(15, m, o);
+        return kept(EventError::NoMore, m, o);
     }
     let meters = continued_meters(l, m, o.until, until);
     Effect {
@@ -212,11 +211,12 @@ pub fn continue_on(l: Limits, m: Meters, o: Open, t: u32) -> Effect
 }
 
 // Rules out: a use that stays open, the old until in the answer.
+#[tactic(auto, unfolding(crate::specs::Uses::stop_on))]
 pub fn stop_on(l: Limits, m: Meters, o: Open, player: u8, t: u32) -> Effect
     ensures { result ≡ stop_on player t l m o }
 {
     if !(o.on == 1) {
-        return kept(14, m, o);
+        return kept(EventError::NotOpen, m, o);
     }
     let meters = ended_meters(l, m, player, o.begin, o.until, t);
     Effect {
@@ -232,14 +232,15 @@ pub fn stop_on(l: Limits, m: Meters, o: Open, player: u8, t: u32) -> Effect
 }
 
 // Rules out: a use taken back after another event, one that stays open, the until or the time of the cancel in the answer.
+#[tactic(auto, unfolding(crate::specs::Uses::cancel_on))]
 pub fn cancel_on(l: Limits, m: Meters, o: Open, player: u8, recent: Recent) -> Effect
     ensures { result ≡ cancel_on player recent l m o }
 {
     if !(o.on == 1) {
-        return kept(14, m, o);
+        return kept(EventError::NotOpen, m, o);
     }
     if !recent.begun {
-        return kept(44, m, o);
+        return kept(EventError::TooLate, m, o);
     }
     let meters = cancelled_meters(l, m, player, recent, o.begin, o.until);
     Effect {
@@ -255,6 +256,7 @@ pub fn cancel_on(l: Limits, m: Meters, o: Open, player: u8, recent: Recent) -> E
 }
 
 // Rules out: until taken as included, a use that is not open.
+#[tactic(auto, unfolding(model::specs::Meters::expired))]
 pub fn due(o: Open, t: u32) -> bool
     ensures { result ≡ expired t o }
 {
@@ -262,37 +264,28 @@ pub fn due(o: Open, t: u32) -> bool
 }
 
 // Rules out: a last event that settling changes.
+#[tactic(auto, unfolding(model::specs::Meters::shut))]
 pub fn shut_player(p: Player, t: u32) -> Player
     ensures { result ≡ shut t p }
 {
-    let o = p.current;
-    let last = p.last;
-    let closed = closed_use();
     Player {
-        last: last,
-        current: pick_open(due(o, t), closed, o),
+        last: p.last,
+        current: pick(due(p.current, t), closed_use(), p.current),
     }
 }
 
 // Rules out: an end at t instead of its until.
+#[tactic(auto, unfolding(crate::specs::Uses::released_on))]
 pub fn released_meters(l: Limits, m: Meters, o: Open, player: u8, t: u32) -> Meters
     ensures { result ≡ released_on player t l m o }
 {
     let ended = ended_meters(l, m, player, o.begin, o.until, o.until);
-    pick_meters(due(o, t), ended, m)
+    pick(due(o, t), ended, m)
 }
 
 // Rules out: looking at the asking player only.
 pub fn any_due(ps: [Player; 16], t: u32) -> bool
     ensures { result ≡ any_due t ps }
 {
-    let mut w = false;
-    let mut i: usize = 0;
-    while i < 16 {
-        let p = ps[i];
-        let o = p.current;
-        w = w | due(o, t);
-        i = i + 1;
-    }
-    w
+    ps.iter().any(|p| due(p.current, t))
 }

@@ -3,13 +3,28 @@
 #![tactic(auto)]
 
 ghost use Rattle.std.specs.Prelude.{◌≡◌, ◌+◌, ◌<◌, ◌≤◌};
-ghost use Rattle.model.specs.Book.{entries_in, in_book, limits_legal};
+ghost use Rattle.model.specs.Book.{assets_in, entries_in, in_book, asset_legal, limits_legal};
 ghost use Rattle.xml_model.specs.State.{as_done, asset_done, how_many, asset_for, limits_for, kind_legal};
 ghost use Rattle.xml_model.specs.State.{with_entries, kind_done};
 
-use book::{Book, Entry, Limits, at_most_64, blank_entry};
+use book::{Asset, Book, Entry, Limits, at_most_64, blank_entry};
 use image_limits::{asset_legal, asset_position, limits_legal};
 use xml_model::{State, TextError};
+
+// Whether the asset may follow those of the book.
+fn next_legal(b: Book, a: Asset) -> bool
+    ensures { result ≡ asset_legal b.assets (assets_in b) (assets_in b) a }
+{
+    let n = at_most_64(b.assetcount);
+    asset_legal(&b.assets[..n], n, a)
+}
+
+// Whether the book has an asset with that number.
+fn known(b: Book, number: u16) -> bool
+    ensures { result ≡ in_book b number }
+{
+    asset_position(&b.assets[..at_most_64(b.assetcount)], number as u32).is_some()
+}
 
 // The last tag of an asset.
 // Rules out: 42 for a 65th asset whose number is given twice, an asset whose id stays unnamed.
@@ -19,7 +34,7 @@ pub fn asset_done(mut st: State) -> Result<State, TextError>
 {
     let asset = st.asset;
     let n = at_most_64(st.book.assetcount);
-    if !asset_legal(st.book.assets, n, n, asset) {
+    if !next_legal(st.book, asset) {
         return Err(TextError::Unaccepted);
     }
     if 64 <= n {
@@ -74,10 +89,7 @@ fn entry_legal(kind: u8, st: State, i: usize) -> bool
     requires { i < 64 }
     ensures { result ≡ limits_legal (in_book st.book (asset_for st i)) (limits_for kind st i) }
 {
-    let b = st.book;
-    let n = at_most_64(b.assetcount);
-    let known = asset_position(b.assets, n, asset_for(st, i) as u32) < n;
-    limits_legal(known, limits_for(kind, st, i))
+    limits_legal(known(st.book, asset_for(st, i)), limits_for(kind, st, i))
 }
 
 #[tactic(auto, unfolding(xml_model::specs::State::kind_legal, numbers::specs::Count::all))]

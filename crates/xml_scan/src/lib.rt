@@ -28,6 +28,7 @@ pub enum Class {
 
 // The byte at i, 256 at the end of the text.
 // Rules out: a byte 0 behind the end, the byte before i.
+#[tactic(auto, unfolding(xml_model::specs::Bytes::byte_at))]
 pub fn byte_at(s: &[u8], i: usize) -> u16
     ensures { result ≡ byte_at s.now i }
 {
@@ -74,6 +75,7 @@ pub fn run_end(s: &[u8], class: Class, from: usize) -> usize
 
 // Whether only white space stands from a to b.
 // Rules out: true if a letter stands there, false for no byte at all.
+#[tactic(auto, unfolding(xml_model::specs::Bytes::bare))]
 pub fn is_bare(s: &[u8], a: usize, b: usize) -> bool
     ensures { result ≡ bare s.now a b }
 {
@@ -81,6 +83,7 @@ pub fn is_bare(s: &[u8], a: usize, b: usize) -> bool
     b <= end
 }
 
+#[tactic(auto, unfolding(xml_model::specs::Bytes::is_mark, xml_model::specs::Bytes::byte_at))]
 fn is_mark(s: &[u8], i: usize) -> bool
     ensures { result ≡ is_mark s.now i }
 {
@@ -94,6 +97,7 @@ fn is_mark(s: &[u8], i: usize) -> bool
 }
 
 // How far the text is looked at to tell what is wrong where no rule allows the byte at i.
+#[tactic(auto, unfolding(xml_model::specs::Bytes::looked))]
 fn looked(s: &[u8], i: usize) -> usize
     ensures { result ≡ looked s.now i }
 {
@@ -107,6 +111,7 @@ fn looked(s: &[u8], i: usize) -> usize
 
 // What is wrong where no rule allows the byte at i.
 // Rules out: 40 for `&`, 41 for the end of the text; a place that grows with i behind the end.
+#[tactic(auto, unfolding(xml_model::specs::Bytes::stuck))]
 pub fn stuck(s: &[u8], i: usize) -> Fault
     ensures { IsFault result (stuck s.now i) (looked s.now i) }
 {
@@ -145,6 +150,7 @@ fn quote_of(c: u16) -> Option<Class>
     }
 }
 
+#[tactic(auto, unfolding(xml_model::specs::Tags::value_at, xml_model::specs::Tags::stuck_attribute))]
 fn value_at(s: &[u8], i: usize, e: usize, v: usize) -> Result<Attribute, Fault>
     ensures { IsAttribute result (value_at s.now i e v) }
 {
@@ -164,6 +170,7 @@ fn value_at(s: &[u8], i: usize, e: usize, v: usize) -> Result<Attribute, Fault>
     })
 }
 
+#[tactic(auto, unfolding(xml_model::specs::Tags::equals_at, xml_model::specs::Tags::stuck_attribute))]
 fn equals_at(s: &[u8], i: usize, e: usize, q: usize) -> Result<Attribute, Fault>
     ensures { IsAttribute result (equals_at s.now i e q) }
 {
@@ -181,6 +188,7 @@ fn name_starts(s: &[u8], i: usize) -> bool
     (65 <= c) & (c <= 90) | (97 <= c) & (c <= 122) | (c == 95) | (c == 58) | (128 <= c) & (c <= 255)
 }
 
+#[tactic(auto, unfolding(xml_model::specs::Tags::attribute_at, xml_model::specs::Tags::stuck_attribute))]
 fn attribute_at(s: &[u8], i: usize) -> Result<Attribute, Fault>
     ensures { IsAttribute result (attribute_at s.now i) }
 {
@@ -239,6 +247,7 @@ pub fn look<'a>(s: &'a [u8], name: &'a [u8], first: usize) -> Option<Range>
 // ## Tags
 
 // A `/` stands at g.
+#[tactic(auto, unfolding(xml_model::specs::Tags::empty_tail, xml_model::specs::Tags::tailed))]
 fn empty_tail(s: &[u8], g: usize) -> Result<Tail, Fault>
     requires { g < length s.now }
     ensures { IsTail result (empty_tail s.now g) }
@@ -285,6 +294,7 @@ fn tail_of(s: &[u8], first: usize) -> Result<Tail, Fault>
 }
 
 // The name of the end tag at `at` ends at e.
+#[tactic(auto, unfolding(xml_model::specs::Tags::end_tag, xml_model::specs::Tags::stuck_tag))]
 fn end_tag(s: &[u8], from: usize, at: usize, e: usize) -> Result<Tag, Fault>
     requires { at < length s.now }
     ensures { IsTag result (end_tag s.now from at e) }
@@ -304,6 +314,7 @@ fn end_tag(s: &[u8], from: usize, at: usize, e: usize) -> Result<Tag, Fault>
 }
 
 // The name of the tag at `at` ends at e.
+#[tactic(auto, unfolding(xml_model::specs::Tags::start_tag))]
 fn start_tag(s: &[u8], from: usize, at: usize, e: usize) -> Result<Tag, Fault>
     requires { at < length s.now }
     ensures { IsTag result (start_tag s.now from at e) }
@@ -338,6 +349,7 @@ fn tag_at(s: &[u8], from: usize, at: usize) -> Result<Tag, Fault>
 
 // The unit that starts at i: the text up to the next `<`, and the tag there.
 // Rules out: a tag for one with an attribute twice, a comment read as a tag, a unit that ends within an attribute's value.
+#[tactic(auto, unfolding(xml_model::specs::Tags::unit_at, xml_model::specs::Tags::stuck_tag))]
 pub fn unit_at(s: &[u8], i: usize) -> Result<Tag, Fault>
     ensures { IsTag result (unit_at s.now i) }
 {

@@ -1,5 +1,5 @@
 -- Two roles are the same if their numbers are, and two names likewise.
-use Rattle.std.specs.Prelude.{◌≡◌, ℕ, ◌-◌, Bool, true, false, List, [], ◌∷◌, get_or, eqb}
+use Rattle.std.specs.Prelude.{◌≡◌, ℕ, ◌-◌, false, List, [], ◌∷◌, get_or, eqb}
 use Rattle.std.proofs.Math.Path.{refl, sym, ap}
 use Rattle.std.proofs.Common.{◌∙◌, rules}
 use borrow.Author.Tests.{eqb-true, eqb-false}

@@ -18,6 +18,7 @@ use xml_table::Role;
 // Where a number stays: above every bound, and far from where a sum would wrap.
 const CEILING: u64 = 1000000000000;
 
+#[tactic(auto, unfolding(xml_model::specs::Values::value_if))]
 fn value_if(good: bool, n: u64) -> Option<u32>
     requires { good ≡ true → n ≤ 4294967295 }
     ensures { as_value result ≡ value_if good n }
@@ -51,6 +52,7 @@ fn number_of(v: &[u8]) -> u64
     x
 }
 
+#[tactic(auto, unfolding(xml_model::specs::Values::is_number))]
 fn is_number(v: &[u8]) -> bool
     ensures { result ≡ is_number v.now }
 {
@@ -88,6 +90,7 @@ fn uid_of(v: &[u8]) -> Option<u32>
 
 // ## Times
 
+#[tactic(auto, unfolding(xml_model::specs::Values::digits_at))]
 fn digits_at(v: &[u8], i: usize, n: usize) -> bool
     requires { i + n ≤ 20 }
     ensures { result ≡ digits_at v.now i n }
@@ -96,6 +99,7 @@ fn digits_at(v: &[u8], i: usize, n: usize) -> bool
     i + n <= end
 }
 
+#[tactic(auto, unfolding(xml_model::specs::Values::time_formed))]
 fn time_formed(v: &[u8]) -> bool
     ensures { result ≡ time_formed v.now }
 {
@@ -130,6 +134,7 @@ fn two_digits(v: &[u8], i: usize) -> u8
     number_of(&v[i..e]) as u8
 }
 
+#[tactic(auto, unfolding(xml_model::specs::Values::time_real))]
 fn time_real(year: u16, month: u8, day: u8, hour: u8, minute: u8, second: u8) -> bool
     ensures { result ≡ time_real year month day hour minute second }
 {
@@ -141,6 +146,7 @@ fn time_real(year: u16, month: u8, day: u8, hour: u8, minute: u8, second: u8) ->
         & (second <= 59)
 }
 
+#[tactic(auto, unfolding(xml_model::specs::Values::seconds_at))]
 fn seconds_at(year: u16, month: u8, day: u8, hour: u8, minute: u8, second: u8) -> u64
     ensures { result ≡ seconds_at year month day hour minute second }
 {
@@ -149,6 +155,7 @@ fn seconds_at(year: u16, month: u8, day: u8, hour: u8, minute: u8, second: u8) -
     (first + later) * 86400 + (hour as u64) * 3600 + (minute as u64) * 60 + (second as u64)
 }
 
+#[tactic(auto, unfolding(xml_model::specs::Values::time_if))]
 fn time_if(good: bool, t: u64) -> Option<u32>
     ensures { as_value result ≡ time_if good t }
 {
@@ -195,6 +202,7 @@ fn piece_at(v: &[u8], u: u8, i: usize) -> Piece
     }
 }
 
+#[tactic(auto, unfolding(xml_model::specs::Values::duration_formed))]
 fn duration_formed(v: &[u8], d: Piece, h: Piece, m: Piece, s: Piece) -> bool
     ensures { result ≡ duration_formed v.now (as_piece d) (as_piece h) (as_piece m) (as_piece s) }
 {

@@ -6,11 +6,12 @@ use mathlib.Core.List.{List, [], map}
 use native.Mathlib.Omega.{arith}
 use native.Mathlib.Nat.{min-le_right}
 use borrow.Author.Rules.{rules}
-use borrow.Author.Tests.{le-leb, lt-leb, ne_eqb}
-use lib.ListN.{length, get_or, set, take, length-set, get_or-eq_default}
+use borrow.Author.Tests.{le-leb, lt-leb, ne_eqb, lt-ltb, le-ltb}
+use lib.ListN.{length, get_or, set, take, drop, length-set, get_or-eq_default}
 use lib.Seq.{set_out}
 use lib.Dec.{leb, ltb, eqb}
 use Rattle.numbers.proofs.Loops.{length-mapped}
+use Rattle.std.specs.Prelude.{Option, Some, None}
 use Rattle.book.specs.declared.Answer.{Answer}
 use Rattle.book.specs.declared.Asset.{Asset}
 use Rattle.book.specs.declared.Last.{Last}
@@ -23,8 +24,11 @@ use Rattle.book.specs.declared.Kind.{Kind}
 use Rattle.book.specs.declared.Recent.{Recent}
 use Rattle.book.specs.declared.Request.{Request}
 use Rattle.book.specs.declared.Request.TheVariants.{Begin}
-use Rattle.book.specs.declared.Decoded.{Decoded}
-use Rattle.book.specs.declared.Decoded.TheVariants.{Valid}
+use Rattle.book.proofs.Codes.{never-granted}
+use Rattle.book.specs.Codes.{event_code}
+use Rattle.book.specs.Decoded.{Decoded, Valid}
+use Rattle.book.specs.Gate.{Refuse, Resend, Take, passed}
+use Rattle.step.specs.Step.{found_at}
 use Rattle.book.specs.declared.Player.{Player}
 use Rattle.book.specs.declared.Meters.{Meters}
 use Rattle.book.specs.declared.Open.{Open}
@@ -39,21 +43,22 @@ use Rattle.model.specs.Report.{line_at, raised, overdue, recorded_all, ended_by,
 use Rattle.model.specs.Meters.{is_on, released, shut, expired}
 use Rattle.model.specs.Run.{record_count, record_at}
 use Rattle.rules.specs.Rules.{wire_of}
-use Rattle.choice.specs.declared.Best.{Best}
+use Rattle.choice.specs.declared.Best as code
 use Rattle.choice.specs.declared.Row.{Row}
 use Rattle.rules.specs.Codes.{begin_code}
-use Rattle.choice.specs.Best.{best_after, choice_after, considered, best-turn}
-use Rattle.choice.specs.Row.{row_of, row_considered, row-considered, refreshed_row, row-refreshed}
+use Rattle.choice.specs.Best.{best_after, choice_after, found_after, entry_taken, found-turn, seen, seen-found, at_of}
+use Rattle.choice.specs.Choice.{found-at}
+use Rattle.choice.specs.Row.{row_of, row_taken, row-taken, refreshed_row, row-refreshed}
 use Rattle.index.specs.Ends.{end_of, end_of_player, never}
 use Rattle.index.specs.Rows.{row_of_entry, no_row, row_at}
-use Rattle.index.specs.Places.{reach_at}
+use Rattle.index.specs.Places.{reach_at, places_of, parents_of}
 use Rattle.text.specs.Lines.{line_end, line_buffer}
 use Rattle.uses.specs.declared.Effect.{Effect}
 use Rattle.uses.specs.Uses.{placed, stored, cancel_on}
 use Rattle.step.specs.Settle.{settled_book, settled_to, settle-none, settle-turn, settle_one, with}
 use Rattle.model.proofs.Ledger.Concrete.{settled-size}
-use Rattle.metering.specs.Good.{good_lines, good_after, good-raised}
-use Rattle.metering.specs.Recording.{due-none, request_line, request_seconds, refused-kept}
+use Rattle.metering.specs.Good.{good_lines, good_after, good-raised, good-used}
+use Rattle.metering.specs.Recording.{due-none, line_in, request_in, request_seconds, refused-kept}
 use Rattle.step.specs.Lines.{lines_taken}
 use Rattle.step.specs.Step.{recent_on}
 use Rattle.batch.specs.Block.{step_on, fits, block_book, block_lines, block_written, block_buffer}
@@ -65,46 +70,46 @@ use Rattle.batch.specs.StepCases.{looked, looked-most, act_on, closing, done_on,
 use Rattle.batch.specs.StepCases.{planned-stop, planned-cancel, planned-begin, usable-is, parent_is, case-invalid}
 use Rattle.batch.specs.StepCases.{answered_by, noted-answer, case-taken, released-due, released-far, released-still, shut-not}
 use Rattle.batch.specs.StepCases.{rows_next, admit, admitted-few, reported-as, case-lines, lines-still, lines-out, lines-raised}
-use Rattle.batch.specs.StepCases.{lines-kept, acted-raised, acted-kept, case-refused, case-resent}
+use Rattle.batch.specs.StepCases.{few-line, few-request, slots-line, slots-line-below, slots-request, slots-request-below, lines-kept, acted-raised, acted-kept, case-refused, case-resent}
 use Rattle.batch.proofs.answer_block.Invariants.{rows_for, ends_for, Going}
 use Rattle.batch.proofs.answer_block.Goals as goal
 use Rattle.batch.proofs.answer_block.Goals.{then-next-t+else-loop-p-test, else-next-t, in-Begin+else-loop-e-test, in-Continue, in-Stop}
-use Rattle.batch.proofs.answer_block.Goals.{in-Cancel, then-code-eq0, else-code-eq0, then-k-lt64-2, else-k-lt64-2, in-Begin-request}
+use Rattle.batch.proofs.answer_block.Goals.{in-Cancel, in-Ok-found, in-Err-found, then-k-lt64-2, else-k-lt64-2, in-Begin-request}
 use Rattle.batch.proofs.answer_block.Goals.{in-Continue-request, in-Stop-request, in-Cancel-request, then-k-lt64-3, else-k-lt64-3}
-use Rattle.batch.proofs.answer_block.Goals.{then-w-lt64-2, else-w-lt64-2, then-end-t, else-end-t, then-k-lt64+then-w-lt64}
-use Rattle.batch.proofs.answer_block.Goals.{then-k-lt64+else-w-lt64, else-k-lt64}
+use Rattle.batch.proofs.answer_block.Goals.{then-end-t, else-end-t, then-k-lt64+in-Some, in-Some-request_line, in_default-request_line}
+use Rattle.batch.proofs.answer_block.Goals.{then-k-lt64+in_default, else-k-lt64}
 use Rattle.batch.proofs.answer_block.Tie as tie
 use Rattle.batch.proofs.answer_block.Lts as lts
 use Rattle.batch.proofs.answer_block.Reads as reads
 
 abbrev Entered : Type 0
-Entered = lts.Start tie.the-claims reads.Pre reads.Post goal.the-invariant-loop-p goal.the-decreases-loop-p goal.the-invariant-loop-e goal.the-decreases-loop-e goal.the-invariant-loop-i goal.the-decreases-loop-i
+Entered = lts.Start tie.the-claims reads.Pre reads.Post goal.the-invariant-loop-p goal.the-decreases-loop-p goal.the-invariant-loop-e goal.the-decreases-loop-e goal.the-invariant-loop-i goal.the-decreases-loop-i tie.handed_clauses
 
 abbrev Turn : Type 0
-Turn = lts.In-loop tie.the-claims reads.Pre reads.Post goal.the-invariant-loop-p goal.the-decreases-loop-p goal.the-invariant-loop-e goal.the-decreases-loop-e goal.the-invariant-loop-i goal.the-decreases-loop-i
+Turn = lts.In-loop tie.the-claims reads.Pre reads.Post goal.the-invariant-loop-p goal.the-decreases-loop-p goal.the-invariant-loop-e goal.the-decreases-loop-e goal.the-invariant-loop-i goal.the-decreases-loop-i tie.handed_clauses
 
 -- the record is decoded, and admitted if the list is good
 abbrev Read : Type 0
-Read = lts.After-received tie.the-claims reads.Pre reads.Post goal.the-invariant-loop-p goal.the-decreases-loop-p goal.the-invariant-loop-e goal.the-decreases-loop-e goal.the-invariant-loop-i goal.the-decreases-loop-i
+Read = lts.After-received tie.the-claims reads.Pre reads.Post goal.the-invariant-loop-p goal.the-decreases-loop-p goal.the-invariant-loop-e goal.the-decreases-loop-e goal.the-invariant-loop-i goal.the-decreases-loop-i tie.handed_clauses
 
 -- it holds an event, and the gate has judged it
 abbrev Judged : Type 0
-Judged = lts.After-gate_of tie.the-claims reads.Pre reads.Post goal.the-invariant-loop-p goal.the-decreases-loop-p goal.the-invariant-loop-e goal.the-decreases-loop-e goal.the-invariant-loop-i goal.the-decreases-loop-i
+Judged = lts.After-gate_of tie.the-claims reads.Pre reads.Post goal.the-invariant-loop-p goal.the-decreases-loop-p goal.the-invariant-loop-e goal.the-decreases-loop-e goal.the-invariant-loop-i goal.the-decreases-loop-i tie.handed_clauses
 
 -- the event is taken
 abbrev Taken : Type 0
-Taken = lts.Past-After-enum_told2 tie.the-claims reads.Pre reads.Post goal.the-invariant-loop-p goal.the-decreases-loop-p goal.the-invariant-loop-e goal.the-decreases-loop-e goal.the-invariant-loop-i goal.the-decreases-loop-i
+Taken = lts.Past-After-enum_told_along2 tie.the-claims reads.Pre reads.Post goal.the-invariant-loop-p goal.the-decreases-loop-p goal.the-invariant-loop-e goal.the-decreases-loop-e goal.the-invariant-loop-i goal.the-decreases-loop-i tie.handed_clauses
 
 -- every use that is due has ended
 abbrev AllSettled : Type 0
-AllSettled = lts.Joined2 tie.the-claims reads.Pre reads.Post goal.the-invariant-loop-p goal.the-decreases-loop-p goal.the-invariant-loop-e goal.the-decreases-loop-e goal.the-invariant-loop-i goal.the-decreases-loop-i
+AllSettled = lts.Joined2 tie.the-claims reads.Pre reads.Post goal.the-invariant-loop-p goal.the-decreases-loop-p goal.the-invariant-loop-e goal.the-decreases-loop-e goal.the-invariant-loop-i goal.the-decreases-loop-i tie.handed_clauses
 
 -- the entry and the code are known
 abbrev Chosen : Type 0
-Chosen = lts.At-match3-branch tie.the-claims reads.Pre reads.Post goal.the-invariant-loop-p goal.the-decreases-loop-p goal.the-invariant-loop-e goal.the-decreases-loop-e goal.the-invariant-loop-i goal.the-decreases-loop-i
+Chosen = lts.At-match5-branch tie.the-claims reads.Pre reads.Post goal.the-invariant-loop-p goal.the-decreases-loop-p goal.the-invariant-loop-e goal.the-decreases-loop-e goal.the-invariant-loop-i goal.the-decreases-loop-i tie.handed_clauses
 
 abbrev entered : Turn → Entered
-entered c = c.before.before.before.before.before.before.before.before.before.before.before.before.before.before
+entered c = c.before.before.before.before.before.before.before.before.before.before.before.before.before.before.before.before
 
 abbrev turn : Read → Turn
 turn c = c.before.before.before
@@ -119,13 +124,16 @@ abbrev taken : AllSettled → Taken
 taken c = c.before
 
 abbrev all_settled : Chosen → AllSettled
-all_settled c = c.before.before.before.before.before.before
+all_settled c = c.before.before.before
 
 entries-64 : (c : Entered) → length c.args.b.entries ≡ 64
 entries-64 c = search length-mapped
 
 players-16 : (c : Entered) → length c.args.b.players ≡ 16
 players-16 c = search length-mapped
+
+assets-64 : (c : Entered) → length c.args.b.assets ≡ 64
+assets-64 c = search length-mapped
 
 lines-64 : (c : Entered) → length c.args.lines ≡ 64
 lines-64 c = search length-mapped
@@ -146,17 +154,20 @@ record-at c = record_at (entered c).args.records.now c.loop-i.i
 abbrev admitted-at : Turn → Decoded
 admitted-at c = admit c.loop-i.good (decoded (record-at c))
 
-is-decoded : (c : Read) → c.received.result ≡ admitted-at (turn c)
-is-decoded c =
+-- the bytes that are read are the record's
+is-record : (c : Read) → admit (turn c).loop-i.good (decoded
+    (take (c.min-to.result - record_size * (turn c).loop-i.i) (drop (record_size * (turn c).loop-i.i) (entered (turn c)).args.records.now)))
+    ≡ admitted-at (turn c)
+is-record c =
     let i = (turn c).loop-i.i in
-    c.received.ensures ∙ ap (λ (r : List ℕ). admit (turn c).loop-i.good (decoded r))
-    (record-part (entered (turn c)).args.records.now i (c.min_size-to.result - record_size * i) (omega arith))
+    ap (λ (r : List ℕ). admit (turn c).loop-i.good (decoded r))
+    (record-part (entered (turn c)).args.records.now i (c.min-to.result - record_size * i) (omega arith))
 
 abbrev event-at : Judged → Event
-event-at c = c.in-Valid.event
+event-at c = c.in-Ok.event
 
 is-valid : (c : Judged) → admitted-at (turn (read c)) ≡ Valid (event-at c)
-is-valid c = sym (is-decoded (read c)) ∙ c.in-Valid.is
+is-valid c = sym (is-record (read c)) ∙ c.in-Ok.ensures
 
 is-few : (c : Judged) → (event-at c).player ≤ 15
 is-few c = admitted-few (turn (read c)).loop-i.good (record-at (turn (read c))) (event-at c) (is-valid c)
@@ -165,7 +176,7 @@ is-admitted : (c : Taken) → Admitted (book-at (turn (read (judged c)))) (admit
 is-admitted c =
     let j = judged c in
     admitted (book-at (turn (read j))) (admitted-at (turn (read j))) (turn (read j)).loop-i.report (event-at j) (is-valid j)
-    (is-few j) j.gate_of.result j.gate_of.ensures c.in-Take.is
+    (is-few j) Take (sym (c.in-Ok-Take.ensures ∙ ap passed c.in-Ok-Take.field-0-is)) refl
 
 is-player : (c : Taken) → (event-at (judged c)).player % 16 ≡ (event-at (judged c)).player
 is-player c = let h = (is-admitted c).few-players in omega arith
@@ -225,8 +236,7 @@ request-kept c =
 abbrev open-at : Chosen → Open
 open-at c = open_at (all_settled c).if-next-t.book.players ((event-at (judged (taken (all_settled c)))).player % 16)
 
-planned : (c : Chosen) → Planned (all_settled c).if-next-t.book (event-at (judged (taken (all_settled c)))) (open-at c) c.match-request.k
-    c.match-request.code
+planned : (c : Chosen) → Planned (all_settled c).if-next-t.book (event-at (judged (taken (all_settled c)))) (open-at c) c.match-request.found
 planned c =
     let s = all_settled c in
     let n = s.if-next-t.book in
@@ -241,22 +251,36 @@ planned c =
       | in-Begin+else-loop-e-test w ↦
           let sort = w.in-Begin.sort in
           let asset = w.in-Begin.asset in
-          let kind = w.kind_number-kind.result in
+          let kind = w.from-kind.result in
           let r = w.reach_at-reach.result in
           let tables = c.fill_places.ensures in
-          let hr = w.reach_at-reach.ensures ∙ ap₂ (λ (x y : List ℕ). reach_at x y asset) tables.0 tables.1 in
+          let ats = start.args.b.assets in
+          let size : length ats ≡ 64 = assets-64 start in
+          let room : min start.args.b.assetcount 64 ≤ length ats = omega arith in
+          let hr = w.reach_at-reach.ensures ∙ ap₂ (λ (x y : List ℕ). reach_at x y asset) tables.0 tables.1
+          ∙ ap (λ (j : ℕ). reach_at (places_of (take j ats) (length (take j ats))) (parents_of (take j ats) (length (take j ats))) asset)
+          c.at_most_64-slots.ensures in
           let end : w.loop-e.e ≡ w.looked_at-n.result = omega (arith, w.loop-e.invariant.0, w.loop-e-test.false) in
-          planned-begin n e o sort asset kind c.match-request.k c.match-request.code w.looked_at-n.result r w.loop-e.best
-          ho w.in-Begin.is w.kind_number-kind.ensures
-          (usable-is n start.args.b.assets start.args.b.assetcount asset r kept.0 kept.1 (omega arith) hr)
-          (parent_is n start.args.b.assets start.args.b.assetcount asset r kept.0 kept.1 (omega arith) hr)
+          let few : w.loop-e.e ≤ 64 = omega (arith, w.loop-e.invariant.0, w.loop-e.invariant.1) in
+          let is-seen : seen w.loop-e.best ≡ best_after n.entries asset r.parent kind (asks n e) w.loop-e.e =
+          ap seen w.loop-e.invariant.2 ∙ seen-found n.entries asset r.parent kind (asks n e) w.loop-e.e in
+          subst (Planned n e o) (sym w.found-is)
+          (planned-begin n e o sort asset kind w.looked_at-n.result r (seen w.loop-e.best)
+          ho w.in-Begin.is w.from-kind.ensures
+          (usable-is n start.args.b.assets start.args.b.assetcount asset r kept.0 kept.1 (omega arith) room hr)
+          (parent_is n start.args.b.assets start.args.b.assetcount asset r kept.0 kept.1 (omega arith) room hr)
           (w.looked_at-n.ensures ∙ ap (looked (is_on o) r.usable) w.at_most_64.ensures)
-          (w.loop-e.invariant.2 ∙ ap (best_after n.entries asset r.parent kind (asks n e)) end)
-          ht w.k-is (w.code-is ∙ w.begin_code-code.ensures
-          ∙ ap (λ (k : ℕ). begin_code (is_on o) r.usable w.loop-e.best.suits (ltb k 64) w.loop-e.best.switched) (sym w.k-is))
-      | in-Continue w ↦ planned-continue n e o ho c.match-request.k c.match-request.code w.k-is (w.code-is ∙ c.further_code-code.ensures) ht w.in-Continue.is
-      | in-Stop w ↦ planned-stop n e o ho c.match-request.k c.match-request.code w.k-is (w.code-is ∙ c.further_code-code.ensures) w.in-Stop.is
-      | in-Cancel w ↦ planned-cancel n e o ho c.match-request.k c.match-request.code w.k-is (w.code-is ∙ c.further_code-code.ensures) w.in-Cancel.is
+          (is-seen ∙ ap (best_after n.entries asset r.parent kind (asks n e)) end)
+          ht w.at.result
+          (w.at.ensures ∙ ap (λ (x : code.Best). at_of x.granted) w.loop-e.invariant.2
+          ∙ found-at n.entries asset r.parent kind (asks n e) w.loop-e.e few ∙ ap found_at (sym is-seen))
+          w.begin_entry-found.result w.begin_entry-found.ensures)
+      | in-Continue w ↦ subst (Planned n e o) (sym w.found-is)
+          (planned-continue n e o ho w.further_entry-found.result w.further_entry-found.ensures ht w.in-Continue.is)
+      | in-Stop w ↦ subst (Planned n e o) (sym w.found-is)
+          (planned-stop n e o ho w.further_entry-found-in-Stop.result w.further_entry-found-in-Stop.ensures w.in-Stop.is)
+      | in-Cancel w ↦ subst (Planned n e o) (sym w.found-is)
+          (planned-cancel n e o ho w.further_entry-found-in-Cancel.result w.further_entry-found-in-Cancel.ensures w.in-Cancel.is)
     ]
 
 -- what a cancel reads of the event taken last, at the remainder, which is the player
@@ -271,21 +295,21 @@ recent-is c =
 
 -- the operation is done, or refused
 abbrev Acted : Type 0
-Acted = lts.Joined6 tie.the-claims reads.Pre reads.Post goal.the-invariant-loop-p goal.the-decreases-loop-p goal.the-invariant-loop-e goal.the-decreases-loop-e goal.the-invariant-loop-i goal.the-decreases-loop-i
+Acted = lts.At-match6-branch tie.the-claims reads.Pre reads.Post goal.the-invariant-loop-p goal.the-decreases-loop-p goal.the-invariant-loop-e goal.the-decreases-loop-e goal.the-invariant-loop-i goal.the-decreases-loop-i tie.handed_clauses
 
 abbrev chosen : Acted → Chosen
-chosen c = c.before.before
+chosen c = c.before
 
 -- the way on which the operation is done, and not refused
 abbrev Worked : Acted → Type 0
 Worked c =
-    lts.By-7-Joined6-then-code-eq0 tie.the-claims reads.Pre reads.Post goal.the-invariant-loop-p goal.the-decreases-loop-p
-    goal.the-invariant-loop-e goal.the-decreases-loop-e goal.the-invariant-loop-i goal.the-decreases-loop-i c.before
-    c.if-code-eq0.book c.if-code-eq0.report c.if-code-eq0.rows c.if-code-eq0.ends c.if-code-eq0.good c.if-code-eq0.next
-    c.if-code-eq0.answer c.if-code-eq0.current
+    lts.By-16-At-match6-branch-in-Ok-found tie.the-claims reads.Pre reads.Post goal.the-invariant-loop-p goal.the-decreases-loop-p
+    goal.the-invariant-loop-e goal.the-decreases-loop-e goal.the-invariant-loop-i goal.the-decreases-loop-i tie.handed_clauses c.before
+    c.match-found.book c.match-found.report c.match-found.rows c.match-found.ends c.match-found.good c.match-found.next
+    c.match-found.answer c.match-found.current
 
 -- the entry that it works on
-entry-is : (c : Acted) (w : Worked c) → w.if-k-lt64-2.x ≡ get_or (all_settled (chosen c)).if-next-t.book.entries (chosen c).match-request.k no_entry
+entry-is : (c : Acted) (w : Worked c) → w.if-k-lt64-2.x ≡ get_or (all_settled (chosen c)).if-next-t.book.entries w.in-Ok-found.k no_entry
 entry-is c w =
     let s = all_settled (chosen c) in
     let es = s.if-next-t.book.entries in
@@ -297,30 +321,31 @@ entry-is c w =
     ]
 
 -- a request's effect on an entry
-abbrev acts : Chosen → Request → Entry → Effect
-acts c y x =
+abbrev acts : Chosen → ℕ → Request → Entry → Effect
+acts c k y x =
     let n = (all_settled c).if-next-t.book in
     let e = event-at (judged (taken (all_settled c))) in
-    act_on y (c.match-request.k % 256) (asks n e) (recent_on n e) x.limits x.meters (open-at c)
+    act_on y (k % 256) (asks n e) (recent_on n e) x.limits x.meters (open-at c)
 
 -- what it does there
 part-is : (c : Acted) (w : Worked c) → w.match-request-2.part
-    ≡ acts (chosen c) (event-at (judged (taken (all_settled (chosen c))))).request
-    (get_or (all_settled (chosen c)).if-next-t.book.entries (chosen c).match-request.k no_entry)
+    ≡ acts (chosen c) w.in-Ok-found.k (event-at (judged (taken (all_settled (chosen c))))).request
+    (get_or (all_settled (chosen c)).if-next-t.book.entries w.in-Ok-found.k no_entry)
 part-is c w =
     let d = chosen c in
+    let k = w.in-Ok-found.k in
     let e = event-at (judged (taken (all_settled d))) in
     let x = w.if-k-lt64-2.x in
-    let is-part : w.match-request-2.part ≡ acts d d.match-request.request x =
+    let is-part : w.match-request-2.part ≡ acts d k d.match-request.request x =
     elim w.match-request-2.branch [
-      | in-Begin-request v ↦ v.part-is ∙ v.begin_on-part.ensures ∙ ap (λ (y : Request). acts d y x) (sym v.in-Begin-request.is)
-      | in-Continue-request v ↦ v.part-is ∙ v.continue_on-part.ensures ∙ ap (λ (y : Request). acts d y x) (sym v.in-Continue-request.is)
-      | in-Stop-request v ↦ v.part-is ∙ v.stop_on-part.ensures ∙ ap (λ (y : Request). acts d y x) (sym v.in-Stop-request.is)
+      | in-Begin-request v ↦ v.part-is ∙ v.begin_on-part.ensures ∙ ap (λ (y : Request). acts d k y x) (sym v.in-Begin-request.is)
+      | in-Continue-request v ↦ v.part-is ∙ v.continue_on-part.ensures ∙ ap (λ (y : Request). acts d k y x) (sym v.in-Continue-request.is)
+      | in-Stop-request v ↦ v.part-is ∙ v.stop_on-part.ensures ∙ ap (λ (y : Request). acts d k y x) (sym v.in-Stop-request.is)
       | in-Cancel-request v ↦ v.part-is ∙ v.cancel_on-part.ensures
           ∙ ap (λ (r : Recent). cancel_on e.player r x.limits x.meters (open-at d)) (v.recent_of-recent.ensures ∙ recent-is d)
-          ∙ ap (λ (y : Request). acts d y x) (sym v.in-Cancel-request.is)
+          ∙ ap (λ (y : Request). acts d k y x) (sym v.in-Cancel-request.is)
     ] in
-    is-part ∙ ap₂ (acts d) (request-kept d) (entry-is c w)
+    is-part ∙ ap₂ (acts d k) (request-kept d) (entry-is c w)
 
 -- the settled book at the event's time, with that event taken last and those entries
 abbrev timed : Acted → Latest → List Entry → Book
@@ -342,24 +367,24 @@ Left c book rows answer current started =
 
 leaves :
     (c : Acted) (es : List Entry) (a : Answer) (o : Open) (w : Bool) →
-    c.if-code-eq0.book ≡ marked c w es →
-    c.if-code-eq0.rows ≡ map row_of_entry es →
-    c.if-code-eq0.answer ≡ a →
-    c.if-code-eq0.current ≡ o →
+    c.match-found.book ≡ marked c w es →
+    c.match-found.rows ≡ map row_of_entry es →
+    c.match-found.answer ≡ a →
+    c.match-found.current ≡ o →
     record { answer = a; entries = es; current = o; started = w }
     ≡ done_on (all_settled (chosen c)).if-next-t.book (event-at (judged (taken (all_settled (chosen c))))) →
     length es ≡ 64 →
-    Left c c.if-code-eq0.book c.if-code-eq0.rows c.if-code-eq0.answer c.if-code-eq0.current w
+    Left c c.match-found.book c.match-found.rows c.match-found.answer c.match-found.current w
 leaves c es a o w hb hr ha ho hd hl = (
   hb ∙ ap (λ (m : Book). marked c w m.entries) (sym hb),
   hr ∙ ap rows_for (sym hb),
-  ap₂ (λ (x : Answer) (m : Book). record { answer = x; entries = m.entries; current = c.if-code-eq0.current; started = w }) ha hb
+  ap₂ (λ (x : Answer) (m : Book). record { answer = x; entries = m.entries; current = c.match-found.current; started = w }) ha hb
       ∙ ap (λ (x : Open). record { answer = a; entries = es; current = x; started = w }) ho
       ∙ hd,
   ap (λ (m : Book). length m.entries) hb ∙ hl,
 )
 
-left_by : (c : Acted) → (w : Bool) × Left c c.if-code-eq0.book c.if-code-eq0.rows c.if-code-eq0.answer c.if-code-eq0.current w
+left_by : (c : Acted) → (w : Bool) × Left c c.match-found.book c.match-found.rows c.match-found.answer c.match-found.current w
 unfolding placed stored
 left_by c =
     let d = chosen c in
@@ -368,14 +393,14 @@ left_by c =
     let n = s.if-next-t.book in
     let es = n.entries in
     let o = open-at d in
-    let k = d.match-request.k in
     let z = after-settle s in
-    elim c.if-code-eq0.branch [
-      | then-code-eq0 w ↦
+    elim c.match-found.branch [
+      | in-Ok-found w ↦
+          let k = w.in-Ok-found.k in
           let x = w.if-k-lt64-2.x in
           let is_x = entry-is c w in
           let part = w.match-request-2.part in
-          let hd = (planned d).acts w.if-code-eq0.true part (part-is c w) in
+          let hd = (planned d).acts k w.in-Ok-found.is part (part-is c w) in
           let es' = set es k (record { limits = limits_at es k; meters = part.meters }) in
           let done : (w.if-k-lt64-3.book ≡ timed c n.latest es') × (w.if-k-lt64-3.rows ≡ map row_of_entry es') =
           elim w.if-k-lt64-3.branch [
@@ -395,7 +420,7 @@ left_by c =
                   v.rows-is ∙ z.1 ∙ ap (map row_of_entry) same,
                 )
           ] in
-          let is-book : c.if-code-eq0.book ≡ marked c part.started es' =
+          let is-book : c.match-found.book ≡ marked c part.started es' =
           w.book-is
           ∙ ap (λ (m : Book). changed m m.time w.latest_by-header.result m.entries m.players) done.0
           ∙ ap (λ (x : Latest). timed c x es') w.latest_by-header.ensures in (
@@ -403,12 +428,12 @@ left_by c =
             leaves c es' part.answer part.current part.started is-book (w.rows-is ∙ done.1) w.answer-is w.current-is hd
                 (length-set es k _ ∙ z.0.entries),
           )
-      | else-code-eq0 w ↦ (
+      | in-Err-found w ↦ (
         false,
-        leaves c es c.refusal-answer.result o false (w.book-is ∙ ap (λ (x : Latest). timed c x es) w.latest_by-unmarked.ensures) (w.rows-is ∙ z.1) w.answer-is
+        leaves c es w.refusal-answer.result o false (w.book-is ∙ ap (λ (x : Latest). timed c x es) w.latest_by-unmarked.ensures) (w.rows-is ∙ z.1) w.answer-is
             w.current-is
-            (ap (λ (x : Answer). record { answer = x; entries = es; current = o; started = false }) c.refusal-answer.ensures
-            ∙ (planned d).refuses w.if-code-eq0.false)
+            (ap (λ (x : Answer). record { answer = x; entries = es; current = o; started = false }) w.refusal-answer.ensures
+            ∙ (planned d).refuses w.in-Err-found.e w.in-Err-found.is)
             z.0.entries,
       )
     ]
@@ -424,7 +449,7 @@ LinesLeft c report good answer =
     (entered (turn (read (judged (taken (all_settled (chosen c))))))).args.lent)
     × (length report ≡ 64)
 
-lines-by : (c : Acted) → LinesLeft c c.if-code-eq0.report c.if-code-eq0.good c.if-code-eq0.answer
+lines-by : (c : Acted) → LinesLeft c c.match-found.report c.match-found.good c.match-found.answer
 lines-by c =
     let d = chosen c in
     let s = all_settled d in
@@ -436,17 +461,17 @@ lines-by c =
     let es = n.entries in
     let A = s.if-next-t.report in
     let o = open-at d in
-    let k = d.match-request.k in
     let z = after-settle s in
     let Good : Bool → List Line → Type 0 = λ v ms. v ≡ good_lines start.b.assets start.b.assetcount ms start.lent in
     let moved : (v w : Bool) (ms ns : List Line) → v ≡ w → ms ≡ ns → Good w ns → Good v ms = λ v w ms ns p q g.
     p ∙ g ∙ ap (λ (x : List Line). good_lines start.b.assets start.b.assetcount x start.lent) (sym q) in
-    elim c.if-code-eq0.branch [
-      | then-code-eq0 w ↦
+    elim c.match-found.branch [
+      | in-Ok-found w ↦
+          let k = w.in-Ok-found.k in
           let x = w.if-k-lt64-2.x in
           let is_x = entry-is c w in
           let part = w.match-request-2.part in
-          let names = (planned d).names w.if-code-eq0.true part (part-is c w) in
+          let names = (planned d).names k w.in-Ok-found.is part (part-is c w) in
           let same-book : (w.if-k-lt64-3.book.switch ≡ n.switch) × (w.if-k-lt64-3.book.assetcount ≡ n.assetcount) =
           elim w.if-k-lt64-3.branch [
             | then-k-lt64-3 v ↦ (ap (λ (m : Book). m.switch) v.book-is, ap (λ (m : Book). m.assetcount) v.book-is)
@@ -459,46 +484,56 @@ lines-by c =
             | in-Stop-request v ↦ v.request-is
             | in-Cancel-request v ↦ v.request-is
           ] ∙ request-kept d in
-          let line = w.request_line-w.result in
-          let hw : line ≡ request_line e.request part.answer o n.switch (limits_at es k) start.b.assets n.assetcount =
-          w.request_line-w.ensures
-          ∙ ap₂ (λ (v m : ℕ). request_line w.match-request-2.request part.answer o v x.limits start.b.assets m) same-book.0 same-book.1
-          ∙ ap₂ (λ (y : Request) (u : Entry). request_line y part.answer o n.switch u.limits start.b.assets n.assetcount)
-          same-request is_x in
+          let slots = d.at_most_64-slots in
+          let used = take slots.result start.b.assets in
+          let size : length start.b.assets ≡ 64 = assets-64 (entered (turn (read (judged (taken s))))) in
+          let asked : request_in w.match-request-2.request part.answer o w.if-k-lt64-3.book.switch x.limits used
+          ≡ request_in e.request part.answer o n.switch (limits_at es k) used =
+          ap (λ (v : ℕ). request_in w.match-request-2.request part.answer o v x.limits used) same-book.0
+          ∙ ap₂ (λ (y : Request) (u : Entry). request_in y part.answer o n.switch u.limits used) same-request is_x in
+          let hw = λ (r : Option ℕ) (q : r ≡ request_in e.request part.answer o n.switch (limits_at es k) used).
+          slots-request start.b.assets start.b.assetcount slots.result n.assetcount size slots.ensures (assets-kept s).1 n.switch (limits_at es k)
+          e.request part.answer o r q in
           let ha : start.b.assets ≡ b.assets = sym l.invariant.6 in
-          let after : (w.if-w-lt64-2.report ≡ recorded_all b A (ended_by e.request e.time o part.answer)) × (Good w.if-w-lt64-2.good w.if-w-lt64-2.report) ×
-          (length w.if-w-lt64-2.report ≡ 64) =
-          elim w.if-w-lt64-2.branch [
-            | then-w-lt64-2 u ↦
-                let r : Line = u.raised_for-raised-then-w-lt64-2.result in
+          let after : (w.match-request_line.report ≡ recorded_all b A (ended_by e.request e.time o part.answer))
+          × (Good w.match-request_line.good w.match-request_line.report) × (length w.match-request_line.report ≡ 64) =
+          elim w.match-request_line.branch [
+            | in-Some-request_line u ↦
+                let line = u.in-Some-request_line.k in
+                let found = u.in-Some-request_line.ensures ∙ asked in
+                let small = slots-request-below start.b.assets start.b.assetcount slots.result n.assetcount size slots.ensures (assets-kept s).1
+                n.switch (limits_at es k) e.request part.answer o line found in
                 let sec = u.request_seconds-seconds.result in
                 let y : Line = raised (limits_at es k) sec (line_at A line) in
                 let hs : sec ≡ request_seconds e.request e.time o = u.request_seconds-seconds.ensures ∙ ap
                 (λ (q : Request). request_seconds q e.time o) same-request in
-                let hr : r ≡ y = u.raised_for-raised-then-w-lt64-2.ensures ∙ ap (λ (v : Entry). raised v.limits sec (line_at A line)) is_x in
-                let to : w.if-w-lt64-2.report ≡ set A line y = u.report-is ∙ ap (set A line) hr in (
-                  to ∙ acted-raised b n e.time z.0.is-settled A start.b.assets ha o part.answer e.request k names line hw sec hs
-                      u.if-w-lt64-2.true,
-                  moved w.if-w-lt64-2.good _ w.if-w-lt64-2.report (set A line y) (u.good-is ∙ u.good_after-good-then-w-lt64-2.ensures ∙ ap₂ good_after z.4 hr) to
+                let hr : raised x.limits sec (line_at A line) ≡ y = ap (λ (v : Entry). raised v.limits sec (line_at A line)) is_x in
+                let to : w.match-request_line.report ≡ set A line y = u.report-is ∙ u.raise-good-in-Some-request_line.ensures.report_after ∙ ap (set A line) hr in (
+                  to ∙ acted-raised b n e.time z.0.is-settled A start.b.assets ha o part.answer e.request k names line (hw (Some line) found) sec hs
+                      small,
+                  moved w.match-request_line.good _ w.match-request_line.report (set A line y)
+                      (u.good-is ∙ u.raise-good-in-Some-request_line.ensures.good_value ∙ ap₂ good_after z.4 hr) to
                       (good-raised start.b.assets start.b.assetcount A start.lent line (limits_at es k) sec
-                      (omega (arith, u.if-w-lt64-2.true, z.5)) u.if-w-lt64-2.true),
+                      (omega (arith, small, z.5)) small),
                   ap length to ∙ length-set A line y ∙ z.5,
                 )
-            | else-w-lt64-2 u ↦ (
-              u.report-is ∙ acted-kept b n e.time z.0.is-settled A start.b.assets ha o part.answer e.request k names line hw u.if-w-lt64-2.false,
-              moved w.if-w-lt64-2.good s.if-next-t.good w.if-w-lt64-2.report A u.good-is u.report-is z.4,
-              ap length u.report-is ∙ z.5,
-            )
+            | in_default-request_line u ↦
+                let found = u.in_default-request_line.ensures ∙ asked in (
+                  u.report-is ∙ acted-kept b n e.time z.0.is-settled A start.b.assets ha o part.answer e.request k names 64 (hw None found)
+                      (omega arith),
+                  moved w.match-request_line.good s.if-next-t.good w.match-request_line.report A u.good-is u.report-is z.4,
+                  ap length u.report-is ∙ z.5,
+                )
           ] in (
             w.report-is ∙ after.0 ∙ ap (λ (a : Answer). recorded_all b A (ended_by e.request e.time o a)) (sym w.answer-is),
-            moved c.if-code-eq0.good w.if-w-lt64-2.good c.if-code-eq0.report w.if-w-lt64-2.report w.good-is w.report-is after.1,
+            moved c.match-found.good w.match-request_line.good c.match-found.report w.match-request_line.report w.good-is w.report-is after.1,
             ap length w.report-is ∙ after.2,
           )
-      | else-code-eq0 w ↦
-          let off : eqb c.if-code-eq0.answer.code 0 ≡ false = ap (λ (a : Answer). eqb a.code 0) (w.answer-is ∙ c.refusal-answer.ensures)
-          ∙ ne_eqb d.match-request.code 0 w.if-code-eq0.false in (
-            w.report-is ∙ refused-kept b A e.time o c.if-code-eq0.answer e.request off,
-            moved c.if-code-eq0.good s.if-next-t.good c.if-code-eq0.report A w.good-is w.report-is z.4,
+      | in-Err-found w ↦
+          let off : eqb c.match-found.answer.code 0 ≡ false = ap (λ (a : Answer). eqb a.code 0) (w.answer-is ∙ w.refusal-answer.ensures)
+          ∙ ne_eqb _ 0 (never-granted w.in-Err-found.e) in (
+            w.report-is ∙ refused-kept b A e.time o c.match-found.answer e.request off,
+            moved c.match-found.good s.if-next-t.good c.match-found.report A w.good-is w.report-is z.4,
             ap length w.report-is ∙ z.5,
           )
     ]
@@ -506,11 +541,11 @@ lines-by c =
 -- the ends and the next expiry fit the player that is stored: a granted one's end is stored, a refused one keeps its use
 ends_by :
     (c : Acted) (q : Player) →
-    q.current ≡ c.if-code-eq0.current →
-    (c.if-code-eq0.ends
+    q.current ≡ c.match-found.current →
+    (c.match-found.ends
     ≡ map end_of_player (set (all_settled (chosen c)).if-next-t.book.players
     ((event-at (judged (taken (all_settled (chosen c))))).player % 16) q))
-    × (NextExpiry c.if-code-eq0.next (set (all_settled (chosen c)).if-next-t.book.players
+    × (NextExpiry c.match-found.next (set (all_settled (chosen c)).if-next-t.book.players
     ((event-at (judged (taken (all_settled (chosen c))))).player % 16) q))
 ends_by c q hq =
     let s = all_settled (chosen c) in
@@ -518,14 +553,14 @@ ends_by c q hq =
     let ps = s.if-next-t.book.players in
     let j = (event-at (judged (taken s))).player % 16 in
     let small : j < length ps = omega (arith, z.0.players) in
-    elim c.if-code-eq0.branch [
-      | then-code-eq0 w ↦
+    elim c.match-found.branch [
+      | in-Ok-found w ↦
           let end : w.end_of-end.result ≡ end_of q.current = w.end_of-end.ensures ∙ ap end_of (sym w.current-is) ∙ ap end_of (sym hq) in (
             w.ends-is ∙ ends_next ps s.if-next-t.ends z.2 j q w.end_of-end.result end,
-            subst (λ (v : ℕ). NextExpiry v (set ps j q)) (sym (w.next-is ∙ w.min_time-next-then-code-eq0.ensures ∙ ap (min s.if-next-t.next) end))
+            subst (λ (v : ℕ). NextExpiry v (set ps j q)) (sym (w.next-is ∙ w.min-next-in-Ok-found.ensures ∙ ap (min s.if-next-t.next) end))
                 (expiry-store s.if-next-t.next ps j q z.0.expiry small),
           )
-      | else-code-eq0 w ↦
+      | in-Err-found w ↦
           let same : q.current ≡ open_at ps j = hq ∙ w.current-is in (
             w.ends-is ∙ ends_same ps s.if-next-t.ends z.2 j q same,
             subst (λ (v : ℕ). NextExpiry v (set ps j q)) (sym w.next-is) (expiry-keep s.if-next-t.next ps j q z.0.expiry small same),
@@ -583,52 +618,55 @@ returns-then-out-count c =
 pub loop-i-init : goal.loop-i-init
 loop-i-init c =
     let start = c.before in
-    let a = start.args in (
+    let a = start.args in
+    let size : length a.b.assets ≡ 64 = assets-64 start.before.before.before.before.before.before.before.before.before.before.before.before.before.before in
+    let room : min a.b.assetcount 64 ≤ length a.b.assets = omega arith in (
       omega arith,
       progress-none a.b a.lines a.lent a.records.now a.out.now,
       expiry-start a.b.players,
-      entries-64 start.before.before.before.before.before.before.before.before.before.before.before.before,
-      players-16 start.before.before.before.before.before.before.before.before.before.before.before.before,
+      entries-64 start.before.before.before.before.before.before.before.before.before.before.before.before.before.before,
+      players-16 start.before.before.before.before.before.before.before.before.before.before.before.before.before.before,
       c.rows_of-rows.ensures,
       refl,
       refl,
       c.ends_of-ends.ensures,
-      c.good_lines-good.ensures,
-      lines-64 start.before.before.before.before.before.before.before.before.before.before.before.before,
+      c.good_lines-good.ensures
+          ∙ ap (λ (j : ℕ). good_lines (take j a.b.assets) (length (take j a.b.assets)) a.lines a.lent) c.at_most_64-slots.ensures
+          ∙ good-used a.b.assets a.b.assetcount a.lines a.lent room,
+      lines-64 start.before.before.before.before.before.before.before.before.before.before.before.before.before.before,
     )
 
-pub loop-i-preserved-in-Invalid : goal.loop-i-preserved-in-Invalid
-loop-i-preserved-in-Invalid c =
+pub loop-i-preserved-in-Err : goal.loop-i-preserved-in-Err
+loop-i-preserved-in-Err c =
     let r = c.before.before.before.before.before.before.before in
     let x = c.refusal in
     let p = c.put_line-at in
     let z = case-invalid (book-at (turn r)) (admitted-at (turn r)) (turn r).loop-i.report
-    c.in-Invalid.code
-    (sym (is-decoded r) ∙ c.in-Invalid.is) in
+    (event_code c.in-Err.e)
+    (sym (is-record r) ∙ c.in-Err.ensures) in
     kept-turn (turn r) x.result p.new.out p.result
     (z.0 ∙ ap (λ (a : Answer). record { answer = a; book = book-at (turn r) }) (sym x.ensures), z.1)
     p.ensures
 
-pub loop-i-preserved-in-Refuse : goal.loop-i-preserved-in-Refuse
-loop-i-preserved-in-Refuse c =
+pub loop-i-preserved-in-Err-gate_of : goal.loop-i-preserved-in-Err-gate_of
+loop-i-preserved-in-Err-gate_of c =
     let j = c.before.before.before.before.before.before.before in
-    let x = c.refusal-in-Refuse in
-    let p = c.put_line-at-in-Refuse in
+    let x = c.refusal-in-Err-gate_of in
+    let p = c.put_line-at-in-Err-gate_of in
     let b = book-at (turn (read j)) in
     let z = case-refused b (admitted-at (turn (read j))) (turn (read j)).loop-i.report (event-at j) (is-valid j) (is-few j)
-    j.gate_of.result c.in-Refuse.code j.gate_of.ensures
-    c.in-Refuse.is in
+    (Refuse (event_code c.in-Err-gate_of.e)) (event_code c.in-Err-gate_of.e) (sym c.in-Err-gate_of.ensures) refl in
     kept-turn (turn (read j)) x.result p.new.out p.result
     (z.0 ∙ ap (λ (a : Answer). record { answer = a; book = b }) (sym x.ensures), z.1)
     p.ensures
 
-pub loop-i-preserved-in-Resend : goal.loop-i-preserved-in-Resend
-loop-i-preserved-in-Resend c =
+pub loop-i-preserved-in-Ok-Resend : goal.loop-i-preserved-in-Ok-Resend
+loop-i-preserved-in-Ok-Resend c =
     let j = c.before.before.before.before.before.before.before in
-    let p = c.put_line-at-in-Resend in
+    let p = c.put_line-at-in-Ok-Resend in
     kept-turn (turn (read j)) _ p.new.out p.result
     (case-resent (book-at (turn (read j))) (admitted-at (turn (read j))) (turn (read j)).loop-i.report (event-at j) (is-valid j)
-    (is-few j) j.gate_of.result j.gate_of.ensures c.in-Resend.is)
+    (is-few j) Resend (sym (c.in-Ok-Resend.ensures ∙ ap passed c.in-Ok-Resend.field-0-is)) refl)
     p.ensures
 
 pub loop-p-init : goal.loop-p-init
@@ -662,6 +700,12 @@ loop-p-preserved c =
     let ht = (is-admitted start).early in
     let len : length es ≡ 64 = ap (λ (m : Book). length m.entries) l.invariant.1 ∙ settled-size t (take l.p b.players)
     b.entries ∙ g.invariant.3 in
+    let slots = c.at_most_64-slots in
+    let size : length given.b.assets ≡ 64 = assets-64 (entered (turn (read (judged start)))) in
+    let same-count : l.book.assetcount ≡ given.b.assetcount = ap (λ (m : Book). m.assetcount) l.invariant.1 ∙ g.invariant.7 in
+    let hw = λ (r : Option ℕ) (q : r ≡ line_in l.book.switch (limits_at es o.entry) (take slots.result given.b.assets) o.content).
+    slots-line given.b.assets given.b.assetcount slots.result l.book.assetcount size slots.ensures same-count l.book.switch
+    (limits_at es o.entry) o.content r q in
     let few : l.p < length b.players = omega (arith, g.invariant.4) in
     let here : l.p < length ps = omega (arith, l.invariant.5) in
     let due : leb (get_or l.ends l.p 0) t ≡ expired t o = reached ps l.ends l.invariant.4 t l.p ht here in
@@ -677,31 +721,32 @@ loop-p-preserved c =
           let inner : (w.if-k-lt64.book ≡ with l.book (released t l.p o es) ps) × (w.if-k-lt64.rows ≡ rows_for w.if-k-lt64.book) × (w.if-k-lt64.report ≡ onto) ×
           (Good w.if-k-lt64.good w.if-k-lt64.report) =
           elim w.if-k-lt64.branch [
-            | then-k-lt64+then-w-lt64 v ↦
+            | then-k-lt64+in-Some v ↦
                 let y : Entry = record { limits = limits_at es o.entry; meters = v.ended_meters-ended.result } in
-                let line = v.line_for-w.result in
-                let r : Line = v.raised_for-raised.result in
+                let line = v.in-Some.k in
+                let small = slots-line-below given.b.assets given.b.assetcount slots.result l.book.assetcount size slots.ensures same-count l.book.switch
+                (limits_at es o.entry) o.content line v.in-Some.ensures in
+                let hr = ap (λ (m : ℕ). raised (limits_at es o.entry) m (line_at l.report line)) v.saturating_sub-seconds.ensures in
                 let z : Line = raised (limits_at es o.entry) (o.until - o.begin) (line_at l.report line) in
-                let hr : r ≡ z = v.raised_for-raised.ensures ∙ ap (λ (m : ℕ). raised (limits_at es o.entry) m (line_at l.report line)) v.saturating_sub-seconds.ensures in
-                let to : w.if-k-lt64.report ≡ set l.report line z = v.report-is ∙ ap (set l.report line) hr in (
+                let to : w.if-k-lt64.report ≡ set l.report line z = v.report-is ∙ v.raise-good.ensures.report_after ∙ ap (set l.report line) hr in (
                   v.book-is ∙ ap put v.ended_meters-ended.ensures ∙ ap (λ (x : List Entry). with l.book x ps) (released-due t l.p o es d),
                   v.rows-is ∙ rows_next es l.rows o.entry y v.row_of-row.result l.invariant.3 v.row_of-row.ensures ∙ ap rows_for (sym v.book-is),
                   to ∙ lines-raised b g.report t l.p few l.book l.invariant.1 l.report l.invariant.6 given.b.assets (sym g.invariant.6) d
-                      line v.line_for-w.ensures (o.until - o.begin) refl v.if-w-lt64.true,
+                      line (hw (Some line) v.in-Some.ensures) (o.until - o.begin) refl small,
                   (
-                    v.good-is ∙ v.good_after-good.ensures ∙ ap₂ good_after l.invariant.7 hr
+                    v.good-is ∙ v.raise-good.ensures.good_value ∙ ap₂ good_after l.invariant.7 hr
                         ∙ good-raised given.b.assets b.assetcount l.report given.lent line (limits_at es o.entry) (o.until - o.begin)
-                        (omega (arith, v.if-w-lt64.true, l.invariant.8)) v.if-w-lt64.true
+                        (omega (arith, small, l.invariant.8)) small
                         ∙ ap (λ (ms : List Line). good_lines given.b.assets b.assetcount ms given.lent) (sym to),
                     ap length to ∙ length-set l.report line z ∙ l.invariant.8,
                   ),
                 )
-            | then-k-lt64+else-w-lt64 v ↦
+            | then-k-lt64+in_default v ↦
                 let y : Entry = record { limits = limits_at es o.entry; meters = v.ended_meters-ended.result } in (
                   v.book-is ∙ ap put v.ended_meters-ended.ensures ∙ ap (λ (x : List Entry). with l.book x ps) (released-due t l.p o es d),
                   v.rows-is ∙ rows_next es l.rows o.entry y v.row_of-row.result l.invariant.3 v.row_of-row.ensures ∙ ap rows_for (sym v.book-is),
                   v.report-is ∙ lines-kept b g.report t l.p few l.book l.invariant.1 l.report l.invariant.6 given.b.assets (sym g.invariant.6) d
-                      v.line_for-w.result v.line_for-w.ensures v.if-w-lt64.false,
+                      64 (hw None v.in_default.ensures) (omega arith),
                   (
                     v.good-is ∙ l.invariant.7 ∙ ap (λ (ms : List Line). good_lines given.b.assets b.assetcount ms given.lent) (sym v.report-is),
                     ap length v.report-is ∙ l.invariant.8,
@@ -740,7 +785,7 @@ loop-p-preserved c =
                 ∙ ap (with l.book (released t l.p o es)) (shut-not t l.p ps d),
             w.rows-is ∙ l.invariant.3 ∙ ap rows_for (sym w.book-is),
             w.ends-is ∙ l.invariant.4 ∙ ap ends_for (sym w.book-is),
-            w.next-is ∙ w.min_time-next.ensures ∙ ap (min l.next) (kept-end ps l.ends l.invariant.4 l.p here) ∙ end_on t l.p b l.book l.next
+            w.next-is ∙ w.min-next.ensures ∙ ap (min l.next) (kept-end ps l.ends l.invariant.4 l.p here) ∙ end_on t l.p b l.book l.next
                 l.invariant.1 few l.invariant.2 d,
             w.report-is ∙ lines-still b g.report t l.p few l.book l.invariant.1 l.report l.invariant.6 given.b.assets (sym g.invariant.6) d,
             (
@@ -761,21 +806,29 @@ loop-p-preserved c =
     )
 
 pub loop-e-init : goal.loop-e-init
-unfolding best_after choice_after choose_of any_of
+unfolding found_after choice_after choose_of any_of
 loop-e-init c =
     let n = c.if-next-t.book in
     let m = looked-most (is_on (open_at n.players ((event-at (judged
-    (taken c.before.before.before.before.before.before.before.before.before.before.before.before.before.before))).player % 16))) c.reach_at-reach.result.usable c.at_most_64.result in
-    (omega arith, omega (arith, m, c.looked_at-n.ensures, c.at_most_64.ensures, min-le_right n.entrycount 64), refl)
+    (taken c.before.before.before.before.before.before.before.before.before.before.before.before))).player % 16))) c.reach_at-reach.result.usable c.at_most_64.result in
+    (omega arith, omega (arith, m, c.looked_at-n.ensures, c.at_most_64.ensures, min-le_right n.entrycount 64), c.none-best.ensures)
+
+-- a line that is raised is one of the 64
+pub raise-good-requires : goal.raise-good-requires
+raise-good-requires c = few-line _ _ _ _ _ _ c.in-Some.k c.at_most_64-slots.ensures c.in-Some.ensures
+
+pub raise-good-requires-in-Some-request_line : goal.raise-good-requires-in-Some-request_line
+raise-good-requires-in-Some-request_line c =
+    few-request _ _ _ _ _ _ _ _ c.in-Some-request_line.k c.at_most_64-slots.ensures c.in-Some-request_line.ensures
 
 pub loop-e-preserved : goal.loop-e-preserved
 loop-e-preserved c =
     let l = c.loop-e in
-    let s = c.before.before.before.before.before.before.before.before.before.before.before.before.before.before.before.before.before.before in
+    let s = c.before.before.before.before.before.before.before.before.before.before.before.before.before.before.before.before in
     let es = s.if-next-t.book.entries in
     let ask = asks s.if-next-t.book (event-at (judged (taken s))) in
     let asset = c.in-Begin.asset in
-    let kind = c.kind_number-kind.result in
+    let kind = c.from-kind.result in
     let r = c.reach_at-reach.result in
     let z = after-settle s in
     let small : l.e < length es = omega (arith, z.0.entries) in
@@ -785,10 +838,10 @@ loop-e-preserved c =
       omega arith,
       l.invariant.1,
       c.consider_row-best.ensures
-          ∙ ap (λ (x : Row). row_considered asset r.parent kind ask l.e x l.best) row
-          ∙ row-considered asset r.parent kind ask l.e (limits_at es l.e) (meters_at es l.e) l.best early
-          ∙ ap (λ (x : Best). considered asset r.parent kind ask l.e (limits_at es l.e) (meters_at es l.e) x) l.invariant.2
-          ∙ sym (best-turn es asset r.parent kind ask l.e),
+          ∙ ap (λ (x : Row). row_taken asset r.parent kind ask l.e x l.best) row
+          ∙ row-taken asset r.parent kind ask l.e (limits_at es l.e) (meters_at es l.e) l.best early
+          ∙ ap (λ (x : code.Best). entry_taken asset r.parent kind ask l.e (limits_at es l.e) (meters_at es l.e) x) l.invariant.2
+          ∙ sym (found-turn es asset r.parent kind ask l.e),
     )
 
 pub loop-i-preserved : goal.loop-i-preserved
@@ -799,15 +852,15 @@ loop-i-preserved c =
     let r = turn (read (judged (taken s))) in
     let a = (entered r).args in
     let l = r.loop-i in
-    let p = c.put_line-at-in-Take in
+    let p = c.put_line-at-in-Ok-Take in
     let i = in-turn r in
     let e = event-at (judged (taken s)) in
     let j = e.player % 16 in
     let n = s.if-next-t.book in
     let ps = n.players in
-    let es = x.if-code-eq0.book.entries in
-    let answer = x.if-code-eq0.answer in
-    let current = x.if-code-eq0.current in
+    let es = x.match-found.book.entries in
+    let answer = x.match-found.answer in
+    let current = x.match-found.current in
     let z = after-settle s in
     let kept = assets-kept s in
     let started = (left_by x).0 in
@@ -816,16 +869,16 @@ loop-i-preserved c =
     let last : Last = answered_by first.result answer in
     let q : Player = record { last = last; current = current } in
     let store : Book → Book = λ m. with m m.entries (set m.players j q) in
-    let is-book : store x.if-code-eq0.book ≡ closing n es j e.time (latest_by e started) last current = ap store u.0 in
+    let is-book : store x.match-found.book ≡ closing n es j e.time (latest_by e started) last current = ap store u.0 in
     let v = lines-by x in
-    let f : arrive l.book (admitted-at r) ≡ record { answer = answer; book = store x.if-code-eq0.book } =
+    let f : arrive l.book (admitted-at r) ≡ record { answer = answer; book = store x.match-found.book } =
     case-taken l.book (admitted-at r) e n (record { answer = answer; entries = es; current = current; started = started }) j
     (latest_by e started) last (is-admitted (taken s)) z.0.is-settled u.2 (is-player (taken s)) refl
     (noted-answer e _ answer first.result first.ensures)
     ∙ ap (λ (m : Book). record { answer = answer; book = m }) (sym is-book) in
     let same-open : open-at (chosen x) ≡ open_at (map (shut e.time) l.book.players) e.player =
     ap (open_at ps) (is-player (taken s)) ∙ ap (λ (m : Book). open_at m.players e.player) z.0.is-settled in
-    let recorded : lines_read l.book (admitted-at r) l.report ≡ x.if-code-eq0.report =
+    let recorded : lines_read l.book (admitted-at r) l.report ≡ x.match-found.report =
     case-lines l.book (admitted-at r) e l.report answer (is-admitted (taken s)) (ap (λ (o : Outcome). o.answer) f)
     ∙ sym (v.0
     ∙ ap (λ (ms : List Line). recorded_all l.book ms (ended_by e.request e.time (open-at (chosen x)) answer)) z.3
@@ -834,9 +887,9 @@ loop-i-preserved c =
     let beside = ends_by x q refl in (
       i.0,
       progress-next a.b a.lines a.lent a.records.now a.out.now l.i l.book l.report l.out l.at l.invariant.1
-          i.1 answer (store x.if-code-eq0.book) x.if-code-eq0.report p.new.out p.result
-          (stepped r answer (store x.if-code-eq0.book) x.if-code-eq0.report f recorded) p.ensures,
-      subst (λ (m : Book). NextExpiry x.if-code-eq0.next m.players) (sym is-book) beside.1,
+          i.1 answer (store x.match-found.book) x.match-found.report p.new.out p.result
+          (stepped r answer (store x.match-found.book) x.match-found.report f recorded) p.ensures,
+      subst (λ (m : Book). NextExpiry x.match-found.next m.players) (sym is-book) beside.1,
       u.3,
       ap (λ (m : Book). length m.players) is-book ∙ length-set ps j q ∙ z.0.players,
       u.1 ∙ ap rows_for u.0 ∙ ap rows_for (sym is-book),

@@ -25,8 +25,7 @@ use Rattle.book.specs.declared.Kind.{Kind}
 use Rattle.book.specs.declared.Recent.{Recent}
 use Rattle.book.specs.declared.Request.{Request}
 use Rattle.book.specs.declared.Request.TheVariants.{Begin}
-use Rattle.book.specs.declared.Decoded.{Decoded}
-use Rattle.book.specs.declared.Decoded.TheVariants.{Valid}
+use Rattle.book.specs.Decoded.{Decoded, Valid}
 use Rattle.book.specs.declared.Player.{Player}
 use Rattle.book.specs.declared.Meters.{Meters}
 use Rattle.book.specs.declared.Open.{Open}
@@ -41,11 +40,12 @@ use Rattle.model.specs.Report.{line_at, raised, overdue, recorded_all, ended_by,
 use Rattle.model.specs.Meters.{is_on, released, shut, expired}
 use Rattle.model.specs.Run.{record_count, record_at}
 use Rattle.rules.specs.Rules.{wire_of}
-use Rattle.choice.specs.declared.Best.{Best}
+use Rattle.choice.specs.declared.Best as code
 use Rattle.choice.specs.declared.Row.{Row}
 use Rattle.rules.specs.Codes.{begin_code}
-use Rattle.choice.specs.Best.{best_after, choice_after, considered, best-turn}
-use Rattle.choice.specs.Row.{row_of, row_considered, row-considered, refreshed_row, row-refreshed}
+use Rattle.choice.specs.Best.{best_after, choice_after, found_after, entry_taken, found-turn, seen, seen-found, at_of}
+use Rattle.choice.specs.Choice.{found-at}
+use Rattle.choice.specs.Row.{row_of, row_taken, row-taken, refreshed_row, row-refreshed}
 use Rattle.index.specs.Ends.{end_of, end_of_player, never}
 use Rattle.index.specs.Rows.{row_of_entry, no_row, row_at}
 use Rattle.index.specs.Places.{reach_at}
@@ -89,19 +89,10 @@ abbrev pub invariant-loop-p : goal.invariant-loop-p
 invariant-loop-p l =
     (l.p ≤ 16) × (l.book ≡ settled_to l.t l.p l.initial.book) × (l.next ≡ least_end l.t l.initial.book.players l.p) × (l.rows ≡ rows_for l.book) × (l.ends ≡ ends_for l.book) ×
     (length l.book.players ≡ 16) × (l.report ≡ recorded_all l.initial.book l.initial.report (overdue l.t (take l.p l.initial.book.players))) ×
-    (l.good ≡ good_lines l.assets l.initial.book.assetcount l.report l.lent) × (length l.report ≡ 64)
-
-abbrev pub decreases-loop-p : goal.decreases-loop-p
-decreases-loop-p l = 16 - l.p
+    (l.good ≡ good_lines l.fn.b.assets l.initial.book.assetcount l.report l.lent) × (length l.report ≡ 64)
 
 abbrev pub invariant-loop-e : goal.invariant-loop-e
-invariant-loop-e l = (l.e ≤ l.n) × (l.n ≤ 64) × (l.best ≡ best_after l.book.entries l.asset l.reach.parent l.kind l.ask l.e)
-
-abbrev pub decreases-loop-e : goal.decreases-loop-e
-decreases-loop-e l = l.n - l.e
+invariant-loop-e l = (l.e ≤ l.n) × (l.n ≤ 64) × (l.best ≡ found_after l.book.entries l.asset l.reach.parent l.kind l.ask l.e)
 
 abbrev pub invariant-loop-i : goal.invariant-loop-i
 invariant-loop-i l = Going l.initial.book l.initial.report l.lent l.records l.initial.out l.count l.out l.book l.report l.rows l.ends l.good l.next l.at l.i
-
-abbrev pub decreases-loop-i : goal.decreases-loop-i
-decreases-loop-i l = l.count - l.i

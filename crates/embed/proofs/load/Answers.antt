@@ -1,19 +1,20 @@
--- `embed::load` meets its contract.
-use mathlib.Core.Path.{◌≡◌, sym, ap, ◌∙◌}
-use mathlib.Core.List.{List}
-use Prim.Native.Nat.{ℕ}
+-- `embed::load` meets its contract: the book that is read, or why the image is refused.
+use Rattle.std.proofs.Common.{rules, ◌≡◌, sym, ap, Err, ◌∙◌}
 use Rattle.book.specs.declared.Book.{Book}
-use Rattle.book.specs.Blank.{no_book}
 use Rattle.model.specs.Image.{read_book}
+use Rattle.embed.specs.declared.Failure.{Failure}
 use Rattle.embed.specs.Calls.{held_book}
+use Rattle.embed.proofs.SeenLeft.{refused-some}
 use Rattle.embed.proofs.load.Goals as goal
 
-from-blank : (s : List ℕ) {b x : Book} → b ≡ no_book → x ≡ read_book b s → x ≡ held_book s
+pub returns-in_err-read : goal.returns-in_err-read
+returns-in_err-read c =
+    let h = c.in_err-read.ensures.code in
+    let e : c.from_residual.result ≡ Err (Failure.Image c.in_err-read.field-0.0) = search rules in
+    rw e (sym h, λ z. refused-some _ (sym h ∙ z))
+
+pub returns : goal.returns
 unfolding held_book
-from-blank s p e = e ∙ ap (λ (y : Book). read_book y s) p
-
-pub returns-in-Ok : goal.returns-in-Ok
-returns-in-Ok c = (sym c.in-Ok.ensures.code, from-blank _ c.blank_book-held.ensures c.read.ensures.book_after)
-
-pub returns-in-Err : goal.returns-in-Err
-returns-in-Err c = (c.from-code.ensures ∙ sym c.in-Err.ensures.code, from-blank _ c.blank_book-held.ensures c.read.ensures.book_after)
+returns c =
+    let s = c.args.image.now in
+    (c.in_ok-read.ensures.code, c.in_ok-read.ensures.book_after ∙ ap (λ (x : Book). read_book x s) c.blank_book-held.ensures)

@@ -1,7 +1,6 @@
 -- `metering::raised_for` meets its contract.
 use mathlib.Core.Path.{◌∙◌}
 use Rattle.report.specs.Report.{raised_is}
-use borrow.Author.Rules.{rules}
 use Rattle.metering.proofs.raised_for.Goals as goal
 
 pub returns : goal.returns

@@ -1,50 +1,46 @@
-use mathlib.Core.Path.{◌≡◌, sym, ap, ◌∙◌}
-use mathlib.Core.Logic.{⊎_elim}
-use mathlib.Core.List.{List}
-use Prim.Native.Nat.{ℕ, ◌-◌, ◌≤◌, ◌<◌}
-use native.Mathlib.Omega.{arith}
-use lib.ListN.{length, set, take}
-use lib.Seq.{take_all}
-use Rattle.numbers.proofs.Loops.{length-mapped}
-use Rattle.book.specs.declared.Line.{Line}
-use Rattle.book.specs.declared.Player.{Player}
-use Rattle.model.specs.Report.{recorded_all, overdue}
-use Rattle.metering.specs.Recording.{due-none, turn-raised, turn-kept}
-use borrow.Author.Rules.{rules}
+use Rattle.std.proofs.Common.{◌≡◌, ◌<◌, ◌≤◌, ℕ, Option, sym, ap, ◌∙◌, min, length, ◌-◌, refl, arith, rules}
+use Rattle.std.specs.Option.{unwrap_or}
+use Rattle.model.specs.Report.{line_at, raised}
+use Rattle.model.specs.Step.{open_at}
+use Rattle.report.specs.Report.{raised_is}
+use Rattle.metering.specs.Recording.{due-as, due-below, due-none, turn-raised, turn-kept}
 use Rattle.metering.proofs.record_due.Goals as goal
-use Rattle.metering.proofs.record_due.Goals.{then-k-lt64, else-k-lt64}
-use Rattle.metering.proofs.record_due.Goals.{Start}
+use Rattle.metering.proofs.record_due.Goals.{in-Some, in_default}
 
 pub loop-i-init : goal.loop-i-init
-loop-i-init c = (omega arith, due-none _ _ _)
+loop-i-init c = due-none _ _ _
 
-players-16 : (c : Start) → length c.args.b.players ≡ 16
-players-16 c = search length-mapped
+pub raise_line-requires : goal.raise_line-requires
+raise_line-requires c =
+    let a = c.args in
+    let size : length a.b.assets ≡ 64 = search rules in
+    let room : min a.b.assetcount 64 ≤ length a.b.assets = omega arith in
+    due-below a.b _ c.at_most_64.ensures room c.entry_at.result.limits a.t (open_at a.b.players c.loop-i.i) c.in-Some.k c.in-Some.ensures
 
 pub loop-i-preserved : goal.loop-i-preserved
 loop-i-preserved c =
     let a = c.args in
     let l = c.loop-i in
-    let there : l.i < length a.b.players = omega (
-      arith,
-      players-16
-          c.before.before.before.before.before.before.before.before.before.before.before.before.before,
-      c.loop-i-test.true,
-    ) in (
-      omega arith,
-      elim c.if-k-lt64.branch [
-        | then-k-lt64 w ↦ w.after-is ∙ turn-raised a.b a.lines a.t l.i there l.after l.invariant.1 _ _ _
-            c.entry_at-x.ensures
-            c.due_line-k.ensures c.saturating_sub-seconds.ensures _ w.if-k-lt64.true w.raise_one-z.ensures
-        | else-k-lt64 w ↦ w.after-is ∙ turn-kept a.b a.lines a.t l.i there l.after l.invariant.1 _ _ _
-            c.entry_at-x.ensures
-            c.due_line-k.ensures c.saturating_sub-seconds.ensures w.if-k-lt64.false
-      ],
-    )
-
-pub returns : goal.returns
-returns c =
-    let a = c.args in
-    let l = c.loop-i in
-    l.invariant.1 ∙ ap (λ (ps : List Player). recorded_all a.b a.lines (overdue a.t ps))
-    (take_all l.i a.b.players (omega (arith, players-16 c.before.before.before.before.before, c.loop-i-test.false)))
+    let size : length a.b.assets ≡ 64 = search rules in
+    let room : min a.b.assetcount 64 ≤ length a.b.assets = omega arith in
+    let people : length a.b.players ≡ 16 = search rules in
+    let there : l.i < length a.b.players = omega (arith, c.loop-i-test.true) in
+    let u = open_at a.b.players l.i in
+    let e = c.entry_at.result in
+    let n = c.at_most_64 in
+    let due-is = due-as a.b n.result n.ensures room e.limits a.t u in
+    elim c.match-due_line.branch [
+      | in-Some w ↦
+          let k = w.in-Some.k in
+          let s = w.saturating_sub-seconds.result in
+          let y = line_at l.after k in
+          let here = ap (λ (r : Option ℕ). unwrap_or r 64) w.in-Some.ensures ∙ due-is in
+          w.after-is ∙ w.raise_line.ensures
+          ∙ turn-raised a.b a.lines a.t l.i there l.after l.invariant e k s c.entry_at.ensures here w.saturating_sub-seconds.ensures
+          (raised e.limits s y)
+          (due-below a.b n.result n.ensures room e.limits a.t u k w.in-Some.ensures)
+          (sym (raised_is e.limits s y))
+      | in_default w ↦
+          let out = ap (λ (r : Option ℕ). unwrap_or r 64) w.in_default.ensures ∙ due-is in
+          w.after-is ∙ turn-kept a.b a.lines a.t l.i there l.after l.invariant e 64 (u.until - u.begin) c.entry_at.ensures out refl (omega arith)
+    ]

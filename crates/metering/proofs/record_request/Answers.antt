@@ -1,11 +1,8 @@
 -- `metering::record_request` meets its contract: a return for each request, granted or not.
-use mathlib.Core.Path.{◌≡◌, refl, sym, ap, ◌∙◌}
-use mathlib.Core.Bool.{◌&&◌}
-use lib.Dec.{eqb}
+use mathlib.Core.Path.{◌∙◌}
 use borrow.Author.Tests.{eq-eqb, ne_eqb}
 use Rattle.model.specs.Report.{ended_by}
 use Rattle.metering.specs.Recording.{all_one, all_none}
-use borrow.Author.Rules.{rules}
 use Rattle.metering.proofs.record_request.Goals as goal
 
 pub returns-then-a-momentary : goal.returns-then-a-momentary
@@ -14,7 +11,7 @@ returns-then-a-momentary c =
     let a = c.args in
     rw (
       c.in-Begin.is,
-      ← c.kind_number.ensures,
+      ← c.from.ensures,
       ← c.momentary.ensures,
       c.if-a-momentary.true,
     )
@@ -26,7 +23,7 @@ returns-else-a-momentary c =
     let a = c.args in
     rw (
       c.in-Begin.is,
-      ← c.kind_number.ensures,
+      ← c.from.ensures,
       ← c.momentary.ensures,
       c.if-a-momentary.false,
     ) (all_none a.b a.lines)

@@ -24,10 +24,8 @@ use Rattle.book.specs.declared.Outcome.{Outcome}
 use Rattle.book.specs.declared.Recent.{Recent}
 use Rattle.book.specs.declared.Request.{Request}
 use Rattle.book.specs.declared.Request.TheVariants.{Begin, Continue, Stop, Cancel}
-use Rattle.book.specs.declared.Decoded.{Decoded}
-use Rattle.book.specs.declared.Decoded.TheVariants.{Invalid, Valid}
-use Rattle.book.specs.declared.Gate.{Gate}
-use Rattle.book.specs.declared.Gate.TheVariants.{Refuse, Resend, Take}
+use Rattle.book.specs.Decoded.{Decoded, Invalid, Valid}
+use Rattle.book.specs.Gate.{Gate, Refuse, Resend, Take}
 use Rattle.book.specs.Blank.{no_entry, no_player, no_book, closed}
 use Rattle.model.specs.Book.{limits_at, meters_at, player_at, latest_time, momentary, between, assets_legal, entries_legal, request_legal}
 use Rattle.model.specs.Book.{taken_code, answer_legal, switch_legal, players_legal, latest_passes, meters_legal, rule_broken, Legal}

@@ -11,8 +11,7 @@ use Rattle.book.specs.declared.Book.{Book}
 use Rattle.book.specs.declared.Event.{Event}
 use Rattle.book.specs.declared.Kind.TheVariants.{Play}
 use Rattle.book.specs.declared.Request.TheVariants.{Begin, Stop, Cancel}
-use Rattle.book.specs.declared.Decoded.{Decoded}
-use Rattle.book.specs.declared.Decoded.TheVariants.{Valid}
+use Rattle.book.specs.Decoded.{Decoded, Valid}
 use Rattle.book.specs.Blank.{no_meters}
 use Rattle.model.specs.Book.{meters_at, Legal}
 use Rattle.model.specs.Meters.{cancelled, begun as begins}

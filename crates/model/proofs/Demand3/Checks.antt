@@ -10,7 +10,7 @@ use Rattle.numbers.proofs.Tests.{otherwise, otherwise-at}
 use Rattle.book.specs.declared.Answer.{Answer}
 use Rattle.book.specs.declared.Last.{Last}
 use Rattle.book.specs.declared.Event.{Event}
-use Rattle.book.specs.declared.Gate.TheVariants.{Refuse, Resend, Take}
+use Rattle.book.specs.Gate.{Refuse, Resend, Take}
 use Rattle.model.specs.Book.{latest_time}
 use Rattle.model.specs.Gate.{same_request, same_number, largest_number, boot_of, counter_of, in_line, timely, gate}
 use Rattle.model.specs.Step.{refusal, last_at, step_by, step}

@@ -18,8 +18,7 @@ use Rattle.book.specs.declared.Event.{Event}
 use Rattle.book.specs.declared.Recent.{Recent}
 use Rattle.book.specs.declared.Request.{Request}
 use Rattle.book.specs.declared.Request.TheVariants.{Continue, Stop}
-use Rattle.book.specs.declared.Gate.{Gate}
-use Rattle.book.specs.declared.Gate.TheVariants.{Refuse, Resend, Take}
+use Rattle.book.specs.Gate.{Gate, Refuse, Resend, Take}
 use Rattle.book.specs.Blank.{closed}
 use Rattle.model.specs.Book.{limits_at, meters_at}
 use Rattle.model.specs.Choice.{asks, catalog_of, more_until}

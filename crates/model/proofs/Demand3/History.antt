@@ -27,10 +27,8 @@ use Rattle.book.specs.declared.Player.{Player}
 use Rattle.book.specs.declared.Line.{Line}
 use Rattle.book.specs.declared.Book.{Book}
 use Rattle.book.specs.declared.Event.{Event}
-use Rattle.book.specs.declared.Decoded.{Decoded}
-use Rattle.book.specs.declared.Decoded.TheVariants.{Invalid, Valid}
-use Rattle.book.specs.declared.Gate.{Gate}
-use Rattle.book.specs.declared.Gate.TheVariants.{Refuse, Resend, Take}
+use Rattle.book.specs.Decoded.{Decoded, Invalid, Valid}
+use Rattle.book.specs.Gate.{Gate, Refuse, Resend, Take}
 use Rattle.book.specs.Blank.{no_limits, no_meters, no_entry}
 use Rattle.model.specs.Book.{limits_at, meters_at, flagged, Fresh}
 use Rattle.model.specs.Choice.{asks, Catalog, catalog_of}

@@ -21,7 +21,7 @@ use Rattle.book.specs.declared.Ask.{Ask}
 use Rattle.book.specs.declared.Grounds.{Grounds}
 use Rattle.book.specs.declared.Kind.{Kind}
 use Rattle.book.specs.declared.Request.TheVariants.{Begin}
-use Rattle.book.specs.declared.Decoded.{Decoded}
+use Rattle.book.specs.Decoded.{Decoded}
 use Rattle.model.specs.Report.{Arrival}
 use Rattle.model.specs.Book.{limits_at, entries_in, latest_time, flagged, Legal, Fresh}
 use Rattle.model.specs.Record.{kind_number}

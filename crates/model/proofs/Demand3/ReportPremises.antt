@@ -13,8 +13,7 @@ use Rattle.book.specs.declared.Book.{Book}
 use Rattle.book.specs.declared.Event.{Event}
 use Rattle.book.specs.declared.Kind.TheVariants.{Play}
 use Rattle.book.specs.declared.Request.TheVariants.{Begin, Stop}
-use Rattle.book.specs.declared.Decoded.{Decoded}
-use Rattle.book.specs.declared.Decoded.TheVariants.{Valid}
+use Rattle.book.specs.Decoded.{Decoded, Valid}
 use Rattle.book.specs.Blank.{no_asset, no_meters, no_entry, no_player}
 use Rattle.model.specs.Book.{asset_at, meters_at, assets_in, entries_in, flagged, rule_broken, Legal, Fresh}
 use Rattle.model.specs.Step.{refusal, step}

@@ -12,7 +12,7 @@ use Rattle.book.specs.declared.Limits.{Limits}
 use Rattle.book.specs.declared.Entry.{Entry}
 use Rattle.book.specs.declared.Line.{Line}
 use Rattle.book.specs.declared.Book.{Book}
-use Rattle.book.specs.declared.Decoded.{Decoded}
+use Rattle.book.specs.Decoded.{Decoded}
 use Rattle.book.specs.Blank.{no_line}
 use Rattle.model.specs.Book.{limits_at, assets_in, Legal}
 use Rattle.model.specs.Report.{line_at, line_bound}

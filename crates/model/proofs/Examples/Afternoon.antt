@@ -12,8 +12,7 @@ use Rattle.book.specs.declared.Asset.{Asset}
 use Rattle.book.specs.declared.Kind.TheVariants.{Play, Display, Print}
 use Rattle.book.specs.declared.Request.{Request}
 use Rattle.book.specs.declared.Request.TheVariants.{Begin, Continue, Stop}
-use Rattle.book.specs.declared.Decoded.{Decoded}
-use Rattle.book.specs.declared.Decoded.TheVariants.{Valid}
+use Rattle.book.specs.Decoded.{Decoded, Valid}
 use Rattle.book.specs.Blank.{no_asset, no_meters, no_entry, no_player, no_latest}
 use Rattle.model.specs.Step.{refusal}
 use Rattle.model.specs.History.{answers, handed}

@@ -12,8 +12,7 @@ use Rattle.book.specs.declared.Player.{Player}
 use Rattle.book.specs.declared.Book.{Book}
 use Rattle.book.specs.declared.Kind.TheVariants.{Play, Display, Print}
 use Rattle.book.specs.declared.Request.TheVariants.{Begin, Continue, Stop, Cancel}
-use Rattle.book.specs.declared.Decoded.{Decoded}
-use Rattle.book.specs.declared.Decoded.TheVariants.{Invalid}
+use Rattle.book.specs.Decoded.{Decoded, Invalid}
 use Rattle.book.specs.Blank.{no_meters, no_player, no_latest, closed}
 use Rattle.model.specs.Book.{meters_at, player_at}
 use Rattle.model.specs.Step.{refusal}

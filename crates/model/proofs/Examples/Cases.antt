@@ -11,10 +11,8 @@ use Rattle.book.specs.declared.Last.{Last}
 use Rattle.book.specs.declared.Kind.TheVariants.{Play, Display, Execute, Print, Export}
 use Rattle.book.specs.declared.Request.{Request}
 use Rattle.book.specs.declared.Request.TheVariants.{Begin, Continue, Stop, Cancel}
-use Rattle.book.specs.declared.Decoded.{Decoded}
-use Rattle.book.specs.declared.Decoded.TheVariants.{Invalid, Valid}
-use Rattle.book.specs.declared.Gate.{Gate}
-use Rattle.book.specs.declared.Gate.TheVariants.{Refuse, Resend, Take}
+use Rattle.book.specs.Decoded.{Decoded, Invalid, Valid}
+use Rattle.book.specs.Gate.{Gate, Refuse, Resend, Take}
 use Rattle.book.specs.Blank.{no_answer, no_player, no_latest}
 use Rattle.model.specs.Book.{request_legal}
 use Rattle.model.specs.Record.{kind_of, request_of, event_in, decoded}

@@ -7,7 +7,7 @@ use mathlib.Core.List.{List, [], ◌∷◌}
 use lib.ListN.{replicate}
 use Rattle.book.specs.declared.Book.{Book}
 use Rattle.book.specs.declared.Entry.{Entry}
-use Rattle.book.specs.declared.Decoded.{Decoded}
+use Rattle.book.specs.Decoded.{Decoded}
 use Rattle.book.specs.declared.Kind.TheVariants.{Play, Print}
 use Rattle.book.specs.declared.Request.TheVariants.{Begin}
 use Rattle.book.specs.Blank.{no_player, no_latest}

@@ -11,8 +11,7 @@ use Rattle.book.specs.declared.Entry.{Entry}
 use Rattle.book.specs.declared.Line.{Line}
 use Rattle.book.specs.declared.Kind.TheVariants.{Play, Display, Execute, Print, Export}
 use Rattle.book.specs.declared.Request.TheVariants.{Begin, Continue, Stop}
-use Rattle.book.specs.declared.Decoded.{Decoded}
-use Rattle.book.specs.declared.Decoded.TheVariants.{Invalid}
+use Rattle.book.specs.Decoded.{Decoded, Invalid}
 use Rattle.book.specs.Blank.{no_meters, no_player, no_latest}
 use Rattle.model.specs.Step.{refusal}
 use Rattle.model.specs.Report.{line_bound, good, Arrival, receive, lines_left}

@@ -10,7 +10,7 @@ use Rattle.book.specs.declared.Book.{Book}
 use Rattle.book.specs.declared.Limits.{Limits}
 use Rattle.book.specs.declared.Entry.{Entry}
 use Rattle.book.specs.declared.Player.{Player}
-use Rattle.book.specs.declared.Decoded.{Decoded}
+use Rattle.book.specs.Decoded.{Decoded}
 use Rattle.book.specs.declared.Kind.TheVariants.{Play, Print, Export}
 use Rattle.book.specs.declared.Request.TheVariants.{Begin, Continue, Stop}
 use Rattle.book.specs.Blank.{no_player, no_latest}

@@ -7,10 +7,8 @@ use lib.ListN.{length}
 use native.Mathlib.Omega.{arith}
 use Rattle.book.specs.declared.Book.{Book}
 use Rattle.book.specs.declared.Event.{Event}
-use Rattle.book.specs.declared.Decoded.{Decoded}
-use Rattle.book.specs.declared.Decoded.TheVariants.{Invalid, Valid}
-use Rattle.book.specs.declared.Gate.{Gate}
-use Rattle.book.specs.declared.Gate.TheVariants.{Refuse, Resend, Take}
+use Rattle.book.specs.Decoded.{Decoded, Invalid, Valid}
+use Rattle.book.specs.Gate.{Gate, Refuse, Resend, Take}
 use Rattle.model.specs.Gate.{gate}
 use Rattle.model.specs.Step.{refusal, last_at, taken_step, step_by, step, arrive}
 use Rattle.model.specs.Report.{Arrival, good, admitted, receive}

@@ -18,12 +18,10 @@ use Rattle.book.specs.declared.Book.{Book}
 use Rattle.book.specs.declared.Event.{Event}
 use Rattle.book.specs.declared.Request.{Request}
 use Rattle.book.specs.declared.Request.TheVariants.{Begin, Continue, Stop, Cancel}
-use Rattle.book.specs.declared.Decoded.{Decoded}
-use Rattle.book.specs.declared.Decoded.TheVariants.{Invalid, Valid}
+use Rattle.book.specs.Decoded.{Decoded, Invalid, Valid}
 use Rattle.book.specs.declared.Ask.{Ask}
 use Rattle.book.specs.declared.Recent.{Recent}
-use Rattle.book.specs.declared.Gate.{Gate}
-use Rattle.book.specs.declared.Gate.TheVariants.{Refuse, Resend, Take}
+use Rattle.book.specs.Gate.{Gate, Refuse, Resend, Take}
 use Rattle.book.specs.Blank.{no_limits}
 use Rattle.model.specs.Book.{asset_at, limits_at, assets_in, entries_in, latest_time, asset_position, in_book, between, flagged, momentary}
 use Rattle.model.specs.Book.{limit, asset_legal, assets_legal, ranges_legal, limits_legal, entries_legal, rule_broken, Legal}

@@ -27,10 +27,8 @@ use Rattle.book.specs.declared.Event.{Event}
 use Rattle.book.specs.declared.Kind.TheVariants.{Play, Display, Execute, Print, Export}
 use Rattle.book.specs.declared.Request.{Request}
 use Rattle.book.specs.declared.Request.TheVariants.{Begin, Continue, Stop, Cancel}
-use Rattle.book.specs.declared.Decoded.{Decoded}
-use Rattle.book.specs.declared.Decoded.TheVariants.{Invalid, Valid}
-use Rattle.book.specs.declared.Gate.{Gate}
-use Rattle.book.specs.declared.Gate.TheVariants.{Refuse, Resend, Take}
+use Rattle.book.specs.Decoded.{Decoded, Invalid, Valid}
+use Rattle.book.specs.Gate.{Gate, Refuse, Resend, Take}
 use Rattle.book.specs.Blank.{no_entry, no_player, closed}
 use Rattle.book.specs.Changed.{changed}
 use Rattle.model.specs.Book.{limits_at, meters_at, player_at, assets_in, entries_in, latest_time, in_book, between, asset_legal, assets_legal}

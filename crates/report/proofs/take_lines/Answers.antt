@@ -1,28 +1,13 @@
-use Rattle.std.proofs.Common.{◌≡◌, ℕ, ◌+◌, ◌<◌, min, List, length, replicate, refl, ap, ◌∙◌, arith, rules, add-one}
-use lib.ListN.{set, get_or, length-replicate}
-use Rattle.book.specs.declared.Line.{Line}
+use Rattle.std.proofs.Common.{length, replicate, arith, min}
+use Rattle.std.proofs.lemmas.List.{length-replicate}
 use Rattle.book.specs.Blank.{no_line}
-use Rattle.report.specs.Report.{copied, copied_next, taken_lines}
+use Rattle.report.specs.Report.{copied-parts, taken_lines}
 use Rattle.report.proofs.take_lines.Goals as goal
-
-pub loop-i-init : goal.loop-i-init
-unfolding copied
-loop-i-init c = (omega arith, refl)
-
-pub loop-i-preserved : goal.loop-i-preserved
-loop-i-preserved c =
-    let l = c.loop-i in
-    let src = c.args.report.now in
-    let dst = replicate 64 no_line in
-    let a : l.i < length src = omega (arith, c.lesser-n.ensures) in
-    let b : l.i < length dst = omega (arith, c.lesser-n.ensures, length-replicate 64 no_line) in (
-      omega arith,
-      rw add-one (ap (λ (xs : List Line). set xs l.i (get_or src l.i no_line)) l.invariant.1 ∙ copied_next l.i src dst no_line a b),
-    )
 
 pub returns : goal.returns
 unfolding taken_lines
 returns c =
-    let l = c.loop-i in
-    let e : l.i ≡ min (length c.args.report.now) 64 = omega (arith, c.lesser-n.ensures) in
-    l.invariant.1 ∙ ap (λ (k : ℕ). copied k c.args.report.now (replicate 64 no_line)) e
+    let src = c.args.report.now in
+    let n = min (length src) 64 in
+    rw (c.copy_from_slice.ensures.after, c.min-n.ensures, c.blank_line-lines.ensures)
+    (copied-parts n src (replicate 64 no_line) (omega arith) (omega (arith, length-replicate 64 no_line)))

@@ -26,7 +26,7 @@ overflow_add-marks c =
     let t = mask_fits (opened a.i a.players) l.p in
     let w = weight-most l.p (omega arith) in
     let r = cond-most c.opens_entry-w.result l.weight in
-    omega (arith, t, w, r, c.pick32-marks.ensures, l.invariant.1, l.invariant.2)
+    omega (arith, t, w, r, c.pick-marks.ensures, l.invariant.1, l.invariant.2)
 
 pub overflow_mul-weight : goal.overflow_mul-weight
 overflow_mul-weight c =
@@ -46,7 +46,7 @@ pub loop-p-preserved : goal.loop-p-preserved
 loop-p-preserved c =
     let a = c.args in
     let l = c.loop-p in
-    let more = c.pick32-marks.ensures ∙ ap₂ (λ (b : Bool) (k : ℕ). cond b k 0) c.opens_entry-w.ensures l.invariant.1 in (
+    let more = c.pick-marks.ensures ∙ ap₂ (λ (b : Bool) (k : ℕ). cond b k 0) c.opens_entry-w.ensures l.invariant.1 in (
       omega arith,
       ap (λ (k : ℕ). k * 2) l.invariant.1 ∙ doubled l.p,
       ap₂ ◌+◌ l.invariant.2 more ∙ sym (turn (opened a.i a.players) l.p),

@@ -20,6 +20,3 @@ opened i ps k = opens i (player_at ps k).current
 
 abbrev pub invariant-loop-p : goal.invariant-loop-p
 invariant-loop-p l = (l.p ≤ 16) × (l.weight ≡ 2 ^ l.p) × (l.marks ≡ mask_of (opened l.i l.players) l.p)
-
-abbrev pub decreases-loop-p : goal.decreases-loop-p
-decreases-loop-p l = 16 - l.p

@@ -1,99 +1,115 @@
--- `step::begin` meets its contract: one return for the code that refuses it, and one for the grant.
-use Prim.Native.Nat.{ℕ, min, ◌%◌, ◌≤◌}
-use mathlib.Core.Path.{◌≡◌, sym, ap, ◌∙◌}
-use lib.ListN.{length}
-use native.Mathlib.Omega.{arith}
+-- `step::begin` meets its contract: a refusal, or the grant of the entry that the choice found.
+use Rattle.std.proofs.Common.{◌≡◌, ◌≤◌, ◌%◌, ℕ, min, length, take, Err, ap, sym, ◌∙◌, rules, arith}
 use Rattle.book.specs.declared.Ask.{Ask}
 use Rattle.book.specs.declared.Book.{Book}
 use Rattle.book.specs.declared.Entry.{Entry}
 use Rattle.model.specs.Book.{entries_in}
 use Rattle.model.specs.Choice.{catalog_of, usable, parent_of, suits, any_of, fails_for_switch}
-use Rattle.uses.specs.Uses.{placed, begin_on}
+use Rattle.uses.specs.Uses.{begin_on}
 use Rattle.choice.specs.declared.Reach.{Reach}
-use Rattle.choice.specs.Reach.{reach_in, table_of, reach-in-book}
-use Rattle.choice.specs.declared.Best.{Best}
-use Rattle.choice.specs.Best.{best_after}
-use Rattle.choice.specs.Choice.{best-suits, best-switched}
-use Rattle.step.specs.declared.Act.{Act}
-use Rattle.numbers.proofs.Loops.{length-mapped}
-use Rattle.step.specs.Step.{refused-placed, begin-refused, begin-placed-at}
-use borrow.Author.Rules.{rules}
+use Rattle.choice.specs.Reach.{reach_in, catalog_from, table_of, reach-in-book, reach-used}
+use Rattle.choice.specs.declared.Best as code
+use Rattle.choice.specs.Best.{Best, best_after, found_after, at_of, seen, seen-found}
+use Rattle.choice.specs.Choice.{best-suits, best-switched, found-slots, found-at}
+use Rattle.step.specs.Step.{found_at, begin-refused, begin-granted}
 use Rattle.step.proofs.begin.Goals as goal
-use Rattle.step.proofs.begin.Goals.{After-begin_code-code, Start}
-
-entries-64 : (c : Start) → length c.args.b.entries ≡ 64
-entries-64 c = search length-mapped
 
 count-64 : (b : Book) → (catalog_of b).entry_count ≤ 64
 unfolding catalog_of entries_in
 count-64 b = omega arith
 
+-- the used slots
+module _ (b : Book) (asset kind n m : ℕ) (ask : Ask) (r : Reach) (found : code.Best)
+    (ha : length b.assets ≡ 64) (he : length b.entries ≡ 64)
+    (hn : n ≡ min b.assetcount 64) (hm : m ≡ min b.entrycount 64)
+    (hr : r ≡ reach_in (catalog_from (take n b.assets)) asset)
+    (hx : found ≡ found_after (take m b.entries) asset r.parent kind ask (length (take m b.entries))) where
+  reached : r ≡ reach_in (table_of b.assets b.assetcount) asset
+  reached =
+      hr ∙ ap (λ (k : ℕ). reach_in (catalog_from (take k b.assets)) asset) hn ∙ reach-used b.assets b.assetcount asset (omega arith)
+
+  whole : found ≡ found_after b.entries asset r.parent kind ask (min b.entrycount 64)
+  whole =
+      hx
+      ∙ ap (λ (k : ℕ). found_after (take k b.entries) asset r.parent kind ask (length (take k b.entries))) hm
+      ∙ found-slots b.entries asset r.parent kind ask (min b.entrycount 64) (omega arith)
+
+  seen-whole : seen found ≡ best_after b.entries asset r.parent kind ask (min b.entrycount 64)
+  seen-whole = ap seen whole ∙ seen-found b.entries asset r.parent kind ask (min b.entrycount 64)
+
+  at-seen : at_of found.granted ≡ found_at (seen found)
+  at-seen =
+      ap (λ (x : code.Best). at_of x.granted) whole
+      ∙ found-at b.entries asset r.parent kind ask (min b.entrycount 64) (omega arith)
+      ∙ ap found_at (sym seen-whole)
+
 -- what the two searches found, in terms of the book's catalogue
-usable-is : (b : Book) (asset : ℕ) (r : Reach) → r ≡ reach_in (table_of b.assets b.assetcount) asset → r.usable ≡ usable
-    (catalog_of b) asset
-unfolding reach_in
-usable-is b asset r e = ap (λ (x : Reach). x.usable) (e ∙ reach-in-book b asset)
+module _ (b : Book) (asset kind : ℕ) (ask : Ask) (r : Reach) (x : Best)
+    (hr : r ≡ reach_in (table_of b.assets b.assetcount) asset)
+    (hx : x ≡ best_after b.entries asset r.parent kind ask (min b.entrycount 64)) where
+  usable-is : r.usable ≡ usable (catalog_of b) asset
+  unfolding reach_in
+  usable-is = ap (λ (y : Reach). y.usable) (hr ∙ reach-in-book b asset)
 
-best-is : (b : Book) (asset kind : ℕ) (ask : Ask) (r : Reach) → r ≡ reach_in (table_of b.assets b.assetcount) asset
-    → (x : Best) → x ≡ best_after b.entries asset r.parent kind ask (min b.entrycount 64)
-    → x ≡ best_after b.entries asset (parent_of (catalog_of b) asset) kind ask (catalog_of b).entry_count
-unfolding reach_in catalog_of entries_in
-best-is b asset kind ask r e x f =
-    f ∙ ap (λ (y : Reach). best_after b.entries asset y.parent kind ask (min b.entrycount 64)) (e ∙ reach-in-book b asset)
+  best-is : x ≡ best_after b.entries asset (parent_of (catalog_of b) asset) kind ask (catalog_of b).entry_count
+  unfolding reach_in catalog_of entries_in
+  best-is =
+      hx ∙ ap (λ (y : Reach). best_after b.entries asset y.parent kind ask (min b.entrycount 64)) (hr ∙ reach-in-book b asset)
 
--- what the code found, in terms of the book's catalogue, at the code that is returned
-abbrev Coded : Type 0
-Coded = After-begin_code-code
+  suits-is : x.suits ≡ any_of (suits (catalog_of b) b.entries asset kind) (catalog_of b).entry_count
+  suits-is = ap (λ (y : Best). y.suits) best-is ∙ best-suits (catalog_of b) b.entries ask asset kind
 
-abbrev start : Coded → Start
-start c = c.before.before.before.before.before.before
+  at-is : found_at x ≡ found_at (best_after b.entries asset (parent_of (catalog_of b) asset) kind ask (catalog_of b).entry_count)
+  at-is = ap found_at best-is
 
-suits-is : (c : Coded) → c.chosen-best.result.suits ≡ any_of
-    (suits (catalog_of (start c).args.b) (start c).args.b.entries (start c).args.asset (start c).args.kind)
-    (catalog_of (start c).args.b).entry_count
-suits-is c =
-    let a = (start c).args in
-    ap (λ (x : Best). x.suits) (best-is a.b a.asset a.kind a.ask _ c.reach_of-reach.ensures _
-    c.chosen-best.ensures)
-    ∙ best-suits (catalog_of a.b) a.b.entries a.ask a.asset a.kind
+  switched-is : x.switched ≡ any_of (fails_for_switch (catalog_of b) b.entries ask asset kind) (catalog_of b).entry_count
+  switched-is = ap (λ (y : Best). y.switched) best-is ∙ best-switched (catalog_of b) b.entries ask asset kind
 
-at-is : (c : Coded) → c.chosen-best.result.at ≡ (best_after (start c).args.b.entries (start c).args.asset
-    (parent_of (catalog_of (start c).args.b) (start c).args.asset) (start c).args.kind (start c).args.ask
-    (catalog_of (start c).args.b).entry_count).at
-at-is c =
-    let a = (start c).args in
-    ap (λ (x : Best). x.at) (best-is a.b a.asset a.kind a.ask _ c.reach_of-reach.ensures _
-    c.chosen-best.ensures)
-
-switched-is : (c : Coded) → c.chosen-best.result.switched ≡ any_of
-    (fails_for_switch (catalog_of (start c).args.b) (start c).args.b.entries (start c).args.ask (start c).args.asset
-    (start c).args.kind) (catalog_of (start c).args.b).entry_count
-switched-is c =
-    let a = (start c).args in
-    ap (λ (x : Best). x.switched) (best-is a.b a.asset a.kind a.ask _ c.reach_of-reach.ensures _
-    c.chosen-best.ensures)
-    ∙ best-switched (catalog_of a.b) a.b.entries a.ask a.asset a.kind
-
-pub returns-then-code-ne0 : goal.returns-then-code-ne0
-returns-then-code-ne0 c =
-    let d = c.before in
-    let a = (start d.before).args in
-    let es = a.b.entries in
-    ap (λ (x : Act). placed x.at x.part es) c.refused_act.ensures
-    ∙ refused-placed d.begin_code-code.result a.o es (omega (arith, entries-64 (start d.before)))
-    ∙ begin-refused (catalog_of a.b) es a.o a.ask a.asset a.kind _ _ _ _ _
-    (usable-is a.b a.asset _ d.reach_of-reach.ensures)
-    (λ off u. suits-is d.before) (λ off u. at-is d.before) (λ off u. switched-is d.before) (count-64 a.b) d.begin_code-code.ensures c.if-code-ne0.true
+pub returns-in_err-k : goal.returns-in_err-k
+returns-in_err-k c =
+    let a = c.args in
+    let assets-64 : length a.b.assets ≡ 64 = search rules in
+    let entries-64 : length a.b.entries ≡ 64 = search rules in
+    let x = c.chosen-best.result in
+    let r = c.reach_of-reach.result in
+    let n = c.at_most_64 in
+    let m = c.at_most_64-2 in
+    let hr = reached a.b a.asset a.kind n.result m.result a.ask r x assets-64 entries-64 n.ensures m.ensures c.reach_of-reach.ensures
+    c.chosen-best.ensures in
+    let hx = seen-whole a.b a.asset a.kind n.result m.result a.ask r x assets-64 entries-64 n.ensures m.ensures c.reach_of-reach.ensures
+    c.chosen-best.ensures in
+    let at-found = c.at.ensures ∙ at-seen a.b a.asset a.kind n.result m.result a.ask r x assets-64 entries-64 n.ensures m.ensures
+    c.reach_of-reach.ensures c.chosen-best.ensures in
+    let found = seen x in
+    let is-err : c.from_residual.result ≡ Err c.in_err-k.field-0.0 = search (rules, c.from_residual.ensures) in
+    rw is-err
+    (begin-refused (catalog_of a.b) a.b.entries a.o a.ask a.asset a.kind _ _ _ _
+    (usable-is a.b a.asset a.kind a.ask _ found hr hx)
+    (λ off u. suits-is a.b a.asset a.kind a.ask _ found hr hx)
+    (λ off u. at-found ∙ at-is a.b a.asset a.kind a.ask _ found hr hx)
+    (λ off u. switched-is a.b a.asset a.kind a.ask _ found hr hx)
+    (count-64 a.b) c.in_err-k.field-0.0 c.in_err-k.ensures)
 
 pub returns : goal.returns
 returns c =
-    let d = c.before in
-    let a = (start d.before.before.before.before).args in
-    let es = a.b.entries in
-    begin-placed-at (catalog_of a.b) es a.o a.ask a.asset a.kind _ _ _ _ _
-    (usable-is a.b a.asset _ d.reach_of-reach.ensures)
-    (λ off u. suits-is d.before.before.before.before) (λ off u. at-is d.before.before.before.before) (λ off u. switched-is d.before.before.before.before) (count-64 a.b) d.begin_code-code.ensures (start d.before.before.before.before).requires
-    c.if-code-ne0.false c.begin_on.result
-    (c.begin_on.ensures ∙ ap (λ (x : Entry). begin_on (d.chosen-best.result.at % 256) a.asset a.ask x.limits
-    x.meters
-    a.o) c.entry_at-x.ensures)
+    let a = c.args in
+    let assets-64 : length a.b.assets ≡ 64 = search rules in
+    let entries-64 : length a.b.entries ≡ 64 = search rules in
+    let x = c.chosen-best.result in
+    let r = c.reach_of-reach.result in
+    let n = c.at_most_64 in
+    let m = c.at_most_64-2 in
+    let hr = reached a.b a.asset a.kind n.result m.result a.ask r x assets-64 entries-64 n.ensures m.ensures c.reach_of-reach.ensures
+    c.chosen-best.ensures in
+    let hx = seen-whole a.b a.asset a.kind n.result m.result a.ask r x assets-64 entries-64 n.ensures m.ensures c.reach_of-reach.ensures
+    c.chosen-best.ensures in
+    let at-found = c.at.ensures ∙ at-seen a.b a.asset a.kind n.result m.result a.ask r x assets-64 entries-64 n.ensures m.ensures
+    c.reach_of-reach.ensures c.chosen-best.ensures in
+    let found = seen x in
+    begin-granted (catalog_of a.b) a.b.entries a.o a.ask a.asset a.kind _ _ _ _
+    (usable-is a.b a.asset a.kind a.ask _ found hr hx)
+    (λ off u. suits-is a.b a.asset a.kind a.ask _ found hr hx)
+    (λ off u. at-found ∙ at-is a.b a.asset a.kind a.ask _ found hr hx)
+    (λ off u. switched-is a.b a.asset a.kind a.ask _ found hr hx)
+    c.in_ok-k.k c.in_ok-k.ensures.0 c.in_ok-k.ensures.1 c.requires c.begin_on.result
+    (c.begin_on.ensures ∙ ap (λ (x : Entry). begin_on (c.in_ok-k.k % 256) a.asset a.ask x.limits x.meters a.o) c.entry_at-x.ensures)

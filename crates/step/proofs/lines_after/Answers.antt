@@ -1,35 +1,14 @@
--- `step::lines_after` meets its contract: a return for each verdict of the gate.
-use mathlib.Core.Path.{◌≡◌, refl, sym, ap, ◌∙◌}
-use native.Mathlib.Omega.{arith}
-use borrow.Author.Tests.{lt-ltb}
-use Rattle.book.specs.declared.Gate.{Gate}
+-- `step::lines_after`: a taken event is of one of the sixteen players.
+use Rattle.std.proofs.Common.{arith, sym, ap, ◌∙◌}
+use Rattle.book.specs.declared.Player.{Player}
+use Rattle.book.specs.Gate.{passed}
 use Rattle.model.specs.Gate.{gate}
-use Rattle.step.specs.Lines.{lines_with}
-use borrow.Author.Rules.{rules}
+use Rattle.model.proofs.Legal.Step.{gate-passed}
 use Rattle.step.proofs.lines_after.Goals as goal
 
-pub returns-then-e-gt15 : goal.returns-then-e-gt15
-unfolding lines_with gate
-returns-then-e-gt15 c = rw (lt-ltb _ _ c.if-e-gt15.true) refl
-
 pub taken_lines-requires : goal.taken_lines-requires
-taken_lines-requires c = omega (arith, c.if-e-gt15.false)
-
-pub returns-in-Refuse : goal.returns-in-Refuse
-unfolding lines_with
-returns-in-Refuse c =
+taken_lines-requires c =
     let a = c.args in
-    ap (λ (g : Gate). lines_with a.a g a.b a.e a.lines) (c.in-Refuse.ensures)
-
-pub returns-in-Resend : goal.returns-in-Resend
-unfolding lines_with
-returns-in-Resend c =
-    let a = c.args in
-    ap (λ (g : Gate). lines_with a.a g a.b a.e a.lines) (c.in-Resend.ensures)
-
-pub returns-in-Take : goal.returns-in-Take
-unfolding lines_with
-returns-in-Take c =
-    let a = c.args in
-    c.taken_lines.ensures
-    ∙ ap (λ (g : Gate). lines_with a.a g a.b a.e a.lines) (c.in-Take.ensures)
+    let asked = ap (λ (p : Player). gate a.b.time p.last a.e) c.player_at-asking.ensures in
+    let p = gate-passed a.b a.e (sym asked ∙ c.in-Ok-Take.ensures ∙ ap passed c.in-Ok-Take.field-0-is) in
+    omega (arith, p.player)

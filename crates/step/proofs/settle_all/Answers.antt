@@ -43,8 +43,8 @@ loop-i-preserved c =
           (sym (released-out a.t l.i o es (omega (arith, w.if-k-lt64.false))))
     ] in (
       omega arith,
-      ap (λ (x : Book). with x x.entries (set x.players l.i c.shut_player-q.result)) m ∙ ap
-          (λ (q : Player). with l.n (released a.t l.i o es) (set l.n.players l.i q)) c.shut_player-q.ensures ∙ ap
+      ap (λ (x : Book). with x x.entries (set x.players l.i c.shut_player.result)) m ∙ ap
+          (λ (q : Player). with l.n (released a.t l.i o es) (set l.n.players l.i q)) c.shut_player.ensures ∙ ap
           (settle_one a.t l.i) l.invariant.1 ∙ settle-turn a.t l.i a.b (omega (arith, players-16 s.before.before.before.before.before.before)),
     )
 

@@ -14,7 +14,6 @@ returns c =
     let ys = a.report.now in
     let d = decoded a.s.now in
     let e = c.step_lines-after.ensures ∙ ap (λ (l : List Line). reported_on a.b d l (length ys)) c.take_lines-lines.ensures in (
-      c.outcome_in.ensures ∙ ap outcome_of e ∙ reported-outcome a.b d ys,
-      c.give_lines.ensures ∙ ap (λ (l : List Line). given_lines l ys) (c.lines_in.ensures ∙ ap (λ (y : Reported). y.lines) e)
-          ∙ reported-lines a.b d ys,
+      ap outcome_of e ∙ reported-outcome a.b d ys,
+      c.give_lines.ensures ∙ ap (λ (y : Reported). given_lines y.lines ys) e ∙ reported-lines a.b d ys,
     )

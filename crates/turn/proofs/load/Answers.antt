@@ -9,7 +9,6 @@ use borrow.Author.Rules.{rules}
 use Rattle.numbers.proofs.TableLaws.{below_or_not}
 use Rattle.book.specs.declared.Book.{Book}
 use Rattle.book.specs.Blank.{no_book}
-use Rattle.book.specs.Codes.{image_code}
 use Rattle.model.specs.Image.{read_code, read_book}
 use Rattle.turn.specs.Turn.{Begins}
 use Rattle.turn.specs.Load.{cut-code, cut-book}

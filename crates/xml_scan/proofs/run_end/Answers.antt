@@ -1,11 +1,10 @@
-use Rattle.std.specs.Prelude.{◌≡◌, ℕ, ◌+◌, ◌-◌, ◌≤◌, min, not, Option, List, length, take, drop, position, unwrap_or}
-use Rattle.std.proofs.Math.Path.{ap}
-use Rattle.std.proofs.Common.{◌∙◌, arith}
+use Rattle.std.specs.Prelude.{◌≡◌, ℕ, ◌+◌, ◌-◌, min, not, Option, List, length, take, drop, position, unwrap_or}
+use Rattle.std.proofs.Common.{arith}
 use Rattle.std.proofs.lemmas.List.{drop_min}
 use lib.ListN.{length-drop}
 use lib.Seq.{take_all}
 use Rattle.numbers.proofs.TableLaws.{below_or_not}
-use Rattle.xml_model.specs.Bytes.{in_class, span, run_end}
+use Rattle.xml_model.specs.Bytes.{in_class, run_end}
 use Rattle.xml_model.proofs.Runs.{run-within, run_out, span-position}
 use Rattle.xml_scan.specs.Classes.{class_code}
 use Rattle.xml_scan.proofs.run_end.Goals as goal

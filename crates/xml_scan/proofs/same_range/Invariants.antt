@@ -1,5 +1,4 @@
 -- `xml_scan::same_range` meets its contract. The invariant: the first i bytes of the two ranges are the same.
-use Prim.Native.Nat.{◌-◌, ◌≤◌}
 use mathlib.Core.Path.{◌≡◌}
 use mathlib.Core.Bool.{true}
 use Rattle.xml_model.specs.State.{alike}

@@ -1,5 +1,4 @@
 use Rattle.std.specs.Prelude.{◌≡◌, ℕ, ◌+◌, Bool, true, false, cond, List, eqb}
-use Rattle.std.proofs.Math.Path.{refl}
 use borrow.Author.Tests.{eq-eqb, ne_eqb}
 use Rattle.xml_model.specs.Shapes.{Tag}
 use Rattle.xml_model.specs.Bytes.{byte_at, is_name_start, names, run_end}

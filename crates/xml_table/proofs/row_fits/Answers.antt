@@ -1,10 +1,10 @@
-use Rattle.std.specs.Prelude.{◌≡◌, Bool, eqb, ◌&&◌, Option, None, Some}
+use Rattle.std.specs.Prelude.{◌≡◌, eqb, Option, None, Some}
 use Rattle.std.specs.Option.{option_eq}
 use Rattle.std.proofs.Math.Path.{sym}
 use denote.Enum.Bare.{sameb}
 use Rattle.xml_table.specs.contracts.Name as N
 use Rattle.xml_table.specs.declared.Name.{Name}
-use Rattle.xml_table.specs.Codes.{role_code, name_code, name_number}
+use Rattle.xml_table.specs.Codes.{name_code, name_number}
 use Rattle.xml_table.proofs.Numbers.{same-role, same-name, some-name}
 use Rattle.xml_table.proofs.row_fits.Goals as goal
 
