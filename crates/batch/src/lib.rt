@@ -19,7 +19,7 @@ ghost use Rattle.batch.specs.StepCases.{looked, admit};
 
 use book::{
     Admission, Ask, Book, Entry, Event, EventError, Limits, Line, NEVER, Open, Player, RECORD_LAST,
-    RECORD_SIZE, Request, at_most_64, blank_entry, refusal,
+    RECORD_SIZE, Request, at_most_64, blank_entry, refused,
 };
 use choice::{Best, consider_row, refreshed, row_of};
 use index::{end_of, ends_of, fill_places, reach_at, rows_of};
@@ -126,19 +126,19 @@ pub fn answer_block(
         let to = size.min(from + RECORD_SIZE);
         match received(good, &records[from..to]) {
             Err(e) => {
-                at = put_line(out, at, refusal(e));
+                at = put_line(out, at, refused(e));
                 continue;
             }
             Ok(event) => {
                 let request = event.request;
                 // Read before the checks, which is quicker; the answer is put in once it is known.
-                let noted = noted_last(event, refusal(EventError::Lines));
+                let noted = noted_last(event, refused(EventError::Lines));
                 let j = (event.player % 16) as usize;
                 let asking = book.players[j];
                 let last = asking.last;
                 match gate_of(book.time, last, event) {
                     Err(e) => {
-                        at = put_line(out, at, refusal(e));
+                        at = put_line(out, at, refused(e));
                         continue;
                     }
                     Ok(Admission::Resend) => {
@@ -284,7 +284,7 @@ pub fn answer_block(
                             Err(e) => {
                                 let unmarked = latest_by(ask.player, false);
                                 book.latest = unmarked;
-                                answer = refusal(e);
+                                answer = refused(e);
                                 current = o;
                             }
                         }

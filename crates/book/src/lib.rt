@@ -470,12 +470,20 @@ pub fn closed_use() -> Open
 
 // "Each of 1 to 15 returns entry 255 and until 0.", and so do 30, 43 and 44.
 // Rules out: entry 0, the code in another place.
-pub fn refusal(error: EventError) -> Answer
-    ensures { result ≡ record { code = event_code error; entry = 255; until = 0 } }
+pub fn refusal(code: u8) -> Answer
+    ensures { result ≡ record { code = code; entry = 255; until = 0 } }
 {
     Answer {
-        code: u8::from(error),
+        code: code,
         entry: 255,
         until: 0,
     }
+}
+
+// The same by the refusal's name.
+// Rules out: the answer of another refusal.
+pub fn refused(error: EventError) -> Answer
+    ensures { result ≡ record { code = event_code error; entry = 255; until = 0 } }
+{
+    refusal(error.into())
 }

@@ -18,7 +18,7 @@ ghost use Rattle.step.specs.Lines.{lines_taken, lines_with, reported_on};
 
 use book::{
     Admission, Answer, Ask, Book, Event, EventError, Line, Meters, Open, Outcome, Player, Recent,
-    Reported, Request, at_most_64, refusal,
+    Reported, Request, at_most_64, refused,
 };
 use report::{give_lines, take_lines};
 use uses::Effect;
@@ -181,7 +181,7 @@ fn taken(b: Book, e: Event) -> Outcome
             let m = metered(n, a.at, part.meters);
             store_event(m, e, part.answer, part.current, part.started)
         }
-        Err(x) => store_event(n, e, refusal(x), o, false),
+        Err(x) => store_event(n, e, refused(x), o, false),
     }
 }
 
@@ -193,7 +193,7 @@ fn step(b: Book, e: Event) -> Outcome
     let asking = book::player_at(b.players, e.player as usize);
     match rules::gate_of(b.time, asking.last, e) {
         Err(x) => Outcome {
-            answer: refusal(x),
+            answer: refused(x),
             book: b,
         },
         Ok(Admission::Resend) => Outcome {
@@ -247,14 +247,14 @@ pub fn step_lines(b: Book, s: &[u8], lines: [Line; 64], count: usize) -> Reporte
 {
     if !good_list(b, lines, count) {
         return Reported {
-            answer: refusal(EventError::Lines),
+            answer: refused(EventError::Lines),
             book: b,
             lines: lines,
         };
     }
     match record::decode(s) {
         Err(x) => Reported {
-            answer: refusal(x),
+            answer: refused(x),
             book: b,
             lines: lines,
         },

@@ -14,7 +14,7 @@ ghost use Rattle.uses.specs.Room.{Room, MoreRoom};
 ghost use Rattle.uses.specs.Due.{any_due};
 
 use book::{
-    Answer, Ask, EventError, LATEST_TIME, Limits, Meters, Open, Player, Recent, closed_use, refusal,
+    Answer, Ask, EventError, LATEST_TIME, Limits, Meters, Open, Player, Recent, closed_use, refused,
 };
 use numbers::{one, pick, with_bit};
 use rules::{flags_of, grantable, least_until, momentary, when};
@@ -35,7 +35,7 @@ pub fn kept(error: EventError, m: Meters, o: Open) -> Effect
     ensures { result ≡ kept (event_code error) m o }
 {
     Effect {
-        answer: refusal(error),
+        answer: refused(error),
         meters: m,
         current: o,
         started: false,

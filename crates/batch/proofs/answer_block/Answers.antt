@@ -430,9 +430,9 @@ left_by c =
           )
       | in-Err-found w ↦ (
         false,
-        leaves c es w.refusal-answer.result o false (w.book-is ∙ ap (λ (x : Latest). timed c x es) w.latest_by-unmarked.ensures) (w.rows-is ∙ z.1) w.answer-is
+        leaves c es w.refused-answer.result o false (w.book-is ∙ ap (λ (x : Latest). timed c x es) w.latest_by-unmarked.ensures) (w.rows-is ∙ z.1) w.answer-is
             w.current-is
-            (ap (λ (x : Answer). record { answer = x; entries = es; current = o; started = false }) w.refusal-answer.ensures
+            (ap (λ (x : Answer). record { answer = x; entries = es; current = o; started = false }) w.refused-answer.ensures
             ∙ (planned d).refuses w.in-Err-found.e w.in-Err-found.is)
             z.0.entries,
       )
@@ -530,7 +530,7 @@ lines-by c =
             ap length w.report-is ∙ after.2,
           )
       | in-Err-found w ↦
-          let off : eqb c.match-found.answer.code 0 ≡ false = ap (λ (a : Answer). eqb a.code 0) (w.answer-is ∙ w.refusal-answer.ensures)
+          let off : eqb c.match-found.answer.code 0 ≡ false = ap (λ (a : Answer). eqb a.code 0) (w.answer-is ∙ w.refused-answer.ensures)
           ∙ ne_eqb _ 0 (never-granted w.in-Err-found.e) in (
             w.report-is ∙ refused-kept b A e.time o c.match-found.answer e.request off,
             moved c.match-found.good s.if-next-t.good c.match-found.report A w.good-is w.report-is z.4,
@@ -639,7 +639,7 @@ loop-i-init c =
 pub loop-i-preserved-in-Err : goal.loop-i-preserved-in-Err
 loop-i-preserved-in-Err c =
     let r = c.before.before.before.before.before.before.before in
-    let x = c.refusal in
+    let x = c.refused in
     let p = c.put_line-at in
     let z = case-invalid (book-at (turn r)) (admitted-at (turn r)) (turn r).loop-i.report
     (event_code c.in-Err.e)
@@ -651,7 +651,7 @@ loop-i-preserved-in-Err c =
 pub loop-i-preserved-in-Err-gate_of : goal.loop-i-preserved-in-Err-gate_of
 loop-i-preserved-in-Err-gate_of c =
     let j = c.before.before.before.before.before.before.before in
-    let x = c.refusal-in-Err-gate_of in
+    let x = c.refused-in-Err-gate_of in
     let p = c.put_line-at-in-Err-gate_of in
     let b = book-at (turn (read j)) in
     let z = case-refused b (admitted-at (turn (read j))) (turn (read j)).loop-i.report (event-at j) (is-valid j) (is-few j)

@@ -44,5 +44,5 @@ returns-in-Err c =
     let n = c.settle-n.result in
     c.store_event-in-Err.ensures
     ∙ ap (λ (x : Answer). taken_from n a.e (record { answer = x; entries = n.entries; current = open_at n.players a.e.player; started = false }))
-    c.refusal.ensures
+    c.refused.ensures
     ∙ done-stored a.b n a.e c.recent_of-recent.result _ c.settle-n.ensures c.recent_of-recent.ensures c.in-Err.ensures
