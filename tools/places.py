@@ -16,14 +16,14 @@ FORMS = [
     (1, "a function that returns a refusal's number, or 0", r"^\s*(pub )?fn (?!places).*-> (u8|usize)$", r"\breturn (2[0-7]|3[01]|4[0-4]|1[0-5]|[1-6]);|\.code;|\{ 0 \} else \{ 14 \}|NO_ROOM"),
     (1, "a refusal by its number", r"\b(refus\w*|kept|turned_away|Invalid|Refuse|pick_code)\((\w+(\.\w+)*, )*\d+[,)]|: 4[0-2],$|return (2[0-7]|3[01]|1[0-5]|43);"),
     (1, "a test of a code", r"\bcode (==|!=) \d"),
-    (1, "a number that stands for none", r"=> 64,|\{ 64 \}|at: 64|return 64;|\bfor_?none\b|<= k\)|ROW_COUNT$|\bNO_POSITION\b|(?<!const )\bNEVER\b|\bfrom == 0\b|0 < (id|value)\.from|from: 0, to: 0|< 64 \{$|parent == 0"),
-    (1, "a kind, role, class or form as a number", r"^\s*(pub )?const [A-Z_]+: u8 = \d+;|\b(kind|operation|form|role|class): u8\b|\bname: u8\b|\bform: \d,"),
+    (1, "a number that stands for none", r"=> 64,|\{ 64 \}|at: 64|return 64;|ROW_COUNT( <=|$)|: NO_POSITION|, NO_POSITION\)|[=(,] ?NEVER\b|\bfrom == 0\b|0 < (id|value)\.from|from: 0, to: 0|\bif (k|w|at|place) < 64 \{|parent == 0|parent: 0|<= \w+ \{ return 0"),
+    (1, "a kind, role, class or form as a number", r"^(pub )?const (?!MOST|NO_ROOM|ROW_COUNT)[A-Z_]+: u8 = \d+;|\b(kind|operation|form|role|class): u8\b|\bname: u8\b|\bform: \d,"),
     (2, "a function beside which another differs in a type, size or constant", None),
     (3, "a loop that counts by hand", r"^\s*while |^\s*loop \{"),
     (4, "a comparison, copy, conversion or blank by hand", r"fn (same|equal|same_(line|lines|book|bytes|range)|join\d+|four_\w+|blank_\w+|kind_of|kind_number|request_of|wire_of)\b|/ (256|65536|16777216|4294967296)( / \d+)? % 256\) as u8|^\s*\w+\[(at \+ )?\w+\] = \w+\[(\w+ \+ )?\w+\];"),
     (4, "a bound or a difference by hand", r"\b(min_size|min_time|min_wide|lesser|saturating_sub|less)\("),
-    (5, "parameters that travel together", r"\bl: Limits, m: Meters\b|lines: \[Line; 64\], lent: usize|lines: \[Line; 64\], count: usize|^\s*lent: usize,$|role: u8, state: u8|player: u8, number: u64|^\s*number: u64,$|a: usize, b: usize"),
-    (6, "a table or a buffer with a length beside", r"\[(Asset|Entry); 64\], (n|count|assetcount): (u8|usize)|^\s*(assetcount|assets): .*,$|buf: &\[u8\]\)|, n: usize\b|^\s*n: usize,$|^ {4}pub count: u\d+,$|\[u8; 192\]"),
+    (5, "parameters that travel together", r"\bl: Limits, m: Meters\b|lines: \[Line; 64\], lent: usize|lines: \[Line; 64\], count: usize|^\s*lent: usize,$|role: u8, state: u8|player: u8, number: u64|^\s*number: u64,$|s: &\[u8\], a: usize, b: usize"),
+    (6, "a table or a buffer with a length beside", r"(?<!const )\[(Asset|Entry); 64\], (n|count|assetcount): (u8|usize)|^\s*(assetcount|assets): .*,$|buf: &\[u8\]\)|, n: usize\b|^\s*n: usize,$|^ {4}pub count: u(8|16),$|\[u8; 192\]"),
     (7, "a switch on which step to run", r"^\s*if \(?role == "),
 ]
 

@@ -121,14 +121,13 @@ pub fn answer_block(
     let mut good = good_lines(used, lines, lent);
     let mut next: u32 = 0;
     let mut at: usize = 0;
-    let mut i: usize = 0;
-    while i < count {
+    for i in 0..count {
         let from = RECORD_SIZE * i;
         let to = size.min(from + RECORD_SIZE);
-        i = i + 1;
         match received(good, &records[from..to]) {
             Err(e) => {
                 at = put_line(out, at, refusal(e));
+                continue;
             }
             Ok(event) => {
                 let request = event.request;
@@ -140,17 +139,18 @@ pub fn answer_block(
                 match gate_of(book.time, last, event) {
                     Err(e) => {
                         at = put_line(out, at, refusal(e));
+                        continue;
                     }
                     Ok(Admission::Resend) => {
                         let again = last.answer;
                         at = put_line(out, at, again);
+                        continue;
                     }
                     Ok(Admission::Take) => {
                         let t = event.time;
                         if next <= t {
                             next = NEVER;
-                            let mut p: usize = 0;
-                            while p < 16 {
+                            for p in 0..16 {
                                 let end = ends[p];
                                 if end <= t {
                                     let player = book.players[p];
@@ -183,7 +183,6 @@ pub fn answer_block(
                                 } else {
                                     next = next.min(end);
                                 }
-                                p = p + 1;
                             }
                         }
                         let player = book.players[j];
@@ -203,8 +202,7 @@ pub fn answer_block(
                                     at_most_64(book.entrycount),
                                 );
                                 let mut best = Best::none();
-                                let mut e: usize = 0;
-                                while e < n {
+                                for e in 0..n {
                                     let row = rows[e];
                                     best = consider_row(
                                         best,
@@ -215,7 +213,6 @@ pub fn answer_block(
                                         ask,
                                         e,
                                     );
-                                    e = e + 1;
                                 }
                                 begin_entry(
                                     o.on == 1,

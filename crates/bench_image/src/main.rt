@@ -20,10 +20,12 @@ struct Turn {
 // Reads the image, given the book held, and writes the resulting book.
 fn one_turn(held: Book, image: &[u8]) -> Turn {
     let mut out = [0u8; IMAGE];
-    let got = image_read::read(held, image);
-    let code = got.code;
-    let after = got.book;
-    let n = image_write::write(after, &mut out);
+    let mut after = held;
+    let code = match image_read::read(&mut after, image) {
+        Ok(()) => 0,
+        Err(e) => u8::from(e),
+    };
+    let n = image_write::write(&after, &mut out).unwrap_or(0);
     Turn {
         code: code,
         length: n,
@@ -49,7 +51,7 @@ fn read_image(rt: &(impl Clock + Eprint + Files), image: &mut [u8; IMAGE]) -> us
     ensures { result ≤ length image.new }
 {
     match fs::open(rt, "full.rbk") {
-        Ok(mut file) => stream::read_all(rt, &mut file, b"full.rbk", image).length,
+        Ok(mut file) => stream::read_all(rt, &mut file, b"full.rbk", image).unwrap_or(0),
         Err(_) => 0,
     }
 }

@@ -6,7 +6,6 @@
 ghost use Rattle.std.specs.Prelude.{◌≡◌, ◌||◌, min, get_or, nat_lt, IsTrue, MatchResult};
 ghost use Rattle.book.specs.Blank.{no_asset, no_entry, no_player, no_book, closed, no_line};
 ghost use Rattle.book.specs.Codes.{kind_code, event_code, image_code};
-ghost use Rattle.book.specs.declared.TheConstants.{NO_ROOM};
 ghost use Rattle.book.specs.declared.EventError.{EventError};
 
 // The latest time that an event can have.
@@ -295,6 +294,7 @@ impl TryFrom<u8> for Kind {
     }
 }
 
+// Rules out: two refusals with the same number, the numbers of two exchanged.
 impl From<EventError> for u8 {
     ghost from_gives = { λ e n. n ≡ event_code e };
 
@@ -303,6 +303,7 @@ impl From<EventError> for u8 {
     }
 }
 
+// Rules out: a stage's number with another stage.
 impl From<ImageError> for u8 {
     ghost from_gives = { λ e n. n ≡ image_code e };
 
@@ -311,8 +312,9 @@ impl From<ImageError> for u8 {
     }
 }
 
+// Rules out: the number of another refusal.
 impl From<NoRoom> for u8 {
-    ghost from_gives = { λ _ n. n ≡ NO_ROOM };
+    ghost from_gives = { λ _ n. n ≡ 30 };
 
     fn from(_e: NoRoom) -> u8 {
         NO_ROOM

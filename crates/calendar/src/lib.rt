@@ -1,7 +1,7 @@
 // The calendar by the leap-year rule: the days of a month, and the days from 1970-01-01 to its first, from a table.
 #![tactic(auto)]
 
-ghost use Rattle.std.specs.Prelude.{◌≡◌, cond, ◌<◌};
+ghost use Rattle.std.specs.Prelude.{◌≡◌, ◌<◌};
 ghost use Rattle.numbers.specs.Count.{sum};
 ghost use Rattle.xml_model.specs.Calendar.{leap, month_days, month_length, in_calendar, days_before};
 ghost use Rattle.calendar.specs.MonthStarts.{month_count, MonthStarts};
@@ -9,6 +9,7 @@ ghost use Rattle.calendar.specs.MonthStarts.{month_count, MonthStarts};
 mod month_starts;
 
 use month_starts::MONTH_STARTS;
+use numbers::pick;
 
 fn leap(year: u16) -> bool
     ensures { result ≡ leap year }
@@ -16,26 +17,17 @@ fn leap(year: u16) -> bool
     (year % 4 == 0) & (!(year % 100 == 0) | (year % 400 == 0))
 }
 
-fn days_by(february: bool, leap: bool, short: bool) -> u8
-    ensures { result ≡ cond february (cond leap 29 28) (cond short 30 31) }
-{
-    if february {
-        if leap { 29 } else { 28 }
-    } else {
-        if short { 30 } else { 31 }
-    }
-}
-
 // The days of a month, 1 to 12.
 // Rules out: 29 days in February 2100, 28 in February 2000, 31 in November.
+#[tactic(auto, unfolding(xml_model::specs::Calendar::month_days))]
 pub fn month_days(year: u16, month: u8) -> u8
     ensures { result ≡ month_days year month }
 {
-    days_by(
-        month == 2,
-        leap(year),
-        (month == 4) | (month == 6) | (month == 9) | (month == 11),
-    )
+    match month {
+        2 => pick(leap(year), 29, 28),
+        4 | 6 | 9 | 11 => 30,
+        _ => 31,
+    }
 }
 
 // The years and months in which a time can lie.

@@ -1,6 +1,6 @@
 -- Why the room for the next image is known before the records are answered: no event changes its length. And that what each exit
 -- of `answer_image` leaves is what `ByValue` says.
-use Prim.Native.Nat.{ℕ, ◌*◌, ◌≤◌, ◌<◌}
+use Prim.Native.Nat.{ℕ, ◌+◌, ◌*◌, ◌/◌, ◌%◌, ◌≤◌, ◌<◌, min}
 use mathlib.Core.Path.{◌≡◌, refl, sym, ap, ◌∙◌}
 use mathlib.Core.Bool.{true, false}
 use mathlib.Core.List.{List, [], ◌∷◌}
@@ -8,12 +8,13 @@ use native.Mathlib.Omega.{arith}
 use lib.ListN.{length}
 use lib.Dec.{leb, eqb}
 use borrow.Author.Tests.{ne_eqb, le-leb, lt-leb}
-use Rattle.numbers.proofs.Tests.{on_test}
+use Rattle.std.specs.Int.{div_ceil}
+use Rattle.numbers.proofs.Tests.{on_test, on_same}
 use Rattle.book.specs.declared.Line.{Line}
 use Rattle.book.specs.declared.Book.{Book}
 use Rattle.book.specs.Decoded.{Decoded}
 use Rattle.model.specs.Book.{assets_in, entries_in}
-use Rattle.model.specs.Image.{length_of, write_buffer, read_code}
+use Rattle.model.specs.Image.{length_of, write_answer, write_buffer, read_code}
 use Rattle.model.specs.Record.{decoded}
 use Rattle.model.specs.Step.{arrive}
 use Rattle.model.specs.Report.{receive, lines_left, lent, admitted}
@@ -55,12 +56,16 @@ book-length b ls count [] = refl
 book-length b ls count (r ∷ rs) =
     book-length (step_on b ls count r).book (step_on b ls count r).lines count rs ∙ step-length b (decoded r) ls count
 
-block-length : (b : Book) (ls : List Line) (count : ℕ) (s : List ℕ) (room : ℕ) → length_of (block_book b ls count s room) ≡ length_of b
+pub block-length : (b : Book) (ls : List Line) (count : ℕ) (s : List ℕ) (room : ℕ) → length_of (block_book b ls count s room) ≡ length_of b
 unfolding block_book
 block-length b ls count s room =
     on_test (fits s room) (λ q. rw q (book-length b ls count (records_in s))) (λ q. rw q refl)
 
 -- ## Room
+
+-- how many records there are, a last one cut short among them
+pub ceil : (n : ℕ) → div_ceil n 17 ≡ (n + 16) / 17
+ceil n = on_same (n % 17) 0 (λ z. rw z (omega arith)) (λ z. let w : min 1 (n % 17) ≡ 1 = omega arith in rw w (omega arith))
 
 pub room-there : (b : Book) (buffer : List ℕ) → length_of b ≤ length buffer → room_code b buffer ≡ 0
 unfolding room_code
@@ -69,6 +74,11 @@ room-there b buffer h = rw (le-leb (length_of b) (length buffer) h) refl
 pub room-short : (b : Book) (buffer : List ℕ) → length buffer < length_of b → room_code b buffer ≡ no_room
 unfolding room_code
 room-short b buffer h = rw (lt-leb (length_of b) (length buffer) h) refl
+
+pub written-length : (b : Book) (buffer : List ℕ) (n : ℕ) → length_of b ≤ length buffer → write_answer b (length buffer) ≡ n
+    → n ≡ length_of b
+unfolding write_answer
+written-length b buffer n h e = sym e ∙ rw (le-leb (length_of b) (length buffer) h) refl
 
 -- ## What is left
 

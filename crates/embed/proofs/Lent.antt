@@ -1,6 +1,7 @@
 -- The lines that were taken from a list, answered with by value and stored back: what is left is what `Calls` and `One` say of the list.
 use Prim.Native.Nat.{ℕ}
-use mathlib.Core.Path.{◌≡◌, refl, ap, ap₂, ◌∙◌}
+use mathlib.Core.Path.{◌≡◌, refl, sym, ap, ap₂, ◌∙◌}
+use Rattle.std.specs.Prelude.{Result, Ok, Err, MatchResult}
 use mathlib.Core.Bool.{Bool, true, false, cond}
 use mathlib.Core.List.{List, [], ◌∷◌, ◌++◌}
 use lib.ListN.{length, drop}
@@ -9,6 +10,8 @@ use Rattle.numbers.proofs.Tests.{on_test}
 use Rattle.book.specs.declared.Line.{Line}
 use Rattle.book.specs.declared.Book.{Book}
 use Rattle.book.specs.declared.Outcome.{Outcome}
+use Rattle.book.specs.declared.Reported.{Reported}
+use Rattle.batch.specs.declared.Block.{Block}
 use Rattle.model.specs.Image.{length_of, write_buffer, read_code}
 use Rattle.model.specs.Record.{decoded}
 use Rattle.model.specs.Step.{arrive}
@@ -22,6 +25,8 @@ use Rattle.step.specs.Given.{given_back, left-length, reported-outcome, reported
 use Rattle.batch.specs.Block.{fits, block_book, block_text, block_lines, block_written, block_buffer, block-text, block-book, block-lines}
 use Rattle.embed.specs.Calls.{image_in, lent_book, call_code, if_answered, answer_code, image_after, size_after, out_after, written_after}
 use Rattle.embed.specs.Calls.{report_after}
+use Rattle.embed.specs.declared.Failure.{Failure}
+use Rattle.embed.specs.Failure.{failure_code, result_code, result_or}
 use Rattle.embed.specs.One.{one_step, one_result, one_image, one_size, one_code, one_entry, one_until, one_report}
 use Rattle.embed.specs.ByValue.{code_by, AnsweredBy, step_by, OneBy}
 
@@ -133,6 +138,18 @@ module _ (buffer : List ℕ) (size : ℕ) (records old : List ℕ) (before : ℕ
         ∙ changed _ _ ls lines_are,
   )
 
+  -- stored only if the call answered
+  pub answer-stored :
+      (r : Result Block Failure) (buffer' : List ℕ) (size' : ℕ) (out : List ℕ) (written : ℕ) (last : List Line) →
+      AnsweredBy buffer size records old before (taken_lines ls) (length ls) (result_code r) buffer' size' out
+      (result_or r (λ x. x.written) before) (result_or r (λ x. x.lines) (taken_lines ls)) →
+      MatchResult r (λ x. (written ≡ x.written) × (last ≡ given_lines x.lines ls)) (λ f. (written ≡ before) × (last ≡ ls)) →
+      Answer (result_code r) buffer' size' out written last
+  answer-stored (Ok x) buffer' size' out written last e k =
+      rw k.0 (answer-left 0 buffer' size' out x.written x.lines last e k.1)
+  answer-stored (Err f) buffer' size' out written last e k =
+      rw k.0 (answer-left (failure_code f) buffer' size' out before (taken_lines ls) last e (k.1 ∙ sym (given-taken ls)))
+
 -- ## `rights_answer_one`
 
 module _ (buffer : List ℕ) (size : ℕ) (r : List ℕ) (code₀ entry₀ until₀ : ℕ) (ls : List Line) where
@@ -165,3 +182,18 @@ module _ (buffer : List ℕ) (size : ℕ) (r : List ℕ) (code₀ entry₀ until
             (reported-lines (lent_book buffer size) (decoded r) ls)
             ∙ ap (λ (o : Outcome). if_answered (c o) (lines_left (lent_book buffer size) (lent ls r)) ls) same,
       )
+
+  pub one-stored :
+      (x : Result Reported Failure) (buffer' : List ℕ) (size' code entry until : ℕ) (last : List Line) →
+      OneBy buffer size r code₀ entry₀ until₀ (taken_lines ls) (length ls) (result_code x) buffer' size'
+      (result_or x (λ o. o.answer.code) code₀) (result_or x (λ o. o.answer.entry) entry₀)
+      (result_or x (λ o. o.answer.until) until₀) (result_or x (λ o. o.lines) (taken_lines ls)) →
+      MatchResult x
+      (λ o. (code ≡ o.answer.code) × (entry ≡ o.answer.entry) × (until ≡ o.answer.until) × (last ≡ given_lines o.lines ls))
+      (λ f. (code ≡ code₀) × (entry ≡ entry₀) × (until ≡ until₀) × (last ≡ ls)) →
+      One (result_code x) buffer' size' code entry until last
+  one-stored (Ok o) buffer' size' code entry until last e k =
+      rw (k.0, k.1, k.2) (one_left 0 buffer' size' o.answer.code o.answer.entry o.answer.until o.lines last e k.3)
+  one-stored (Err f) buffer' size' code entry until last e k =
+      rw (k.0, k.1, k.2)
+      (one_left (failure_code f) buffer' size' code₀ entry₀ until₀ (taken_lines ls) last e (k.3 ∙ sym (given-taken ls)))

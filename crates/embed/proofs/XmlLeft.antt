@@ -8,9 +8,8 @@ use lib.Dec.{eqb, leb}
 use borrow.Author.Tests.{ne_eqb}
 use Rattle.model.specs.Image.{length_of, write_buffer}
 use Rattle.fill.specs.Fill.{no_room}
-use Rattle.xml_model.specs.declared.Reading.{Reading}
-use Rattle.xml_image.specs.declared.Imported.{Imported}
-use Rattle.xml_image.specs.Imported.{import_code, imported_from, buffer_from, imported, import_buffer}
+use Rattle.xml_model.specs.Text.{Reading}
+use Rattle.xml_image.specs.Imported.{Imported, import_code, imported_from, buffer_from, imported, import_buffer}
 use Rattle.embed.specs.FromXml.{xml_code, xml_image, xml_size, xml_elements}
 
 -- a text that is refused, and an image that does not fit, leave the buffer

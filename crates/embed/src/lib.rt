@@ -2,44 +2,97 @@
 // No state is kept between calls. The book is passed as its image, which the caller keeps and lends.
 #![tactic(auto)]
 
-ghost use Rattle.std.specs.Prelude.{◌≡◌, length, get_or};
+ghost use Rattle.std.specs.Prelude.{◌≡◌, ℕ, ltb, Option, List, length, get_or};
 ghost use Rattle.book.specs.Blank.{no_entry};
+ghost use Rattle.model.specs.Book.{asset_at, assets_in, entries_in};
 ghost use Rattle.model.specs.Meters.{settled};
 ghost use Rattle.model.specs.Image.{read_code};
 ghost use Rattle.encode.specs.Record.{record_bytes};
 ghost use Rattle.fill.specs.Fill.{fill_code, filled};
 ghost use Rattle.embed.specs.Calls.{image_in, held_book, answer_code, image_after, size_after, out_after, written_after, report_after};
+ghost use Rattle.views.specs.Views.{view_time, left_values, ground_values};
+ghost use Rattle.embed.specs.declared.Failure.{Failure};
+ghost use Rattle.embed.specs.Failure.{failure_code, result_code, result_or, Loads, found, viewed_code, viewed_out};
 ghost use Rattle.embed.specs.One.{one_result, one_image, one_size, one_code, one_entry, one_until, one_report};
 ghost use Rattle.embed.specs.ByValue.{AnsweredBy, OneBy};
 ghost use Rattle.embed.specs.Seen.{book_code, book_out, asset_code, asset_out, entry_code, entry_out, player_code, player_out, left_code};
 ghost use Rattle.embed.specs.Seen.{left_out, grounds_code, grounds_out};
 ghost use Rattle.embed.specs.FromXml.{xml_code, xml_image, xml_size, xml_elements};
 
-use book::{Ask, Book, Entry, Line, RECORD_LAST, RECORD_SIZE};
-use fill::NO_ROOM;
-use image_read::Loaded;
+use batch::Block;
+use book::{
+    Ask, Asset, Book, Entry, ImageError, Line, NO_ROOM, NoRoom, RECORD_SIZE, Reported, at_most_64,
+};
+use encode::RawEvent;
 use report::{give_lines, take_lines};
+use std::convert::AsSlice;
 
-// The code of an image, and the book in it; blank if the image is refused.
-fn load(image: &[u8]) -> Loaded
-    ensures { (result.code ≡ read_code image.now) × (result.book ≡ held_book image.now) }
+// What a call returns where the book has nothing at the position asked for.
+const ABSENT: u8 = 31;
+
+// Why a call leaves everything as it was.
+#[derive(Clone, Copy, Debug, PartialEq, Eq)]
+enum Failure {
+    Image(ImageError),
+    NoRoom,
+    Absent,
+}
+
+impl From<ImageError> for Failure {
+    ghost from_gives = { λ e f. f ≡ Failure.Image e };
+
+    fn from(e: ImageError) -> Failure {
+        Failure::Image(e)
+    }
+}
+
+impl From<NoRoom> for Failure {
+    ghost from_gives = { λ _ f. f ≡ Failure.NoRoom };
+
+    fn from(_e: NoRoom) -> Failure {
+        Failure::NoRoom
+    }
+}
+
+impl From<Failure> for u8 {
+    ghost from_gives = { λ f n. n ≡ failure_code f };
+
+    fn from(f: Failure) -> u8 {
+        match f {
+            Failure::Image(e) => e.into(),
+            Failure::NoRoom => NO_ROOM,
+            Failure::Absent => ABSENT,
+        }
+    }
+}
+
+// The number that C gets.
+fn code_of<T: Copy>(r: Result<T, Failure>) -> u8
+    ensures { result ≡ result_code r }
 {
-    let blank = book::blank_book();
-    image_read::read(blank, image)
+    match r {
+        Ok(_) => 0,
+        Err(f) => f.into(),
+    }
+}
+
+// The book in an image.
+#[tactic(auto, unfolding(crate::specs::Calls::held_book))]
+fn load(image: &[u8]) -> Result<Book, Failure>
+    ensures { Loads image.now result }
+{
+    let mut held = book::blank_book();
+    image_read::read(&mut held, image)?;
+    Ok(held)
 }
 
 // The same for the image that is the first `size` bytes of a buffer; no byte at all if the buffer has not so many.
 // Rules out: the bytes behind the image taken for a part of it.
-fn load_from(buffer: &[u8], size: u64) -> Loaded
-    ensures { (result.code ≡ read_code (image_in buffer.now size))
-        × (result.book ≡ held_book (image_in buffer.now size)) }
+#[tactic(auto, unfolding(crate::specs::Calls::image_in))]
+fn load_from(buffer: &[u8], size: u64) -> Result<Book, Failure>
+    ensures { Loads (image_in buffer.now size) result }
 {
-    let end = size as usize;
-    if buffer.len() < end {
-        let none: usize = 0;
-        return load(&buffer[..none]);
-    }
-    load(&buffer[..end])
+    load(buffer.get(..size as usize).unwrap_or(&[]))
 }
 
 // 0 if the image holds a legal book, otherwise the number of the refusal, 20 to 27.
@@ -47,77 +100,35 @@ fn load_from(buffer: &[u8], size: u64) -> Loaded
 pub fn rights_check(image: &[u8]) -> u8
     ensures { result ≡ read_code image.now }
 {
-    let loaded = load(image);
-    loaded.code
-}
-
-// What a call leaves whose lines are held by value: its result, and the lines.
-#[derive(Clone, Copy)]
-struct Returned {
-    code: u8,
-    lines: [Line; 64],
-}
-
-// The two parts of it.
-fn code_in(x: Returned) -> u8
-    ensures { result ≡ x.code }
-{
-    x.code
-}
-
-fn lines_in(x: Returned) -> [Line; 64]
-    ensures { result ≡ x.lines }
-{
-    let lines = x.lines;
-    lines
+    code_of(load(image))
 }
 
 // rights_answer with the lines by value, of which `lent` were lent.
 // No event changes how many assets and entries there are, so the next image has the length of the one that the book now has, and its
 // room is known before anything is written.
-// Rules out: a refusal that touches a byte, a number or a line.
+// Rules out: a refusal that touches a byte or a number.
 fn answer_image(
     image: &mut [u8],
     size: &mut u64,
     records: &[u8],
     out: &mut [u8],
-    written: &mut u64,
     lines: [Line; 64],
     lent: usize,
-) -> Returned
-    ensures { AnsweredBy image.old size.old records.now out.old written.old
-        lines lent result.code image.new size.new out.new written.new result.lines }
+) -> Result<Block, Failure>
+    ensures { (written : ℕ) → AnsweredBy image.old size.old records.now out.old written lines lent
+        (result_code result) image.new size.new out.new
+        (result_or result (λ x. x.written) written) (result_or result (λ x. x.lines) lines) }
 {
-    let loaded = load_from(image, *size);
-    if loaded.code != 0 {
-        return Returned {
-            code: loaded.code,
-            lines: lines,
-        };
+    let book = load_from(image, *size)?;
+    if out.len() / 19 < records.len().div_ceil(RECORD_SIZE) {
+        return Err(Failure::NoRoom);
     }
-    let count = (records.len() + RECORD_LAST) / RECORD_SIZE;
-    if out.len() / 19 < count {
-        return Returned {
-            code: NO_ROOM,
-            lines: lines,
-        };
+    if image.len() < image_write::image_length(book.assetcount, book.entrycount) {
+        return Err(Failure::NoRoom);
     }
-    let needed = image_write::image_length(loaded.book.assetcount, loaded.book.entrycount);
-    if image.len() < needed {
-        return Returned {
-            code: NO_ROOM,
-            lines: lines,
-        };
-    }
-    let block = batch::answer_block(loaded.book, records, out, lines, lent);
-    image_write::write(block.book, image);
-    *size = needed as u64;
-    *written = block.written as u64;
-    let after = block.lines;
-    Returned {
-        code: 0,
-        lines: after,
-    }
+    let block = batch::answer_block(book, records, out, lines, lent);
+    *size = image_write::write(&block.book, image)? as u64;
+    Ok(block)
 }
 
 // Answers the records in turn, as lines of text in out, and puts the text's length into written. image is a buffer, and its
@@ -150,60 +161,34 @@ pub fn rights_answer(
         × (report.new ≡ report_after
         image.old size.old report.old records.now (length out.old)) }
 {
-    let count = report.len();
     let lines = take_lines(report);
-    let after = answer_image(image, size, records, out, written, lines, count);
-    give_lines(report, lines_in(after));
-    code_in(after)
+    let answered = answer_image(image, size, records, out, lines, report.len());
+    if let Ok(block) = answered {
+        *written = block.written as u64;
+        give_lines(report, block.lines);
+    }
+    code_of(answered)
 }
 
 // rights_answer_one with the lines by value, of which `lent` were lent.
-// Rules out: a refusal that touches a byte, a number or a line.
+// Rules out: a refusal that touches a byte or a number.
 fn answer_event(
     image: &mut [u8],
     size: &mut u64,
-    player: u8,
-    number: u64,
-    operation: u8,
-    asset: u16,
-    kind: u8,
-    time: u32,
-    code: &mut u8,
-    entry: &mut u8,
-    until: &mut u32,
+    event: RawEvent,
     lines: [Line; 64],
     lent: usize,
-) -> Returned
-    ensures { OneBy image.old size.old (record_bytes player number operation asset kind time)
-        code.old entry.old until.old lines lent result.code image.new size.new
-        code.new entry.new until.new result.lines }
+) -> Result<Reported, Failure>
+    ensures { (code entry until : ℕ) → OneBy image.old size.old
+        (record_bytes event.player event.number event.operation event.asset event.kind event.time)
+        code entry until lines lent (result_code result) image.new size.new
+        (result_or result (λ x. x.answer.code) code) (result_or result (λ x. x.answer.entry) entry)
+        (result_or result (λ x. x.answer.until) until) (result_or result (λ x. x.lines) lines) }
 {
-    let loaded = load_from(image, *size);
-    if loaded.code != 0 {
-        return Returned {
-            code: loaded.code,
-            lines: lines,
-        };
-    }
-    let record = encode::record_bytes(player, number, operation, asset, kind, time);
-    let after = step::step_lines(loaded.book, &record, lines, lent);
-    let next_length = image_write::image_length(after.book.assetcount, after.book.entrycount);
-    if image.len() < next_length {
-        return Returned {
-            code: NO_ROOM,
-            lines: lines,
-        };
-    }
-    image_write::write(after.book, image);
-    *size = next_length as u64;
-    *code = after.answer.code;
-    *entry = after.answer.entry;
-    *until = after.answer.until;
-    let next = after.lines;
-    Returned {
-        code: 0,
-        lines: next,
-    }
+    let book = load_from(image, *size)?;
+    let after = step::step_lines(book, &encode::record_bytes(event), lines, lent);
+    *size = image_write::write(&after.book, image)? as u64;
+    Ok(after)
 }
 
 // One event given as numbers: the answer's code, entry and until as numbers, the next image, and the lines, the same as the record's
@@ -242,17 +227,28 @@ pub fn rights_answer_one(
         × (report.new ≡ one_report
         image.old size.old report.old (record_bytes player number operation asset kind time)) }
 {
-    let count = report.len();
+    let event = RawEvent {
+        player,
+        number,
+        operation,
+        asset,
+        kind,
+        time,
+    };
     let lines = take_lines(report);
-    let after = answer_event(
-        image, size, player, number, operation, asset, kind, time, code, entry, until, lines, count,
-    );
-    give_lines(report, lines_in(after));
-    code_in(after)
+    let answered = answer_event(image, size, event, lines, report.len());
+    if let Ok(after) = answered {
+        *code = after.answer.code;
+        *entry = after.answer.entry;
+        *until = after.answer.until;
+        give_lines(report, after.lines);
+    }
+    code_of(answered)
 }
 
 // Writes the 17 bytes of the record that holds these numbers to the start of out. Returns 0, or 30 if out is too short.
 // Rules out: two fields swapped, a byte touched after the record or in a buffer that is too short.
+#[tactic(auto, unfolding(encode::specs::Record::record_bytes))]
 pub fn rights_record(
     player: u8,
     number: u64,
@@ -265,8 +261,33 @@ pub fn rights_record(
     ensures value { result ≡ fill_code (record_bytes player number operation asset kind time) (length out.old) }
     ensures out_after { out.new ≡ filled (record_bytes player number operation asset kind time) out.old }
 {
-    let bytes = encode::record_bytes(player, number, operation, asset, kind, time);
-    fill::fill8(out, &bytes)
+    let event = RawEvent {
+        player,
+        number,
+        operation,
+        asset,
+        kind,
+        time,
+    };
+    code_of(fill::fill(out, &encode::record_bytes(event)).map_err(Failure::from))
+}
+
+// Puts the numbers that a view finds in the book of an image at the start of a buffer.
+// Rules out: numbers from an image that is refused, a number touched after them.
+fn view<R: AsSlice<u32> + Copy, F: FnOnce(Book) -> Option<R>>(
+    image: &[u8],
+    out: &mut [u32],
+    values: F,
+) -> Result<(), Failure>
+    requires { F.IsAlwaysCallable values }
+    ensures { (r : Option R)
+        × (read_code image.now ≡ 0 → F.post values (held_book image.now) r)
+        × (result_code result ≡ viewed_code R.items image.now r (length out.old))
+        × (out.new ≡ viewed_out R.items image.now r out.old) }
+{
+    let numbers = values(load(image)?).ok_or(Failure::Absent)?;
+    fill::fill(out, numbers.as_slice())?;
+    Ok(())
 }
 
 // How many assets and entries the book in the image has, its time, its switch, and the event taken last.
@@ -275,12 +296,29 @@ pub fn rights_book(image: &[u8], out: &mut [u32]) -> u8
     ensures value { result ≡ book_code image.now (length out.old) }
     ensures out_after { out.new ≡ book_out image.now out.old }
 {
-    let loaded = load(image);
-    if loaded.code != 0 {
-        return loaded.code;
-    }
-    let values = views::book_values(loaded.book);
-    fill::fill32(out, &values)
+    code_of(view(image, out, |b| Some(views::book_values(b))))
+}
+
+// The entry at a position, if the book has so many.
+#[tactic(auto, unfolding(model::specs::Book::entries_in))]
+fn entry_in(b: Book, position: u32) -> Option<Entry>
+    ensures { result ≡ found (ltb position (entries_in b)) (get_or b.entries position no_entry) }
+{
+    let entries = b.entries;
+    entries[..at_most_64(b.entrycount)]
+        .get(position as usize)
+        .copied()
+}
+
+// The asset at a position, if the book has so many.
+#[tactic(auto, unfolding(model::specs::Book::assets_in))]
+fn asset_in(b: Book, position: u32) -> Option<Asset>
+    ensures { result ≡ found (ltb position (assets_in b)) (asset_at b.assets position) }
+{
+    let assets = b.assets;
+    assets[..at_most_64(b.assetcount)]
+        .get(position as usize)
+        .copied()
 }
 
 // The entry at a position: its limits and its meters, in the image's order.
@@ -289,17 +327,11 @@ pub fn rights_entry(image: &[u8], position: u32, out: &mut [u32]) -> u8
     ensures value { result ≡ entry_code image.now position (length out.old) }
     ensures out_after { out.new ≡ entry_out image.now position out.old }
 {
-    let loaded = load(image);
-    if loaded.code != 0 {
-        return loaded.code;
-    }
-    let at = position as usize;
-    if book::at_most_64(loaded.book.entrycount) <= at {
-        return 31;
-    }
-    let entries = loaded.book.entries;
-    let values = views::entry_values(book::entry_at(entries, at));
-    fill::fill32(out, &values)
+    code_of(view(
+        image,
+        out,
+        |b| entry_in(b, position).map(views::entry_values),
+    ))
 }
 
 // The asset at a position: its number, inherit and key.
@@ -308,17 +340,11 @@ pub fn rights_asset(image: &[u8], position: u32, out: &mut [u32]) -> u8
     ensures value { result ≡ asset_code image.now position (length out.old) }
     ensures out_after { out.new ≡ asset_out image.now position out.old }
 {
-    let loaded = load(image);
-    if loaded.code != 0 {
-        return loaded.code;
-    }
-    let at = position as usize;
-    if book::at_most_64(loaded.book.assetcount) <= at {
-        return 31;
-    }
-    let assets = loaded.book.assets;
-    let values = views::asset_values(assets[at]);
-    fill::fill32(out, &values)
+    code_of(view(
+        image,
+        out,
+        |b| asset_in(b, position).map(views::asset_values),
+    ))
 }
 
 // A player's last event with its answer, and the open use.
@@ -327,26 +353,48 @@ pub fn rights_player(image: &[u8], player: u32, out: &mut [u32]) -> u8
     ensures value { result ≡ player_code image.now player (length out.old) }
     ensures out_after { out.new ≡ player_out image.now player out.old }
 {
-    let loaded = load(image);
-    if loaded.code != 0 {
-        return loaded.code;
-    }
-    let at = player as usize;
-    if 16 <= at {
-        return 31;
-    }
-    let players = loaded.book.players;
-    let values = views::player_values(players[at]);
-    fill::fill32(out, &values)
+    code_of(view(image, out, |b| {
+        b.players
+            .get(player as usize)
+            .copied()
+            .map(views::player_values)
+    }))
 }
 
 // The entry at a position as an event at that time finds it: uses that are over by then have ended.
-fn entry_then(b: Book, at: usize, when: u32) -> Entry
-    ensures { result ≡ get_or (settled when b.players b.entries) at no_entry }
+#[tactic(auto, unfolding(model::specs::Book::entries_in, step::specs::Settle::settled_book))]
+fn entry_then(b: Book, position: u32, when: u32) -> Option<Entry>
+    ensures { result ≡ found (ltb position (entries_in b))
+        (get_or (settled when b.players b.entries) position no_entry) }
 {
-    let settled = step::settle(b, when);
-    let entries = settled.entries;
-    book::entry_at(entries, at)
+    entry_in(step::settle(b, when), position)
+}
+
+// What is left of it.
+fn left_in(b: Book, position: u32, time: u32) -> Option<[u32; 4]>
+    ensures { result ≡ found (ltb position (entries_in b))
+        (left_values (view_time b.time time) b.switch
+        (get_or (settled (view_time b.time time) b.players b.entries) position no_entry)) }
+{
+    let when = views::view_time(b.time, time);
+    let entry = entry_then(b, position, when)?;
+    Some(views::left_values(entry, when, b.switch))
+}
+
+// What stands against granting it to a player.
+fn grounds_in(b: Book, position: u32, player: u8, time: u32) -> Option<[u32; 9]>
+    ensures { result ≡ found (ltb position (entries_in b))
+        (ground_values (record { player = player; time = view_time b.time time; switch = b.switch })
+        (get_or (settled (view_time b.time time) b.players b.entries) position no_entry)) }
+{
+    let when = views::view_time(b.time, time);
+    let ask = Ask {
+        player,
+        time: when,
+        switch: b.switch,
+    };
+    let entry = entry_then(b, position, when)?;
+    Some(views::ground_values(entry, ask))
 }
 
 // What is left of the entry at a position, as an event at that time would find it; at the book's time if that is later.
@@ -355,17 +403,7 @@ pub fn rights_left(image: &[u8], position: u32, time: u32, out: &mut [u32]) -> u
     ensures value { result ≡ left_code image.now position time (length out.old) }
     ensures out_after { out.new ≡ left_out image.now position time out.old }
 {
-    let loaded = load(image);
-    if loaded.code != 0 {
-        return loaded.code;
-    }
-    let at = position as usize;
-    if book::at_most_64(loaded.book.entrycount) <= at {
-        return 31;
-    }
-    let when = views::view_time(loaded.book.time, time);
-    let values = views::left_values(entry_then(loaded.book, at, when), when, loaded.book.switch);
-    fill::fill32(out, &values)
+    code_of(view(image, out, |b| left_in(b, position, time)))
 }
 
 // What stands against granting the entry at a position to a player, as a begin at that time would find it; at the book's time if that is
@@ -375,22 +413,7 @@ pub fn rights_grounds(image: &[u8], position: u32, player: u8, time: u32, out: &
     ensures value { result ≡ grounds_code image.now position player time (length out.old) }
     ensures out_after { out.new ≡ grounds_out image.now position player time out.old }
 {
-    let loaded = load(image);
-    if loaded.code != 0 {
-        return loaded.code;
-    }
-    let at = position as usize;
-    if book::at_most_64(loaded.book.entrycount) <= at {
-        return 31;
-    }
-    let when = views::view_time(loaded.book.time, time);
-    let ask = Ask {
-        player: player,
-        time: when,
-        switch: loaded.book.switch,
-    };
-    let values = views::ground_values(entry_then(loaded.book, at, when), ask);
-    fill::fill32(out, &values)
+    code_of(view(image, out, |b| grounds_in(b, position, player, time)))
 }
 
 // Turns an XML rights object into the image of a fresh book, at the start of the buffer image, and puts the image's length into size
@@ -403,11 +426,12 @@ pub fn rights_from_xml(text: &[u8], image: &mut [u8], size: &mut u64, elements: 
     ensures size_after { size.new ≡ xml_size text.now image.old size.old }
     ensures elements_after { elements.new ≡ xml_elements text.now image.old elements.old }
 {
-    let r = xml_image::import_text(text, image);
-    if r.code != 0 {
-        return r.code;
+    match xml_image::import_text(text, image) {
+        Ok(r) => {
+            *size = r.length as u64;
+            *elements = r.elements as u64;
+            0
+        }
+        Err(e) => u8::from(e),
     }
-    *size = r.length as u64;
-    *elements = r.elements as u64;
-    0
 }

@@ -8,34 +8,42 @@ ghost use Rattle.encode.specs.Record.{record_values};
 
 use book::RECORD_SIZE;
 
+// An event as the numbers of its record, legal or not.
+#[derive(Clone, Copy, Debug, PartialEq, Eq)]
+pub struct RawEvent {
+    pub player: u8,
+    pub number: u64,
+    pub operation: u8,
+    pub asset: u16,
+    pub kind: u8,
+    pub time: u32,
+}
+
 // Rules out: two fields swapped, the bytes of a number in another order.
-pub fn record_bytes(
-    player: u8,
-    number: u64,
-    operation: u8,
-    asset: u16,
-    kind: u8,
-    time: u32,
-) -> [u8; RECORD_SIZE]
-    ensures { result ≡ laid_out record_widths (record_values player number operation asset kind time) }
+pub fn record_bytes(e: RawEvent) -> [u8; RECORD_SIZE]
+    ensures { result ≡ laid_out record_widths
+        (record_values e.player e.number e.operation e.asset e.kind e.time) }
 {
+    let [n0, n1, n2, n3, n4, n5, n6, n7] = e.number.to_be_bytes();
+    let [a0, a1] = e.asset.to_be_bytes();
+    let [t0, t1, t2, t3] = e.time.to_be_bytes();
     [
-        player,
-        (number / 4294967296 / 16777216 % 256) as u8,
-        (number / 4294967296 / 65536 % 256) as u8,
-        (number / 4294967296 / 256 % 256) as u8,
-        (number / 4294967296 % 256) as u8,
-        (number % 4294967296 / 16777216 % 256) as u8,
-        (number % 4294967296 / 65536 % 256) as u8,
-        (number % 4294967296 / 256 % 256) as u8,
-        (number % 4294967296 % 256) as u8,
-        operation,
-        (asset / 256 % 256) as u8,
-        (asset % 256) as u8,
-        kind,
-        (time / 16777216 % 256) as u8,
-        (time / 65536 % 256) as u8,
-        (time / 256 % 256) as u8,
-        (time % 256) as u8,
+        e.player,
+        n0,
+        n1,
+        n2,
+        n3,
+        n4,
+        n5,
+        n6,
+        n7,
+        e.operation,
+        a0,
+        a1,
+        e.kind,
+        t0,
+        t1,
+        t2,
+        t3,
     ]
 }

@@ -11,13 +11,13 @@ use Rattle.numbers.proofs.BufferLaws.{lay-front, lay-byte, lay-all}
 abbrev pub no_room : ℕ
 no_room = 30
 
-unfoldable pub fill_code : List ℕ → ℕ → ℕ
+abbrev pub fill_code : {A : Type 0} → List A → ℕ → ℕ
 fill_code values room = cond (leb (length values) room) 0 no_room
 
-unfoldable pub filled : List ℕ → List ℕ → List ℕ
+abbrev pub filled : {A : Type 0} → List A → List A → List A
 filled values old = cond (leb (length values) (length old)) (values ++ drop (length values) old) old
 
--- ## The loop: the first i values written over the start
+-- ## Value by value: the first i of them written over the start
 
 pub fill-next : (old values : List ℕ) (i : ℕ) → i < length old → i < length values
     → set (lay old 0 (take i values)) i (get_or values i 0) ≡ lay old 0 (take (i + 1) values)
@@ -31,12 +31,10 @@ module _ (values old : List ℕ) where
   Filled code out = (code ≡ fill_code values (length old)) × (out ≡ filled values old)
 
   pub fill-short : length old < length values → Filled no_room old
-  unfolding fill_code filled
   fill-short h = rw (lt-leb (length values) (length old) h) (refl, refl)
 
   pub fill_done : (out : List ℕ) (i : ℕ) → length values ≤ length old → length values ≤ i
       → out ≡ lay old 0 (take i values) → Filled 0 out
-  unfolding fill_code filled
   fill_done out i h k e =
       rw (le-leb (length values) (length old) h)
       (refl, e ∙ lay-all old 0 values i k ∙ lay-front old values (length values) refl)

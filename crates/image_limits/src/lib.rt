@@ -2,39 +2,27 @@
 // Each function is defined for every value of its types, whether or not an image can hold it.
 #![tactic(auto)]
 
-ghost use Rattle.std.specs.Prelude.{◌≡◌};
-ghost use Rattle.model.specs.Book.{asset_position, asset_legal, assets_legal, limit, ranges_legal, track_legal, limits_legal, entries_legal};
+ghost use Rattle.std.specs.Prelude.{◌≡◌, length};
+ghost use Rattle.model.specs.Book.{asset_legal, assets_legal, limit, ranges_legal, track_legal, limits_legal, entries_legal};
+ghost use Rattle.image_limits.specs.Positions.{position_in};
 
 use book::{Asset, Book, LATEST_TIME, Limits, MOST_SECONDS, MOST_TIMES, at_most_64};
-use numbers::min_size;
 use rules::{flags_of, momentary};
 
-// The position of the asset with that number among the first n; n if there is none. Slots past the table's end read as blank.
-// Rules out: the last of two with that number; a position past the table's end for a number that no asset has.
-pub fn asset_position(assets: [Asset; 64], n: usize, number: u32) -> usize
-    ensures { result ≡ asset_position assets n number }
+// The position of the first of the assets with that number.
+// Rules out: the last of two with that number; a position for a number that no asset has.
+pub fn asset_position(assets: &[Asset], number: u32) -> Option<usize>
+    ensures { result ≡ position_in assets.now number }
 {
-    let m = min_size(n, 64);
-    let mut i: usize = 0;
-    while i < m {
-        let a = assets[i];
-        if a.number as u32 == number {
-            return i;
-        }
-        i = i + 1;
-    }
-    if number == 0 {
-        return m;
-    }
-    n
+    assets.iter().position(|a| a.number as u32 == number)
 }
 
 // Rules out: true for an asset whose number an earlier one has; true for number 0 or key 2.
-pub fn asset_legal(assets: [Asset; 64], n: usize, i: usize, a: Asset) -> bool
-    ensures { result ≡ asset_legal assets n i a }
+pub fn asset_legal(assets: &[Asset], i: usize, a: Asset) -> bool
+    ensures { result ≡ asset_legal assets.now (length assets.now) i a }
 {
     ((1 <= a.number) & (a.number <= 65535))
-        & (asset_position(assets, n, a.number as u32) == i)
+        & (asset_position(assets, a.number as u32).unwrap_or(assets.len()) == i)
         & (a.key <= 1)
 }
 
@@ -42,17 +30,11 @@ pub fn asset_legal(assets: [Asset; 64], n: usize, i: usize, a: Asset) -> bool
 pub fn assets_legal(b: Book) -> bool
     ensures { result ≡ assets_legal b }
 {
-    let assets = b.assets;
-    let n = at_most_64(b.assetcount);
-    let mut legal = true;
-    let mut i: usize = 0;
-    while i < n {
-        let a = assets[i];
-        let w = asset_legal(assets, n, i, a);
-        legal = legal & w;
-        i = i + 1;
-    }
-    legal
+    let assets = &b.assets[..at_most_64(b.assetcount)];
+    assets
+        .iter()
+        .enumerate()
+        .all(|(i, a)| asset_legal(assets, i, *a))
 }
 
 // Rules out: false for a flagged limit of 0, true for one that is not flagged and not 0.
@@ -103,18 +85,10 @@ pub fn limits_legal(known: bool, l: Limits) -> bool
 pub fn entries_legal(b: Book) -> bool
     ensures { result ≡ entries_legal b }
 {
-    let assets = b.assets;
-    let entries = b.entries;
-    let n = at_most_64(b.assetcount);
-    let m = at_most_64(b.entrycount);
-    let mut legal = true;
-    let mut i: usize = 0;
-    while i < m {
-        let e = entries[i];
-        let l = e.limits;
-        let w = limits_legal(asset_position(assets, n, l.asset as u32) < n, l);
-        legal = legal & w;
-        i = i + 1;
-    }
-    legal
+    let assets = &b.assets[..at_most_64(b.assetcount)];
+    let entries = &b.entries[..at_most_64(b.entrycount)];
+    entries.iter().all(|e| limits_legal(
+        asset_position(assets, e.limits.asset as u32).is_some(),
+        e.limits,
+    ))
 }

@@ -2,11 +2,11 @@
 // Each function is defined for every value of its types, whether or not an image can hold it.
 #![tactic(auto)]
 
-ghost use Rattle.std.specs.Prelude.{◌≡◌, cond};
-ghost use Rattle.model.specs.Book.{meter_legal, start_legal, lasts, open_seconds, meters_cover, marks_legal, entry_meters_legal, meters_legal};
+ghost use Rattle.std.specs.Prelude.{◌≡◌};
+ghost use Rattle.model.specs.Book.{meter_legal, start_legal, open_seconds, meters_cover, marks_legal, entry_meters_legal, meters_legal};
 
-use book::{Book, Entry, Limits, Meters, Open, Player, at_most_64};
-use numbers::ones;
+use book::{Book, Entry, Limits, Meters, Player, at_most_64};
+use numbers::{ones, pick};
 use rules::{flags_of, marks_of, opens_entry};
 
 fn meter_legal(flag: bool, most: u32, used: u32) -> bool
@@ -25,33 +25,14 @@ fn start_legal(time: u32, l: Limits, m: Meters) -> bool
         & (m.first <= time)
 }
 
-// How long a use lasts. One that ends before it begins lasts 0 seconds.
-fn length_of(o: Open) -> u32
-    ensures { result ≡ lasts o }
-{
-    let begin = o.begin;
-    let until = o.until;
-    if begin < until { until - begin } else { 0 }
-}
-
-fn counted(w: bool, seconds: u32) -> u32
-    ensures { result ≡ cond w seconds 0 }
-{
-    if w { seconds } else { 0 }
-}
-
-fn open_seconds(players: [Player; 16], i: usize) -> u64
-    ensures { result ≡ open_seconds players i }
+fn open_seconds(players: &[Player; 16], i: usize) -> u64
+    ensures { result ≡ open_seconds players.now i }
 {
     let mut seconds: u64 = 0;
-    let mut p: usize = 0;
-    while p < 16 {
-        let q = players[p];
-        let o = q.current;
-        let w = opens_entry(i, o);
-        let d = counted(w, length_of(o));
-        seconds = seconds + (d as u64);
-        p = p + 1;
+    for p in 0..16 {
+        let o = players[p].current;
+        let d = pick(opens_entry(i, o), o.until.saturating_sub(o.begin), 0);
+        seconds = seconds + d as u64;
     }
     seconds
 }
@@ -73,13 +54,13 @@ fn marks_legal(marks: u32, l: Limits, m: Meters) -> bool
     (m.marks == marks) & ((l.threshold == 0) | (ones(m.marks) <= l.threshold))
 }
 
-fn entry_meters_legal(time: u32, players: [Player; 16], i: usize, e: Entry) -> bool
-    ensures { result ≡ entry_meters_legal time players i e }
+fn entry_meters_legal(time: u32, players: &[Player; 16], i: usize, e: Entry) -> bool
+    ensures { result ≡ entry_meters_legal time players.now i e }
 {
     let l = e.limits;
     let m = e.meters;
     let f = flags_of(l);
-    let marks = marks_of(players, i);
+    let marks = marks_of(*players, i);
     let uses = ones(marks);
     let seconds = open_seconds(players, i);
     meter_legal(f.count, l.count, m.count)
@@ -95,17 +76,9 @@ fn entry_meters_legal(time: u32, players: [Player; 16], i: usize, e: Entry) -> b
 pub fn meters_legal(b: Book) -> bool
     ensures { result ≡ meters_legal b }
 {
-    let time = b.time;
-    let entries = b.entries;
-    let players = b.players;
-    let n = at_most_64(b.entrycount);
-    let mut legal = true;
-    let mut i: usize = 0;
-    while i < n {
-        let e = entries[i];
-        let w = entry_meters_legal(time, players, i, e);
-        legal = legal & w;
-        i = i + 1;
-    }
-    legal
+    let entries = &b.entries[..at_most_64(b.entrycount)];
+    entries
+        .iter()
+        .enumerate()
+        .all(|(i, e)| entry_meters_legal(b.time, &b.players, i, *e))
 }

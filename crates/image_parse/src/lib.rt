@@ -2,29 +2,23 @@
 // image's version. An older image gets the marks that it lacks. The contents of the tables are not checked here.
 #![tactic(auto)]
 
-ghost use Rattle.std.specs.Prelude.{◌≡◌, cond, ◌+◌, ◌*◌, ◌<◌, ◌≤◌, length, leb, eqb};
+ghost use Rattle.std.specs.Prelude.{◌≡◌, cond, ◌+◌, ◌*◌, ◌<◌, ◌≤◌, length, leb, MatchResult};
 ghost use Rattle.numbers.specs.Fields.{bits8, bits16, bits32, bits64, number_at};
-ghost use Rattle.book.specs.Blank.{no_book};
+ghost use Rattle.book.specs.Codes.{image_code};
 ghost use Rattle.model.specs.Image.{newest, number_width, asset_size, entry_size, player_size, asset_in, entry_in, player_in};
 ghost use Rattle.model.specs.Image.{asset_table, entry_table, player_table, with_marks, marked_entries, marked, version_in, book_as, book_in};
 ghost use Rattle.model.specs.Image.{header_broken};
 ghost use Rattle.image_parse.specs.Versions.{wider};
 
 use book::{
-    Answer, Asset, Book, Entry, LATEST_TIME, Last, Latest, Limits, Meters, Open, Player, at_most_64,
+    Answer, Asset, Book, Entry, ImageError, LATEST_TIME, Last, Latest, Limits, Meters, Open,
+    Player, at_most_64,
 };
 use image_pieces::{
     HEADER_START, NEWEST, asset_size, entries_from, entry_size, header_size, image_length,
     player_size, players_from,
 };
 use rules::marks_of;
-
-// Code 0: the header is valid, and the book is what the bytes hold. Any other code: the book is blank.
-#[derive(Clone, Copy)]
-pub struct Parsed {
-    pub code: u8,
-    pub book: Book,
-}
 
 fn read8(s: &[u8], at: usize) -> u8
     requires { at + 1 ≤ length s.now }
@@ -248,29 +242,30 @@ fn players_in(s: &[u8], v: u16, at: usize) -> [Player; 16]
     table
 }
 
-// The first header rule that is broken, 0 if none is.
-fn header_broken(s: &[u8]) -> u8
-    ensures { result ≡ header_broken s.now }
+// The first header rule that is broken.
+#[tactic(auto, unfolding(model::specs::Image::header_broken, model::specs::Image::mark_in, model::specs::Image::version_in, model::specs::Image::asset_count_in, model::specs::Image::entry_count_in, model::specs::Image::time_in))]
+fn header_broken(s: &[u8]) -> Result<(), ImageError>
+    ensures { MatchResult result (λ _. header_broken s.now ≡ 0) (λ e. header_broken s.now ≡ image_code e) }
 {
     if s.len() < HEADER_START {
-        return 20;
+        return Err(ImageError::Length);
     }
     if !((s[0] == 82) & (s[1] == 66) & (s[2] == 75)) {
-        return 21;
+        return Err(ImageError::Mark);
     }
     let v = read16(s, 3);
     if !((1 <= v) & (v <= NEWEST)) {
-        return 22;
+        return Err(ImageError::Version);
     }
     let assets = s[5];
     let entries = s[6];
     if (64 < assets) | (64 < entries) | (LATEST_TIME < read32(s, 7)) {
-        return 23;
+        return Err(ImageError::Header);
     }
     if s.len() != image_length(v, assets, entries) {
-        return 20;
+        return Err(ImageError::Length);
     }
-    0
+    Ok(())
 }
 
 // The book by the layout of the image's version.
@@ -354,21 +349,11 @@ fn book_in(s: &[u8]) -> Book
     marked(v, b)
 }
 
-// Rules out: 21 for ten bytes without the mark (the length is checked first: 20); entries read from an offset that
+// Rules out: Mark for ten bytes without the mark (the length is checked first: Length); entries read from an offset that
 // does not depend on the number of assets; an older image whose marks stay 0.
-pub fn parse(s: &[u8]) -> Parsed
-    ensures code_value { result.code ≡ header_broken s.now }
-    ensures book_value { result.book ≡ cond (eqb (header_broken s.now) 0) (book_in s.now) no_book }
+pub fn parse(s: &[u8]) -> Result<Book, ImageError>
+    ensures { MatchResult result (λ b. (header_broken s.now ≡ 0) × (b ≡ book_in s.now)) (λ e. header_broken s.now ≡ image_code e) }
 {
-    let code = header_broken(s);
-    if code == 0 {
-        return Parsed {
-            code: 0,
-            book: book_in(s),
-        };
-    }
-    Parsed {
-        code: code,
-        book: book::blank_book(),
-    }
+    header_broken(s)?;
+    Ok(book_in(s))
 }

@@ -2,20 +2,14 @@
 // Each function is defined for every value of its types, whether or not an image can hold it.
 #![tactic(auto)]
 
-ghost use Rattle.std.specs.Prelude.{◌≡◌, cond};
+ghost use Rattle.std.specs.Prelude.{◌≡◌};
 ghost use Rattle.model.specs.Book.{player_blank, answer_legal, inside_dates, inside_interval, content_legal, use_legal, open_legal};
 ghost use Rattle.model.specs.Book.{player_legal, players_legal, started_legal, latest_legal, latest_passes};
 
 use book::{Answer, Book, Entry, Latest, Limits, Meters, Open, Player, at_most_64};
 use image_limits::asset_position;
-use numbers::{ones, saturating_sub};
+use numbers::{ones, pick};
 use rules::{flags_of, grant_length, marks_of};
-
-fn pick(w: bool, a: bool, b: bool) -> bool
-    ensures { result ≡ cond w a b }
-{
-    if w { a } else { b }
-}
 
 fn player_blank(p: Player) -> bool
     ensures { result ≡ player_blank p }
@@ -121,24 +115,18 @@ fn player_legal(time: u32, n: usize, known: bool, e: Entry, p: Player) -> bool
 pub fn players_legal(b: Book) -> bool
     ensures { result ≡ players_legal b }
 {
-    let time = b.time;
-    let entries = b.entries;
-    let players = b.players;
-    let assets = b.assets;
     let n = at_most_64(b.entrycount);
-    let count = at_most_64(b.assetcount);
-    let mut legal = true;
-    let mut i: usize = 0;
-    while i < 16 {
-        let p = players[i];
-        let o = p.current;
-        let e = book::entry_at(entries, o.entry as usize);
-        let known = asset_position(assets, count, o.content) < count;
-        let w = player_legal(time, n, known, e, p);
-        legal = legal & w;
-        i = i + 1;
-    }
-    legal
+    let assets = &b.assets[..at_most_64(b.assetcount)];
+    b.players.iter().all(|p| {
+        let e = book::entry_at(b.entries, p.current.entry as usize);
+        player_legal(
+            b.time,
+            n,
+            asset_position(assets, p.current.content).is_some(),
+            e,
+            *p,
+        )
+    })
 }
 
 // Whether the use that the event taken last opened can have started its entry's interval. The entry has so many open uses.
@@ -169,14 +157,11 @@ fn latest_legal(x: Latest, uses: u32, e: Entry, p: Player) -> bool
 pub fn latest_passes(b: Book) -> bool
     ensures { result ≡ latest_passes b }
 {
-    let entries = b.entries;
-    let players = b.players;
     let x = b.latest;
-    let i = saturating_sub(x.player, 1) as usize;
-    let p = book::player_at(players, i);
-    let o = p.current;
-    let k = o.entry as usize;
-    let e = book::entry_at(entries, k);
-    let uses = ones(marks_of(players, k));
+    let i = x.player.saturating_sub(1) as usize;
+    let p = book::player_at(b.players, i);
+    let k = p.current.entry as usize;
+    let e = book::entry_at(b.entries, k);
+    let uses = ones(marks_of(b.players, k));
     latest_legal(x, uses, e, p)
 }

@@ -2,28 +2,26 @@
 // A buffer that is too short is left untouched.
 #![tactic(auto)]
 
-ghost use Rattle.std.specs.Prelude.{◌≡◌, ◌+◌, ◌*◌, ◌≤◌, min, length, get_or, ◌++◌};
+ghost use Rattle.std.specs.Prelude.{◌≡◌, ◌+◌, ◌*◌, ◌<◌, ◌≤◌, min, length, get_or, ◌++◌, MatchResult, OnErr};
 ghost use Rattle.numbers.specs.Count.{joined};
 ghost use Rattle.numbers.specs.Buffer.{lay};
 ghost use Rattle.book.specs.Blank.{no_entry};
+ghost use Rattle.book.specs.declared.TheConstants.{NO_ROOM};
 ghost use Rattle.image_pieces.specs.Pieces.{start_bytes, number_bytes, latest_bytes};
 ghost use Rattle.model.specs.Book.{asset_at, player_at};
 ghost use Rattle.model.specs.Image.{newest, header_size, asset_size, entry_size, player_size, asset_bytes, entry_bytes, player_bytes, image_length};
-ghost use Rattle.model.specs.Image.{write_answer, write_buffer};
+ghost use Rattle.model.specs.Image.{length_of, write_answer, write_buffer};
 
-use book::{Asset, Book, Entry, Latest, Player, at_most_64};
+use book::{Asset, Book, Entry, Latest, NoRoom, Player, at_most_64};
 
 // Copies src into buf at offset `at`, and returns the end offset.
 fn put(buf: &mut [u8], at: usize, src: &[u8]) -> usize
     requires { at + length src.now ≤ length buf.old }
     ensures { (result ≡ at + length src.now) × (buf.new ≡ lay buf.old at src.now) }
 {
-    let mut j: usize = 0;
-    while j < src.len() {
-        buf[at + j] = src[j];
-        j = j + 1;
-    }
-    at + j
+    let end = at + src.len();
+    buf[at..end].copy_from_slice(src);
+    end
 }
 
 // The header, and then one record of each sort: the bytes, and the end offset.
@@ -81,47 +79,38 @@ fn put_player(buf: &mut [u8], at: usize, p: Player) -> usize
 }
 
 // The three tables: writes the first n records at offset `at`, and returns the end offset.
-fn put_assets(buf: &mut [u8], at: usize, table: [Asset; 64], n: usize) -> usize
+fn put_assets(buf: &mut [u8], at: usize, table: &[Asset; 64], n: usize) -> usize
     requires { (n ≤ 64) × (at + asset_size newest * n ≤ length buf.old) }
     ensures value { result ≡ at + asset_size newest * n }
-    ensures buf_after { buf.new ≡ lay buf.old at (joined (λ i. asset_bytes (asset_at table i)) n) }
+    ensures buf_after { buf.new ≡ lay buf.old at (joined (λ i. asset_bytes (asset_at table.now i)) n) }
 {
-    let mut i: usize = 0;
-    let mut o: usize = at;
-    while i < n {
-        let a = table[i];
-        o = put_asset(buf, o, a);
-        i = i + 1;
+    let mut o = at;
+    for i in 0..n {
+        o = put_asset(buf, o, table[i]);
     }
     o
 }
 
-fn put_entries(buf: &mut [u8], at: usize, table: [Entry; 64], n: usize) -> usize
+fn put_entries(buf: &mut [u8], at: usize, table: &[Entry; 64], n: usize) -> usize
     requires { (n ≤ 64) × (at + entry_size newest * n ≤ length buf.old) }
     ensures value { result ≡ at + entry_size newest * n }
-    ensures buf_after { buf.new ≡ lay buf.old at (joined (λ i. entry_bytes (get_or table i no_entry)) n) }
+    ensures buf_after { buf.new ≡ lay buf.old at (joined (λ i. entry_bytes (get_or table.now i no_entry)) n) }
 {
-    let mut i: usize = 0;
-    let mut o: usize = at;
-    while i < n {
-        let e = table[i];
-        o = put_entry(buf, o, e);
-        i = i + 1;
+    let mut o = at;
+    for i in 0..n {
+        o = put_entry(buf, o, table[i]);
     }
     o
 }
 
-fn put_players(buf: &mut [u8], at: usize, table: [Player; 16]) -> usize
+fn put_players(buf: &mut [u8], at: usize, table: &[Player; 16]) -> usize
     requires { at + player_size newest * 16 ≤ length buf.old }
     ensures value { result ≡ at + player_size newest * 16 }
-    ensures buf_after { buf.new ≡ lay buf.old at (joined (λ p. player_bytes (player_at table p)) 16) }
+    ensures buf_after { buf.new ≡ lay buf.old at (joined (λ p. player_bytes (player_at table.now p)) 16) }
 {
-    let mut i: usize = 0;
-    let mut o: usize = at;
-    while i < 16 {
-        let p = table[i];
-        o = put_player(buf, o, p);
-        i = i + 1;
+    let mut o = at;
+    for i in 0..16 {
+        o = put_player(buf, o, table[i]);
     }
     o
 }
@@ -136,23 +125,22 @@ pub fn image_length(assetcount: u8, entrycount: u8) -> usize
     image_pieces::image_length(image_pieces::NEWEST, a as u8, n as u8)
 }
 
-// The length of the image, or 30 if the buffer has no room for it. The contract rules out a writer that returns 30 but
+// The length of the image, or Err if the buffer has no room for it. The contract rules out a writer that gives Err but
 // has begun to write, and one that writes a byte past the image.
-pub fn write(b: Book, buf: &mut [u8]) -> usize
-    ensures { (result ≡ write_answer b (length buf.old)) × (buf.new ≡ write_buffer b buf.old) }
+pub fn write(b: &Book, buf: &mut [u8]) -> Result<usize, NoRoom>
+    ensures value { MatchResult result
+        (λ n. (length_of b.now ≤ length buf.old) × (write_answer b.now (length buf.old) ≡ n))
+        (λ _. (length buf.old < length_of b.now) × (write_answer b.now (length buf.old) ≡ NO_ROOM)) }
+    ensures buf_after { buf.new ≡ write_buffer b.now buf.old }
+    ensures kept { OnErr result (buf.new ≡ buf.old) }
 {
-    let len = image_length(b.assetcount, b.entrycount);
-    if buf.len() < len {
-        return 30;
+    if buf.len() < image_length(b.assetcount, b.entrycount) {
+        return Err(NoRoom);
     }
     let a = at_most_64(b.assetcount);
     let n = at_most_64(b.entrycount);
-    let x = b.latest;
-    let o = put_header(buf, a as u8, n as u8, b.time, b.switch, x);
-    let ats = b.assets;
-    let o = put_assets(buf, o, ats, a);
-    let es = b.entries;
-    let o = put_entries(buf, o, es, n);
-    let ps = b.players;
-    put_players(buf, o, ps)
+    let o = put_header(buf, a as u8, n as u8, b.time, b.switch, b.latest);
+    let o = put_assets(buf, o, &b.assets, a);
+    let o = put_entries(buf, o, &b.entries, n);
+    Ok(put_players(buf, o, &b.players))
 }

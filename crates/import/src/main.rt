@@ -4,7 +4,7 @@
 
 use std::io;
 use std::rt::Clock;
-use xml_image::Imported;
+use xml_image::{ImportError, Imported};
 
 // One byte more than the longest text that the program takes: these bytes are enough to refuse a longer one.
 const TEXT: usize = 4194305;
@@ -27,41 +27,37 @@ fn report(rt: &impl Eprint, code: u8, elements: u16) {
 }
 
 // The first n bytes of the text, which are there.
-fn import_first(text: &[u8], n: usize, image: &mut [u8]) -> Imported {
-    if n < text.len() {
-        return xml_image::import_text(&text[..n], image);
-    }
-    xml_image::import_text(text, image)
+fn import_first(text: &[u8], n: usize, image: &mut [u8]) -> Result<Imported, ImportError> {
+    xml_image::import_text(text.get(..n).unwrap_or(text), image)
 }
 
 // Writes the image before the line, so that whoever reads the line has the image.
 fn answer(rt: &(impl Clock + Eprint + Print), text: &[u8], n: usize) {
     let mut image = [0u8; IMAGE];
-    let r = import_first(text, n, &mut image);
-    if r.code == 0 {
-        if !stream::send_first(
-            rt,
-            &mut io::writer(rt),
-            b"standard output",
-            &image,
-            r.length,
-        ) {
-            return;
+    match import_first(text, n, &mut image) {
+        Ok(r) => {
+            if stream::send_first(
+                rt,
+                &mut io::writer(rt),
+                b"standard output",
+                &image,
+                r.length,
+            ) {
+                report(rt, 0, r.elements);
+            }
         }
+        Err(e) => report(rt, u8::from(e), 0),
     }
-    report(rt, r.code, r.elements);
 }
 
 fn import_into(rt: &(impl Clock + Eprint + Input + Print), text: &mut [u8; TEXT]) {
-    let i = stream::read_all(rt, &mut rt.reader(), b"standard input", text);
-    if !i.good {
-        return;
+    if let Some(n) = stream::read_all(rt, &mut rt.reader(), b"standard input", text) {
+        if n < TEXT {
+            answer(rt, text, n);
+        } else {
+            too_long(rt);
+        }
     }
-    if TEXT <= i.length {
-        too_long(rt);
-        return;
-    }
-    answer(rt, text, i.length);
 }
 
 fn import(rt: &(impl Clock + Eprint + Input + Print)) {

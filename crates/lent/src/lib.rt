@@ -8,18 +8,11 @@ ghost use Rattle.model.specs.Meters.{shut};
 
 use book::Player;
 
-fn settled_player(p: Player, t: u32) -> Player
-    ensures { result ≡ shut t p }
-{
-    uses::shut_player(p, t)
-}
-
 // Rules out: a use that ends before its until, a last event that settling changes.
 fn settle_in_place(p: &mut Player, t: u32)
     ensures { p.new ≡ shut t p.old }
 {
-    let q = *p;
-    *p = settled_player(q, t);
+    *p = uses::shut_player(*p, t);
 }
 
 // What the event loops call to settle: their record is lent, closed in place, and handed back.

@@ -149,11 +149,6 @@ ones-on p m =
 
 -- ## What the functions cite
 
--- the rest behind p bits, and the rest behind one more
-pub rest-turn : (m p r : ℕ) → r ≡ m / 2 ^ p → r / 2 ≡ m / 2 ^ (p + 1)
-rest-turn m p r e =
-    ap (λ (k : ℕ). k / 2) e ∙ div-div-eq-div-mul m (2 ^ p) 2 ∙ ap (λ (k : ℕ). m / k) (rw add-one (sym (pow-suc 2 p)))
-
 -- the weight of a bit fits 32 bits
 pub weight-most : (p : ℕ) → p < 16 → 2 ^ p ≤ 32768
 weight-most p h = let q : p ≤ 15 = omega arith in pow_mono q

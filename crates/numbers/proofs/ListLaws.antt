@@ -1,14 +1,17 @@
 -- What a chain of iterators says of the first n elements of a table is what the definitions count up to n.
 use Rattle.std.specs.Prelude.{ℕ, zero, suc, ◌≤◌, ◌<◌, ◌≡◌, Bool, true, false, ◌&&◌, List, length, get_or, take, ltb}
-use Rattle.std.specs.List.{list_all, position_or_len}
-use Rattle.std.proofs.Common.{refl, sym, ap, ◌∙◌, arith, length-take-le}
+use Rattle.std.specs.List.{list_all, position_or_len, enumerate_from}
+use Rattle.std.proofs.Common.{refl, sym, ap, ap₂, ◌∙◌, arith, length-take-le, take_all}
 use Rattle.std.proofs.lemmas.List.{get_or-take}
 use Rattle.std.proofs.lemmas.List.Folds.{list_all_more}
 use native.Mathlib.Numerals.{add-one}
+use native.Mathlib.Nat.{zero-add}
+use Rattle.std.proofs.lemmas.List.FromFn.{length-enumerate_from, get_or-enumerate_from}
 use Rattle.std.proofs.lemmas.List.Sums.{position_or_len_is}
 use borrow.Author.Tests.{ltb-true, ltb-false}
 use Rattle.numbers.specs.Count.{all, first}
 use Rattle.numbers.proofs.Tests.{on_test, on_same}
+use Rattle.numbers.proofs.TableLaws.{all_same}
 
 pub list_all-all : {X : Type 0} (p : X → Bool) (xs : List X) (d : X) (n : ℕ) → n ≤ length xs →
     list_all p (take n xs) ≡ all (λ i. p (get_or xs i d)) n
@@ -65,3 +68,18 @@ position-first-of p xs d n h =
     position-first p (take n xs) d
     ∙ ap (first (λ i. p (get_or (take n xs) i d))) (length-take-le n xs h)
     ∙ first_same (λ i. p (get_or (take n xs) i d)) (λ i. p (get_or xs i d)) n (λ i l. ap p (get_or-take n xs i d l))
+
+-- ## Tests that also see the position
+
+pub list_all-enumerated : {X : Type 0} (q : ℕ → X → Bool) (xs : List X) (d : X) (n : ℕ) → n ≤ length xs
+    → list_all (λ (p : ℕ × X). q p.0 p.1) (enumerate_from 0 (take n xs)) ≡ all (λ i. q i (get_or xs i d)) n
+list_all-enumerated {X} q xs d n h =
+    let ys = take n xs in
+    let es = enumerate_from 0 ys in
+    let e : length ys ≡ n = length-take-le n xs h in
+    let l : length es ≡ n = length-enumerate_from 0 ys ∙ e in
+    let test : ℕ × X → Bool = λ p. q p.0 p.1 in
+    ap (list_all test) (sym (take_all n es (omega (arith, l))))
+    ∙ list_all-all test es (0, d) n (omega (arith, l))
+    ∙ all_same _ _ n (λ i k. ap test (get_or-enumerate_from 0 ys i (0, d) (omega (arith, e, k)))
+    ∙ ap₂ q (zero-add i) (get_or-take n xs i d k))

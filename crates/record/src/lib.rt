@@ -48,11 +48,9 @@ pub fn decode(s: &[u8]) -> Result<Event, EventError>
     }
     let asset = u16::from_be_bytes([s[10], s[11]]);
     let request = request_of(s[9], asset, s[12])?;
-    let boot = u32::from_be_bytes([s[1], s[2], s[3], s[4]]);
-    let counter = u32::from_be_bytes([s[5], s[6], s[7], s[8]]);
     Ok(Event {
         player: player,
-        number: numbers::join64(boot, counter),
+        number: u64::from_be_bytes([s[1], s[2], s[3], s[4], s[5], s[6], s[7], s[8]]),
         request: request,
         time: u32::from_be_bytes([s[13], s[14], s[15], s[16]]),
     })

@@ -9,6 +9,13 @@ ghost use Rattle.report.specs.Report.{raised_line, raised_at, taken_lines, given
 use book::{Line, blank_line};
 use numbers::pick;
 
+// A list as it is lent, by value: its first 64 lines, blank ones after the last, and how many were lent.
+#[derive(Clone, Copy, Debug, PartialEq, Eq)]
+pub struct Report {
+    pub lines: [Line; 64],
+    pub lent: usize,
+}
+
 // A sum that stops at the greatest number.
 #[tactic(auto, unfolding(model::specs::Report::sum64))]
 fn sum(a: u64, b: u64) -> u64

@@ -24,7 +24,7 @@ use book::{
     Admission, Answer, Ask, Event, EventError, Grounds, LATEST_TIME, Last, Latest, Limits, Meters,
     NO_END, Open, Player, Rank, Recent, Request,
 };
-use numbers::{one, ones, pick};
+use numbers::{ones, pick};
 
 // The three numbers of a request, as event records and images have them.
 #[derive(Clone, Copy)]
@@ -50,7 +50,7 @@ pub struct Flags {
 pub fn when(w: bool, v: u32) -> u32
     ensures { result ≡ where_flagged w v }
 {
-    if w { v } else { 0 }
+    pick(w, v, 0)
 }
 
 // Rules out: a kind or an asset for any request but a begin, two operations with the same number.
@@ -92,19 +92,17 @@ fn same_request(last: Last, q: Request) -> bool
     (w.operation == last.operation) & (w.asset == last.asset) & (w.kind == last.kind)
 }
 
-// "only the largest 64-bit number has none after it"
-const LARGEST_NUMBER: u64 = u64::MAX;
-
-// Whether a number is in line after the player's last one: the next number, or counter 1 under a greater boot number.
+// Whether a number is in line after the player's last one: the next number, or counter 1 under a greater boot number; "only the largest
+// 64-bit number has none after it".
 // Rules out: counter 2 under a greater boot number, counter 0 there unless it is the next number, counter 1 again under the same boot
 // number or under a smaller one, a number after the largest.
 fn in_line(last: Last, number: u64) -> bool
     ensures { result ≡ in_line last number }
 {
-    if last.number == LARGEST_NUMBER {
+    let Some(next) = last.number.checked_add(1) else {
         return false;
-    }
-    if last.number + 1 == number {
+    };
+    if next == number {
         return true;
     }
     // With counter 1, and not the next one, a greater number is one with a greater boot number.
@@ -163,7 +161,7 @@ pub fn latest_by(player: u8, started: bool) -> Latest
 {
     Latest {
         player: player as u32 + 1,
-        started: one(started) as u32,
+        started: u32::from(started),
     }
 }
 
@@ -324,13 +322,7 @@ pub fn last_moment(l: Limits, m: Meters) -> u64
 pub fn ranks_before(a: Rank, b: Rank) -> bool
     ensures { result ≡ ranks_before a b }
 {
-    if !(a.flags == b.flags) {
-        return a.flags < b.flags;
-    }
-    if !(a.last == b.last) {
-        return a.last < b.last;
-    }
-    a.inherited < b.inherited
+    (a.flags, a.last, a.inherited) < (b.flags, b.last, b.inherited)
 }
 
 // Rules out: a cap applied without its flag, the larger of the two.

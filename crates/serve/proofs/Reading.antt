@@ -133,11 +133,11 @@ module _ (b₀ : Book) (ls : List Line) (b : Book) (lines : List Line) (lent : �
     (fits : kept + got ≤ length buf) (written_value : written ≡ written_after b lines lent buf n ended)
     (outs_value : outs ≡ out_after b lines lent buf n ended out) (before : Reading b₀ ls b lines lent (take kept old) r₀ w₀ r w)
     (taken : Consumes r r' (take got (drop kept buf))) (put : Appends w w' (take written outs)) where
-  pub turn_goes_on : (b' : Book) (lines' : List Line) (kept' : ℕ) (input' : List ℕ) → ended ≡ false → b' ≡ book_after b lines lent buf n ended
-      → lines' ≡ lines_after b lines lent buf n ended → kept' ≡ kept_after buf n ended → input' ≡ input_after buf n ended
-      → Reading b₀ ls b' lines' lent (take kept' input') r₀ w₀ r' w'
-  turn_goes_on b' lines' kept' input' e eb el ek ei =
-      rw (eb, el, ek, ei, e)
+  pub turn_goes_on : (b' : Book) (lines' : List Line) (lent' kept' : ℕ) (input' : List ℕ) → ended ≡ false → b' ≡ book_after b lines lent buf n ended
+      → lines' ≡ lines_after b lines lent buf n ended → lent' ≡ lent → kept' ≡ kept_after buf n ended → input' ≡ input_after buf n ended
+      → Reading b₀ ls b' lines' lent' (take kept' input') r₀ w₀ r' w'
+  turn_goes_on b' lines' lent' kept' input' e eb el en ek ei =
+      rw (eb, el, en, ek, ei, e)
       (goes_on b₀ ls b lines lent old buf out kept got n r₀ w₀ r w r' w' there same fits before taken (rw (written_value, outs_value, e) at put))
 
   pub turn_ends : ended ≡ true → got ≡ 0 → IsAtEnd r' → IfSome r₀ (λ xs. Appends w₀ w' (run_text b₀ ls xs))

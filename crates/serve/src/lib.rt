@@ -8,7 +8,8 @@ ghost use Rattle.std.specs.Prelude.{◌≡◌, ◌+◌, ◌<◌, ◌≤◌, leng
 ghost use Rattle.std.specs.Io.KnownBytes.{Appends, Consumes, IsAtEnd};
 ghost use Rattle.serve.specs.Answers.{Answers};
 
-use book::{Book, Line, at_most_64};
+use book::Book;
+use report::Report;
 use std::fs;
 use std::io::{self, Cursor, ErrorKind, Read, Write};
 use std::rt::{Clock, Env, Files};
@@ -17,7 +18,7 @@ use turn::{IMAGE, INPUT, OUT};
 // Reads rights.rbk to the start of image, and returns how many bytes. A missing file counts as empty, and so does one that cannot be read.
 fn read_image(rt: &(impl Clock + Eprint + Files), image: &mut [u8; IMAGE]) -> usize {
     match fs::open(rt, "rights.rbk") {
-        Ok(mut file) => stream::read_all(rt, &mut file, b"rights.rbk", image).length,
+        Ok(mut file) => stream::read_all(rt, &mut file, b"rights.rbk", image).unwrap_or(0),
         Err(e) => {
             if e.kind() != ErrorKind::NotFound {
                 stream::fail(rt, b"rights.rbk", e);
@@ -59,30 +60,30 @@ fn print_first<W: Write>(rt: &(impl Clock + Eprint), writer: &mut W, out: &[u8],
     stream::send(rt, writer, b"standard output", &out[..n])
 }
 
-// Answers each read until the input ends, and then returns true. An incomplete record is kept and completed by the next read; the lines
-// of the report are handed on from read to read.
+// Answers each read until the input ends, and then returns true. An incomplete record is kept and completed by the next read; the report is
+// handed on from read to read.
 // Nothing guarantees that the input ends either: this loop counts to a number that no run uses up, too.
 fn answer_reads<R: Read, W: Write>(
     rt: &(impl Clock + Eprint),
     reader: &mut R,
     writer: &mut W,
     b: Book,
-    first: [Line; 64],
-    lent: usize,
+    first: Report,
     input: &mut [u8; INPUT],
     out: &mut [u8; OUT],
 ) -> bool
-    ensures { IsTrue result → Answers b first lent (R.remaining reader.old) (W.contents writer.old) (W.contents writer.new) }
+    ensures { IsTrue result → Answers b first.lines first.lent (R.remaining reader.old) (W.contents writer.old) (W.contents writer.new) }
 {
     let mut book = b;
-    let mut lines = first;
+    let mut report = first;
     let mut kept: usize = 0;
     for _ in 0..u64::MAX {
         match read_behind(rt, reader, input, kept) {
             Ok(got) => {
                 let ended = got == 0;
-                let there = stream::filled(input, kept, got.cast_signed());
-                let t = turn::turn(book, lines, lent, input, there, ended, out);
+                let Some(t) = turn::turn(book, report, input, kept + got, ended, out) else {
+                    return false;
+                };
                 if !print_first(rt, writer, out, t.written) {
                     return false;
                 }
@@ -90,7 +91,7 @@ fn answer_reads<R: Read, W: Write>(
                     return true;
                 }
                 book = t.book;
-                lines = t.lines;
+                report = t.report;
                 kept = t.kept;
             }
             Err(e) => {
@@ -112,7 +113,6 @@ fn answer_all(rt: &(impl Clock + Eprint + Input + Print), b: Book) {
         &mut io::writer(rt),
         b,
         turn::zero_lines(b),
-        at_most_64(b.assetcount),
         &mut input,
         &mut out,
     );
@@ -131,11 +131,8 @@ pub fn serve(rt: &(impl Clock + Env + Eprint + Files + Input + Print)) {
     }
     let mut image = [0u8; IMAGE];
     let n = read_image(rt, &mut image);
-    let l = turn::load(&image, n);
-    if l.code != 0 {
-        print_refusal(rt, l.code);
-        return;
+    match turn::load(&image, n) {
+        Ok(b) => answer_all(rt, b),
+        Err(e) => print_refusal(rt, u8::from(e)),
     }
-    let b = l.book;
-    answer_all(rt, b);
 }

@@ -3,7 +3,7 @@
 // contracts say that no byte is lost, doubled or moved; of every one, that neither of the two is handed on as a failure.
 #![tactic(auto)]
 
-ghost use Rattle.std.specs.Prelude.{◌≡◌, ◌≢◌, ℕ, ◌+◌, ◌<◌, ◌≤◌, ◌↔◌, ◌⊎◌, pos, length, take, drop, IfOk, IfErr, OnOk, OnErr, IsTrue, false};
+ghost use Rattle.std.specs.Prelude.{◌≡◌, ◌≢◌, ◌+◌, ◌<◌, ◌≤◌, ◌↔◌, ◌⊎◌, length, take, drop, IfOk, IfErr, IfSome, OnOk, OnErr, IsTrue};
 ghost use Rattle.std.specs.Io.KnownBytes.{Appends, Consumes, IsAtEnd, Keeps, WriteAppends};
 ghost use Rattle.std.specs.IoError.{error_kind};
 
@@ -11,13 +11,6 @@ use std::env::FillError;
 use std::io::{Cursor, Error, ErrorKind, Read, Result, Write};
 use std::rt::{Clock, Env};
 use std::str;
-
-// What was read of an input: all of it, or as much as there was room for; good is false if a read failed.
-#[derive(Clone, Copy)]
-pub struct Input {
-    pub good: bool,
-    pub length: usize,
-}
 
 // Whether to retry a read or a write that failed: a non-blocking descriptor was not ready yet, or a
 // signal came first.
@@ -74,63 +67,31 @@ pub fn read_more<R: Read>(
     Err(Error::from(ErrorKind::TimedOut))
 }
 
-// A count brought into what s has room for: 0 for a negative one.
-fn count(got: isize, s: &[u8]) -> usize
-    ensures bound { result ≤ length s.now }
-    ensures value { (n : ℕ) → got ≡ pos n → n ≤ length s.now → result ≡ n }
-{
-    usize::try_from(got).unwrap_or(0).min(s.len())
-}
-
-// How many bytes s holds after appending `got` bytes to the first ones.
-pub fn filled(s: &[u8], from: usize, got: isize) -> usize
-    ensures bound { result ≤ length s.now }
-    ensures value { (n : ℕ) → got ≡ pos n → from + n ≤ length s.now → result ≡ from + n }
-{
-    if from > s.len() {
-        return s.len();
-    }
-    from + count(got, &s[from..])
-}
-
-// Reads the input to the start of s until it ends or s is full. Standard error says why a read failed.
+// Reads the input to the start of s until it ends or s is full, and returns how many bytes that is. None if a read failed: standard
+// error says why.
+#[tactic(auto, using(crate::proofs::Steps::consumes_more))]
 pub fn read_all<R: Read>(
     rt: &(impl Clock + Eprint),
     input: &mut R,
     name: &[u8],
     s: &mut [u8],
-) -> Input
-    ensures bound { result.length ≤ length s.new }
-    ensures bytes { IsTrue result.good → Consumes (R.remaining input.old) (R.remaining input.new) (take result.length s.new) }
-    ensures end { IsTrue result.good → result.length < length s.new → IsAtEnd (R.remaining input.new) }
-    ensures failed { result.good ≡ false → result.length ≡ 0 }
+) -> Option<usize>
+    ensures bound { IfSome result (λ n. n ≤ length s.new) }
+    ensures bytes { IfSome result (λ n. Consumes (R.remaining input.old) (R.remaining input.new) (take n s.new)) }
+    ensures end { IfSome result (λ n. n < length s.new → IsAtEnd (R.remaining input.new)) }
 {
     let mut n: usize = 0;
     while n < s.len() {
         match read_more(rt, input, s, n) {
-            Ok(got) => {
-                let there = filled(s, n, got.cast_signed());
-                if there <= n {
-                    return Input {
-                        good: true,
-                        length: n,
-                    };
-                }
-                n = there;
-            }
+            Ok(0) => return Some(n),
+            Ok(got) => n = n + got,
             Err(e) => {
                 fail(rt, name, e);
-                return Input {
-                    good: false,
-                    length: 0,
-                };
+                return None;
             }
         }
     }
-    Input {
-        good: true,
-        length: n,
-    }
+    Some(n)
 }
 
 // One write of text from an offset: how many bytes were written.
@@ -143,6 +104,7 @@ fn write_once<W: Write>(output: &mut W, text: &[u8], from: usize) -> Result<usiz
 }
 
 // Writes all of text, in as many writes as it takes.
+#[tactic(auto, using(crate::proofs::Steps::appends_more, crate::proofs::Steps::appends_same))]
 fn write_text<W: Write>(clock: &impl Clock, output: &mut W, text: &[u8]) -> Result<()>
     ensures ok { OnOk result (Appends (W.contents output.old) (W.contents output.new) text.now) }
     ensures retried { IfErr result (λ e. (error_kind e ≢ ErrorKind.WouldBlock) × (error_kind e ≢ ErrorKind.Interrupted)) }
@@ -154,7 +116,7 @@ fn write_text<W: Write>(clock: &impl Clock, output: &mut W, text: &[u8]) -> Resu
         }
         match write_once(output, text, done) {
             Ok(0) => return Err(Error::from(ErrorKind::WriteZero)),
-            Ok(put) => done = filled(text, done, put.cast_signed()),
+            Ok(put) => done = done + put,
             Err(e) => {
                 if !waited(clock, e) {
                     return Err(e);

@@ -30,37 +30,12 @@ fn print_bytes(rt: &impl Print, s: &[u8], n: usize) -> io::Result<()> {
     Ok(())
 }
 
-fn same_bytes(a: &[u8], b: &[u8]) -> bool {
-    if a.len() != b.len() {
-        return false;
-    }
-    let mut i: usize = 0;
-    while i < a.len() {
-        if a[i] != b[i] {
-            return false;
-        }
-        i = i + 1;
-    }
-    true
-}
-
-// Whether both books are written as the same bytes.
-fn same_book(a: Book, b: Book) -> bool {
-    let mut left = [0u8; IMAGE];
-    let mut right = [0u8; IMAGE];
-    let n = image_write::write(a, &mut left);
-    let m = image_write::write(b, &mut right);
-    if n != m {
-        return false;
-    }
-    same_bytes(&left, &right)
-}
-
 fn print_accepted(rt: &impl Print, b: Book) -> io::Result<()> {
     let mut back = [0u8; IMAGE];
-    let n = image_write::write(b, &mut back);
     print!(rt; "0 ")?;
-    print_bytes(rt, &back, n)?;
+    if let Ok(n) = image_write::write(&b, &mut back) {
+        print_bytes(rt, &back, n)?;
+    }
     println!(rt; "")
 }
 
@@ -74,14 +49,11 @@ fn print_refused(rt: &impl Print, code: u8, kept: bool) -> io::Result<()> {
 
 // Prints the line for one image and returns the book held from then on.
 fn answer(rt: &impl Print, held: Book, image: &[u8]) -> io::Result<Book> {
-    let got = image_read::read(held, image);
-    let code = got.code;
-    let after = got.book;
-    if code == 0 {
-        print_accepted(rt, after)?;
-        return Ok(after);
+    let mut after = held;
+    match image_read::read(&mut after, image) {
+        Ok(()) => print_accepted(rt, after)?,
+        Err(e) => print_refused(rt, u8::from(e), after == held)?,
     }
-    print_refused(rt, code, same_book(held, after))?;
     Ok(after)
 }
 

@@ -6,273 +6,155 @@
 #![tactic(auto)]
 
 use book::{Book, Line, RECORD_SIZE};
-use image_read::Loaded;
+use report::Report;
 use std::fs;
 use std::io::{self, Read};
 use text::put_line;
 
 const BUFFER: usize = 65536;
 
-#[derive(Clone, Copy)]
-struct Head {
-    more: bool,
-    number: usize,
-}
-
-#[derive(Clone, Copy)]
-struct Lent {
-    lines: [Line; 64],
-    count: usize,
-}
-
-// What is left for the next case.
-#[derive(Clone, Copy)]
-struct Next {
-    more: bool,
-    book: Book,
-    list: Lent,
-}
-
 // The number in the next four bytes of the file, if there are that many.
-fn read_head<F: Read>(file: &mut F) -> Head {
+fn read_head<F: Read>(file: &mut F) -> Option<usize> {
     let mut h = [0u8; 4];
-    let more = file.read_exact(&mut h).is_ok();
-    Head {
-        more: more,
-        number: numbers::join32(h[0], h[1], h[2], h[3]) as usize,
-    }
+    file.read_exact(&mut h).ok()?;
+    Some(u32::from_be_bytes(h) as usize)
 }
 
 // The number in the next eight bytes of the file.
 fn read_number<F: Read>(file: &mut F) -> u64 {
     let mut h = [0u8; 8];
     let _ = file.read_exact(&mut h);
-    let high = numbers::join32(h[0], h[1], h[2], h[3]);
-    let low = numbers::join32(h[4], h[5], h[6], h[7]);
-    numbers::join64(high, low)
+    u64::from_be_bytes(h)
 }
 
 fn read_line<F: Read>(file: &mut F) -> Line {
-    let content = read_number(file);
-    let times = read_number(file);
-    let seconds = read_number(file);
     Line {
-        content: content,
-        times: times,
-        seconds: seconds,
+        content: read_number(file),
+        times: read_number(file),
+        seconds: read_number(file),
     }
 }
 
 // The next lines of the file, the first 64 of count.
 fn read_lines<F: Read>(file: &mut F, count: usize) -> [Line; 64] {
-    let n = numbers::min_size(count, 64);
     let mut lines = [book::blank_line(); 64];
-    let mut k: usize = 0;
-    while k < n {
-        let l = read_line(file);
-        lines[k] = l;
-        k = k + 1;
+    for l in lines.iter_mut().take(count) {
+        *l = read_line(file);
     }
     lines
 }
 
-// Reads the next n bytes of the file to the start of buf. False if buf has no room for them or the file ends first.
-fn fill<F: Read>(file: &mut F, n: usize, buf: &mut [u8]) -> bool {
-    if n <= buf.len() {
-        return file.read_exact(&mut buf[..n]).is_ok();
+// The next n bytes of the file, read to the start of buf. None if buf has no room for them or the file ends first.
+fn read_bytes<'a, F: Read>(file: &mut F, n: usize, buf: &'a mut [u8]) -> Option<&'a [u8]> {
+    if buf.len() < n {
+        return None;
     }
-    false
-}
-
-// Reads the image in the first n bytes of buf; none is the book held.
-fn load(held: Book, n: usize, buf: &[u8]) -> Loaded {
-    if n == 0 {
-        return Loaded {
-            code: 0,
-            book: held,
-        };
-    }
-    if n <= buf.len() {
-        return image_read::read(held, &buf[..n]);
-    }
-    image_read::read(held, buf)
-}
-
-fn same_line(x: Line, y: Line) -> bool {
-    (x.content == y.content) & (x.times == y.times) & (x.seconds == y.seconds)
-}
-
-fn same_lines(a: [Line; 64], b: [Line; 64]) -> bool {
-    let mut same = true;
-    let mut k: usize = 0;
-    while k < 64 {
-        let x = a[k];
-        let y = b[k];
-        let w = same_line(x, y);
-        same = same & w;
-        k = k + 1;
-    }
-    same
-}
-
-fn same(a: &[u8], b: &[u8]) -> bool {
-    if a.len() != b.len() {
-        return false;
-    }
-    let mut i: usize = 0;
-    while i < a.len() {
-        if a[i] != b[i] {
-            return false;
-        }
-        i = i + 1;
-    }
-    true
-}
-
-// Writes the first n bytes of text.
-fn send(rt: &impl Print, text: &[u8], n: usize) -> io::Result<()> {
-    if n <= text.len() {
-        rt.write_all(&text[..n])?;
-    }
-    Ok(())
+    file.read_exact(&mut buf[..n]).ok()?;
+    Some(&buf[..n])
 }
 
 // Whether the record as a block of its own leaves the same text and the same lines. Bytes that are no record, or more than one, are left
 // out: a block splits them.
-fn same_block(
-    b: Book,
-    record: &[u8],
-    lines: [Line; 64],
-    lent: usize,
-    line: &[u8],
-    after: [Line; 64],
-) -> bool {
+fn same_block(b: Book, record: &[u8], list: Report, line: [u8; 19], after: [Line; 64]) -> bool {
     let n = record.len();
     if (n == 0) | (RECORD_SIZE < n) {
         return true;
     }
     let mut out = [0u8; 19];
-    let r = batch::answer_block(b, record, &mut out, lines, lent);
-    let left = r.lines;
-    same(&out, line) & same_lines(left, after)
+    let r = batch::answer_block(b, record, &mut out, list.lines, list.lent);
+    (out == line) & (r.lines == after)
 }
 
-// The answer to a record that is lent these lines.
+// The answer to a record that is lent a list.
 fn answer(
     rt: &impl Print,
     b: Book,
     record: &[u8],
-    lines: [Line; 64],
-    lent: usize,
+    list: Report,
     expected: [Line; 64],
 ) -> io::Result<()> {
     let mut line = [0u8; 19];
-    let o = step::step_lines(b, record, lines, lent);
-    let a = o.answer;
-    let n = put_line(&mut line, 0, a);
-    send(rt, &line, n)?;
-    let after = o.lines;
-    if !same_lines(after, expected) {
+    let o = step::step_lines(b, record, list.lines, list.lent);
+    let n = put_line(&mut line, 0, o.answer);
+    rt.write_all(&line[..n])?;
+    if o.lines != expected {
         println!(rt; "another list")?;
     }
-    if !same_block(b, record, lines, lent, &line, after) {
+    if !same_block(b, record, list, line, o.lines) {
         println!(rt; "another block")?;
     }
     Ok(())
 }
 
-// The answer to the record in the first n bytes of buf.
-fn answer_first(
-    rt: &impl Print,
-    b: Book,
-    n: usize,
-    buf: &[u8],
-    lines: [Line; 64],
-    lent: usize,
-    expected: [Line; 64],
-) -> io::Result<()> {
-    if n <= buf.len() {
-        answer(rt, b, &buf[..n], lines, lent, expected)?;
-    }
-    Ok(())
-}
-
 // The next list of the file, or the one before.
-fn read_list<F: Read>(file: &mut F, before: Lent) -> Lent {
-    let follows = read_head(file);
-    if follows.number == 0 {
+fn read_list<F: Read>(file: &mut F, before: Report) -> Report {
+    if read_head(file).unwrap_or(0) == 0 {
         return before;
     }
-    let count = read_head(file);
-    let lines = read_lines(file, count.number);
-    Lent {
-        lines: lines,
-        count: count.number,
+    let count = read_head(file).unwrap_or(0);
+    Report {
+        lines: read_lines(file, count),
+        lent: count,
     }
 }
 
 // The lines after a record, if it changes them.
-fn read_after<F: Read>(file: &mut F, lines: [Line; 64], count: usize) -> [Line; 64] {
-    let changed = read_head(file);
-    if changed.number == 0 {
-        return lines;
+fn read_after<F: Read>(file: &mut F, list: Report) -> [Line; 64] {
+    if read_head(file).unwrap_or(0) == 0 {
+        return list.lines;
     }
-    read_lines(file, count)
+    read_lines(file, list.lent)
 }
 
-// Answers the next case, if there is one.
-fn one_case<F: Read>(rt: &impl Print, file: &mut F, held: Book, before: Lent) -> io::Result<Next> {
-    let first = read_head(file);
-    if !first.more {
-        return Ok(Next {
-            more: false,
-            book: held,
-            list: before,
-        });
-    }
+// What is left of the image and the record of a case behind the length of the image. None if the file ends first or one is too long.
+fn read_case<'a, F: Read>(
+    file: &mut F,
+    n: usize,
+    image: &'a mut [u8],
+    record: &'a mut [u8],
+) -> Option<(&'a [u8], &'a [u8])> {
+    let first = read_bytes(file, n, image)?;
+    let m = read_head(file)?;
+    let second = read_bytes(file, m, record)?;
+    Some((first, second))
+}
+
+// Answers the next case, if there is one, on the book and with the list of the case before where it brings none.
+fn one_case<F: Read>(
+    rt: &impl Print,
+    file: &mut F,
+    held: &mut Book,
+    list: &mut Report,
+) -> io::Result<bool> {
+    let Some(n) = read_head(file) else {
+        return Ok(false);
+    };
     let mut image = [0u8; BUFFER];
     let mut record = [0u8; BUFFER];
-    let has_image = fill(file, first.number, &mut image);
-    let second = read_head(file);
-    let has_record = fill(file, second.number, &mut record);
-    if !(has_image & second.more & has_record) {
+    let Some((image, record)) = read_case(file, n, &mut image, &mut record) else {
         println!(rt; "cut short or too long")?;
-        return Ok(Next {
-            more: false,
-            book: held,
-            list: before,
-        });
+        return Ok(false);
+    };
+    if !image.is_empty() {
+        let _ = image_read::read(held, image);
     }
-    let l = load(held, first.number, &image);
-    let b = l.book;
-    let list = read_list(file, before);
-    let lines = list.lines;
-    let expected = read_after(file, lines, list.count);
-    answer_first(rt, b, second.number, &record, lines, list.count, expected)?;
-    Ok(Next {
-        more: true,
-        book: b,
-        list: list,
-    })
+    *list = read_list(file, *list);
+    let expected = read_after(file, *list);
+    answer(rt, *held, record, *list, expected)?;
+    Ok(true)
 }
 
 // A proved loop has to end, and nothing guarantees that a file does: no more cases than this are read.
 fn cases<F: Read>(rt: &impl Print, file: &mut F) -> io::Result<()> {
-    let mut t = Next {
-        more: true,
-        book: book::blank_book(),
-        list: Lent {
-            lines: [book::blank_line(); 64],
-            count: 0,
-        },
+    let mut held = book::blank_book();
+    let mut list = Report {
+        lines: [book::blank_line(); 64],
+        lent: 0,
     };
     for _ in 0..1000000 {
-        if !t.more {
+        if !one_case(rt, file, &mut held, &mut list)? {
             break;
         }
-        let held = t.book;
-        let before = t.list;
-        t = one_case(rt, file, held, before)?;
     }
     Ok(())
 }

@@ -4,25 +4,18 @@
 
 use std::fs;
 use std::io::{self, Read};
-use xml_image::Imported;
+use xml_image::{ImportError, Imported};
 
 const IMAGE: usize = 5399;
 
 const BUFFER: usize = 65536;
 
-#[derive(Clone, Copy)]
-struct Head {
-    more: bool,
-    length: usize,
-}
-
 // The length in the next four bytes of the file, if there are that many.
-fn read_head<F: Read>(file: &mut F) -> Head {
+fn read_length<F: Read>(file: &mut F) -> Option<usize> {
     let mut h = [0u8; 4];
-    let more = file.read_exact(&mut h).is_ok();
-    Head {
-        more: more,
-        length: numbers::join32(h[0], h[1], h[2], h[3]) as usize,
+    match file.read_exact(&mut h) {
+        Ok(_) => Some(u32::from_be_bytes(h) as usize),
+        Err(_) => None,
     }
 }
 
@@ -46,13 +39,21 @@ fn print_bytes(rt: &impl Print, s: &[u8], n: usize) -> io::Result<()> {
 }
 
 // Prints the line of a text and the image of its book.
-fn print_line(rt: &impl Print, r: Imported, image: &[u8]) -> io::Result<()> {
-    let code = r.code;
-    print!(rt; "{code}")?;
-    if code == 0 {
-        let elements = r.elements;
-        print!(rt; " {elements} ")?;
-        print_bytes(rt, image, r.length)?;
+fn print_line(
+    rt: &impl Print,
+    read: Result<Imported, ImportError>,
+    image: &[u8],
+) -> io::Result<()> {
+    match read {
+        Ok(r) => {
+            let elements = r.elements;
+            print!(rt; "0 {elements} ")?;
+            print_bytes(rt, image, r.length)?;
+        }
+        Err(e) => {
+            let code = u8::from(e);
+            print!(rt; "{code}")?;
+        }
     }
     println!(rt; "")
 }
@@ -74,13 +75,12 @@ fn judge(rt: &impl Print, n: usize, buf: &[u8]) -> io::Result<()> {
 
 // One case: its length in four bytes, then the text. Whether there was one.
 fn one_case<F: Read>(rt: &impl Print, file: &mut F) -> io::Result<bool> {
-    let h = read_head(file);
-    if !h.more {
+    let Some(n) = read_length(file) else {
         return Ok(false);
-    }
+    };
     let mut buf = [0u8; BUFFER];
-    fill(file, h.length, &mut buf);
-    judge(rt, h.length, &buf)?;
+    fill(file, n, &mut buf);
+    judge(rt, n, &buf)?;
     Ok(true)
 }
 

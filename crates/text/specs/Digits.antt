@@ -1,11 +1,12 @@
 -- Laws of decimal digits: how many a number has, one or two digits fewer, and digits written into a buffer, one by one from last to
 -- first, or two at a time.
-use Rattle.std.specs.Prelude.{ℕ, zero, suc, ◌+◌, ◌-◌, ◌*◌, ◌/◌, ◌%◌, ◌<◌, ◌≤◌, ◌^◌, ◌≡◌, refl, true, ◌&&◌, ◌⊎◌, List, [], ◌∷◌, ◌++◌, length, get_or, set, take, drop, eqb}
-use Rattle.std.proofs.Common.{zero-le, suc-le-suc, sym, ap, ap₂, ◌∙◌, inl, inr, ⊎_elim, append_assoc, append-nil, add-one, arith, length-append, length-take, length-drop, length-take-le, drop-cons, take-suc, lt-ltb, le-ltb, eqb-true}
+use Rattle.std.specs.Prelude.{ℕ, zero, suc, ◌+◌, ◌*◌, ◌/◌, ◌%◌, ◌<◌, ◌≤◌, ◌^◌, ◌≡◌, refl, true, ◌&&◌, ◌⊎◌, List, [], ◌∷◌, ◌++◌, length, get_or, set, take, drop, eqb}
+use Rattle.std.proofs.Common.{zero-le, suc-le-suc, sym, ap, ap₂, ◌∙◌, inl, inr, ⊎_elim, append_assoc, append-nil, add-one, arith, length-append, length-take, length-drop, length-take-le, drop-cons, drop-drop, take-suc, lt-ltb, le-ltb, eqb-true}
 use Rattle.std.proofs.Math.Nat.{pow-succ', one-le-pow}
 use Rattle.std.proofs.lemmas.List.{set_at, set_split}
 use Rattle.std.proofs.Math.Seq.{append_snoc, take-length, drop-length}
 use Rattle.model.proofs.Ledger.Facts.{and_left, and_right}
+use borrow.Rule.Slice.PartMut.{put_mid}
 use Rattle.numbers.specs.Buffer.{lay}
 use Rattle.numbers.proofs.BufferLaws.{lay-nil, lay-lay}
 use Rattle.book.specs.declared.Answer.{Answer}
@@ -261,11 +262,10 @@ pub two-laid : (l : List ℕ) (at n : ℕ) → at + 2 ≤ length l → set (set 
 unfolding two written
 two-laid l at n h = bytes-laid l at (48 + n / 10) ((48 + n % 10) ∷ []) (omega arith)
 
-pub refused-laid : (l : List ℕ) (at : ℕ) → at + 7 ≤ length l → set
-    (set (set (set (set (set (set l at 32) (at + 1) 50) (at + 2) 53) (at + 3) 53) (at + 4) 32) (at + 5) 48) (at + 6) 10 ≡ lay l at
-    refused_end
-unfolding refused_end decimal decimal_in written
-refused-laid l at h = bytes-laid l at 32 (50 ∷ 53 ∷ 53 ∷ 32 ∷ 48 ∷ 10 ∷ []) (omega arith)
+-- bytes copied over a part of their length
+pub part-laid : (l : List ℕ) (at k : ℕ) (s : List ℕ) → length s ≡ k → put_mid at k l s ≡ lay l at s
+unfolding lay
+part-laid l at k s e = rw (e, drop-drop k at l) (sym (append_assoc (take at l) s (drop (at + k) l)))
 
 -- a number of one digit, of two, of three, and of ten
 pub one-laid : (l : List ℕ) (at n : ℕ) → n < 10 → at < length l → set l at (48 + n) ≡ lay l at (decimal n)
@@ -305,7 +305,7 @@ ten-laid l at n lo hi room =
     )
     refl
 
-refused-length : length refused_end ≡ 7
+pub refused-length : length refused_end ≡ 7
 unfolding refused_end decimal decimal_in
 refused-length = refl
 

@@ -14,34 +14,10 @@ use book::Answer;
 fn places(n: u32) -> usize
     ensures { result ≡ length (decimal n) }
 {
-    if n < 10 {
-        return 1;
+    match n.checked_ilog10() {
+        Some(k) => k as usize + 1,
+        None => 1,
     }
-    if n < 100 {
-        return 2;
-    }
-    if n < 1000 {
-        return 3;
-    }
-    if n < 10000 {
-        return 4;
-    }
-    if n < 100000 {
-        return 5;
-    }
-    if n < 1000000 {
-        return 6;
-    }
-    if n < 10000000 {
-        return 7;
-    }
-    if n < 100000000 {
-        return 8;
-    }
-    if n < 1000000000 {
-        return 9;
-    }
-    10
 }
 
 // Puts two digits, the first of which may be 0.
@@ -70,7 +46,7 @@ fn put_ten(out: &mut [u8], at: usize, n: u32)
 }
 
 // Puts the digits of n into out at offset `at`, and returns the end offset.
-// If there are not ten of them, they are counted, then put from last to first.
+// If they are neither ten nor at most three, they are counted, then put from last to first.
 fn put_number(out: &mut [u8], at: usize, n: u32) -> usize
     requires { at + length (decimal n) ≤ length out.old }
     ensures { (result ≡ at + length (decimal n)) × (out.new ≡ lay out.old at (decimal n)) }
@@ -79,33 +55,26 @@ fn put_number(out: &mut [u8], at: usize, n: u32) -> usize
         put_ten(out, at, n);
         return at + 10;
     }
-    let count = places(n);
-    let mut left = count;
-    let mut rest = n;
-    while 0 < left {
-        left = left - 1;
-        out[at + left] = (48 + rest % 10) as u8;
-        rest = rest / 10;
-    }
-    at + count
-}
-
-// The same for a byte, such as a code or an entry, without a loop.
-fn put_byte(out: &mut [u8], at: usize, n: u8) -> usize
-    requires { at + length (decimal n) ≤ length out.old }
-    ensures { (result ≡ at + length (decimal n)) × (out.new ≡ lay out.old at (decimal n)) }
-{
     if n < 10 {
-        out[at] = 48 + n;
+        out[at] = (48 + n) as u8;
         return at + 1;
     }
     if n < 100 {
-        put_two(out, at, n as u32);
+        put_two(out, at, n);
         return at + 2;
     }
-    out[at] = 48 + n / 100;
-    put_two(out, at + 1, (n % 100) as u32);
-    at + 3
+    if n < 1000 {
+        out[at] = (48 + n / 100) as u8;
+        put_two(out, at + 1, n % 100);
+        return at + 3;
+    }
+    let count = places(n);
+    let mut rest = n;
+    for i in 0..count {
+        out[at + (count - 1 - i)] = (48 + rest % 10) as u8;
+        rest = rest / 10;
+    }
+    at + count
 }
 
 // Puts the rest of a refusal's line, after the code: entry 255 and until 0.
@@ -113,13 +82,7 @@ fn put_refused(out: &mut [u8], at: usize)
     requires { at + 7 ≤ length out.old }
     ensures { out.new ≡ lay out.old at refused_end }
 {
-    out[at] = 32;
-    out[at + 1] = 50;
-    out[at + 2] = 53;
-    out[at + 3] = 53;
-    out[at + 4] = 32;
-    out[at + 5] = 48;
-    out[at + 6] = 10;
+    out[at..at + 7].copy_from_slice(b" 255 0\n");
 }
 
 // Rules out: a digit, a space or the line's end left out, leading zeros, a byte touched past the line, and a line begun where it may
@@ -133,13 +96,13 @@ pub fn put_line(out: &mut [u8], at: usize, a: Answer) -> usize
     if out.len() - 19 < at {
         return at;
     }
-    let first = put_byte(out, at, a.code);
+    let first = put_number(out, at, a.code as u32);
     if (a.entry == 255) & (a.until == 0) {
         put_refused(out, first);
         return first + 7;
     }
     out[first] = 32;
-    let second = put_byte(out, first + 1, a.entry);
+    let second = put_number(out, first + 1, a.entry as u32);
     out[second] = 32;
     let third = put_number(out, second + 1, a.until);
     out[third] = 10;

@@ -3,12 +3,11 @@
 #![tactic(auto)]
 
 ghost use Rattle.std.specs.Prelude.{◌≡◌};
-ghost use Rattle.numbers.specs.Count.{one};
 ghost use Rattle.model.specs.Image.{newest, asset_values, entry_values};
 ghost use Rattle.views.specs.Views.{book_values, ground_values, left, left_values, player_view, view_time};
 
 use book::{Ask, Asset, Book, Entry, Player, at_most_64};
-use numbers::{one, pick32, saturating_sub};
+use numbers::pick;
 use rules::{flags_of, grantable, grounds_of};
 
 // What is left where there is no limit.
@@ -16,6 +15,7 @@ const UNLIMITED: u32 = u32::MAX;
 
 // How many assets and entries, the time, the switch, and the event taken last: its player plus 1, and its mark.
 // Rules out: the two counts swapped, the mark for the player.
+#[tactic(auto, unfolding(crate::specs::Views::book_values, model::specs::Book::assets_in, model::specs::Book::entries_in))]
 pub fn book_values(b: Book) -> [u32; 6]
     ensures { result ≡ book_values b }
 {
@@ -101,25 +101,19 @@ pub fn player_values(p: Player) -> [u32; 13]
 pub fn view_time(now: u32, time: u32) -> u32
     ensures { result ≡ view_time now time }
 {
-    pick32(time < now, now, time)
-}
-
-// 1 if the test passes, 0 if it fails.
-fn number(w: bool) -> u32
-    ensures { result ≡ one w }
-{
-    one(w) as u32
+    now.max(time)
 }
 
 // Rules out: a difference where there is no limit, one that wraps.
 fn left_of(flag: bool, most: u32, used: u32) -> u32
     ensures { result ≡ left flag most used }
 {
-    pick32(flag, saturating_sub(most, used), UNLIMITED)
+    pick(flag, most.saturating_sub(used), UNLIMITED)
 }
 
 // What is left of an entry at a time when no use is due any more, under the book's switch.
 // Rules out: what is used for what is left, an entry out of its dates or with its threshold full reported as grantable.
+#[tactic(auto, unfolding(crate::specs::Views::left_values, rules::specs::Rules::flags_of))]
 pub fn left_values(e: Entry, time: u32, switch: u32) -> [u32; 4]
     ensures { result ≡ left_values time switch e }
 {
@@ -131,7 +125,7 @@ pub fn left_values(e: Entry, time: u32, switch: u32) -> [u32; 4]
         time: time,
         switch: switch,
     };
-    let able = number(grantable(l, m, ask));
+    let able = u32::from(grantable(l, m, ask));
     [
         able,
         left_of(f.count, l.count, m.count),
@@ -143,6 +137,7 @@ pub fn left_values(e: Entry, time: u32, switch: u32) -> [u32; 4]
 // What stands against granting an entry to who asks, at a time when no use is due any more: 1 for a ground that stands, otherwise 0,
 // in the order of document 01's words, then the switch and the threshold.
 // Rules out: two grounds swapped, a ground that is reported only where no other stands.
+#[tactic(auto, unfolding(crate::specs::Views::ground_values))]
 pub fn ground_values(e: Entry, ask: Ask) -> [u32; 9]
     ensures { result ≡ ground_values ask e }
 {
@@ -150,14 +145,15 @@ pub fn ground_values(e: Entry, ask: Ask) -> [u32; 9]
     let m = e.meters;
     let g = grounds_of(l, m, ask);
     [
-        number(g.countspent),
-        number(g.timedspent),
-        number(g.beforestart),
-        number(g.afterend),
-        number(g.intervalover),
-        number(g.secondsspent),
-        number(g.intervalzero),
-        number(g.switchoff),
-        number(g.thresholdfull),
+        g.countspent,
+        g.timedspent,
+        g.beforestart,
+        g.afterend,
+        g.intervalover,
+        g.secondsspent,
+        g.intervalzero,
+        g.switchoff,
+        g.thresholdfull,
     ]
+    .map(u32::from)
 }

@@ -1,16 +1,19 @@
 -- One law for each return of the code.
-use Rattle.std.specs.Prelude.{ℕ, ◌≡◌, Bool, List}
-use Rattle.std.proofs.Math.Path.{refl}
-use Rattle.std.proofs.Math.Bool.{true, false, cond}
+use Rattle.std.specs.Prelude.{ℕ, ◌<◌, ◌≤◌, ◌≡◌, List}
 use Rattle.std.proofs.Common.{arith}
-use Rattle.std.proofs.Math.Dec.{leb}
-use borrow.Author.Tests.{eq-eqb, ne_eqb}
+use borrow.Author.Tests.{eq-eqb, ne_eqb, le-leb, lt-leb}
 use Rattle.model.specs.Image.{length_of, write_answer, write_buffer}
-use Rattle.model.proofs.Image.RoundTrip.{demand2}
 use Rattle.fill.specs.Fill.{no_room}
-use Rattle.xml_model.specs.declared.Reading.{Reading}
-use Rattle.xml_image.specs.declared.Imported.{Imported}
-use Rattle.xml_image.specs.Imported.{import_code, imported_from, buffer_from}
+use Rattle.xml_model.specs.Text.{Reading}
+use Rattle.xml_model.proofs.Steps.{refuses}
+use Rattle.xml_image.specs.declared.ImportError.{ImportError}
+use Rattle.xml_image.specs.Results.{import_error}
+use Rattle.xml_image.specs.Imported.{Imported, import_code, imported_from, buffer_from}
+
+-- the number of an error is not 0
+pub fails : (e : ImportError) → import_error e ≡ 0 → ⊥
+fails (ImportError.Text e) q = refuses e q
+fails (ImportError.NoRoom e) q = absurd (omega arith)
 
 abbrev pub nothing : ℕ → Imported
 nothing c = record { code = c; elements = 0; length = 0 }
@@ -28,20 +31,11 @@ module _ (r : Reading) where
   unfolding buffer_from
   buffer old z = rw (eq-eqb _ _ z)
 
-  pub short : (room : ℕ) → r.code ≡ 0 → write_answer r.book room ≡ 30 → nothing no_room ≡ imported_from r room
-  unfolding imported_from import_code write_answer
-  short room z = by (leb (length_of r.book) room) refl
-    where
-      by : (b : Bool) → leb (length_of r.book) room ≡ b → cond b (length_of r.book) 30 ≡ 30 → nothing no_room ≡ imported_from r room
-      by true q e = absurd (omega (arith, (demand2.length_bounds r.book).0))
-      by false q e = rw (eq-eqb _ _ z, q)
+  pub short : (room : ℕ) → r.code ≡ 0 → room < length_of r.book → nothing no_room ≡ imported_from r room
+  unfolding imported_from import_code
+  short room z h = rw (eq-eqb _ _ z, lt-leb _ _ h)
 
-  pub whole : (room : ℕ) → r.code ≡ 0 → (write_answer r.book room ≡ 30 → ⊥)
-      → record { code = 0; elements = r.elements; length = write_answer r.book room } ≡ imported_from r room
+  pub whole : (room n : ℕ) → r.code ≡ 0 → length_of r.book ≤ room → write_answer r.book room ≡ n
+      → record { code = 0; elements = r.elements; length = n } ≡ imported_from r room
   unfolding imported_from import_code write_answer
-  whole room z = by (leb (length_of r.book) room) refl
-    where
-      by : (b : Bool) → leb (length_of r.book) room ≡ b → (cond b (length_of r.book) 30 ≡ 30 → ⊥)
-          → record { code = 0; elements = r.elements; length = cond b (length_of r.book) 30 } ≡ imported_from r room
-      by true q n = rw (eq-eqb _ _ z, q)
-      by false q n = absurd (n refl)
+  whole room n z h e = let q = rw (le-leb _ _ h) at e in rw (eq-eqb _ _ z, le-leb _ _ h, q)

@@ -2,9 +2,13 @@
 use Rattle.std.specs.Prelude.{ℕ, cond, List, eqb, leb}
 use Rattle.model.specs.Image.{length_of, write_buffer}
 use Rattle.fill.specs.Fill.{no_room}
-use Rattle.xml_model.specs.declared.Reading.{Reading}
-use Rattle.xml_model.specs.Text.{reading_of}
-use Rattle.xml_image.specs.declared.Imported.{Imported}
+use Rattle.xml_model.specs.Text.{Reading, reading_of}
+
+-- the code with the number of elements and the length of the image
+pub record Imported : Type 0 where
+  pub code : ℕ
+  pub elements : ℕ
+  pub length : ℕ
 
 -- the code of the text; 30 if that is 0 and the buffer has too little room for the image
 unfoldable pub import_code : Reading → ℕ → ℕ

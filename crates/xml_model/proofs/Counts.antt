@@ -9,16 +9,15 @@ use lib.Dec.{eqb, ltb}
 use borrow.Author.Tests.{eqb-true, eqb-false, ltb-false, not-true, not-false, ne_eqb}
 use Rattle.numbers.specs.Count.{sum, one}
 use Rattle.numbers.proofs.Tests.{on_test}
-use Rattle.xml_model.specs.declared.Tag.{Tag}
+use Rattle.xml_model.specs.Shapes.{Tag}
 use Rattle.xml_model.specs.declared.State.{State}
-use Rattle.xml_model.specs.declared.Progress.{Progress}
 use Rattle.xml_model.specs.Repeat.{Next, stop, more, repeat}
 use Rattle.xml_model.specs.Bytes.{byte_at, part, spaces, run_end, stuck}
 use Rattle.xml_model.specs.Tags.{unit_at}
 use Rattle.xml_model.specs.Elements.{name_of, rights_name, rights_role}
 use Rattle.xml_model.specs.State.{blank, with_elements, with_ids}
 use Rattle.xml_model.specs.State.{no, counted}
-use Rattle.xml_model.specs.Text.{Frame, Verdict, leads_to, opened, ended, judge, refusal, Config}
+use Rattle.xml_model.specs.Text.{Progress, Frame, Verdict, leads_to, opened, ended, judge, refusal, Config}
 use Rattle.xml_model.specs.Text.{ruled, unit_step, go, follow, finish, root, progress_of, reading_of}
 use Rattle.xml_model.proofs.Runs.{byte-out, stuck-pos}
 use Rattle.xml_model.proofs.CountsKept.{Keeps, keeps-ok, keeps-no, keeps-cond, ended-keeps, opened-keeps, judge-cases}

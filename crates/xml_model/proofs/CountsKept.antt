@@ -11,16 +11,15 @@ use borrow.Author.Tests.{eqb-true, eqb-false, not-true, not-false}
 use Rattle.numbers.proofs.Tests.{on_test}
 use Rattle.model.specs.Book.{assets_in, entries_in, asset_legal, most_times}
 use Rattle.xml_model.specs.declared.Range.{Range}
-use Rattle.xml_model.specs.declared.Tag.{Tag}
+use Rattle.xml_model.specs.Shapes.{Tag}
 use Rattle.xml_model.specs.declared.State.{State}
-use Rattle.xml_model.specs.declared.Done.{Done}
 use Rattle.xml_model.specs.Bytes.{part, bare}
 use Rattle.xml_model.specs.Tags.{look}
 use Rattle.xml_model.specs.Elements.{id_bytes, idref_bytes, name_of, asset_role, permission_role, key_info_role, reference_role}
 use Rattle.xml_model.specs.Elements.{timed_count_role, skipped_role, version_role, object_uid_role, asset_uid_role, inherit_uid_role}
 use Rattle.xml_model.specs.Elements.{is_kind, kinds_from, holds_text, closes_from, row_of, row_count, child_role, next_state, holds_anything}
 use Rattle.xml_model.specs.Values.{number_in, value_of}
-use Rattle.xml_model.specs.State.{with_ids, with_asset, with_references, with_limits, with_book, ok, no, and_then, counted, same_range}
+use Rattle.xml_model.specs.State.{Done, with_ids, with_asset, with_references, with_limits, with_book, ok, no, and_then, counted, same_range}
 use Rattle.xml_model.specs.State.{ids_in, id_position, is_given, id_of, new_id, asset_named, named, begun, with_idref, with_timer_of}
 use Rattle.xml_model.specs.State.{opening}
 use Rattle.xml_model.specs.State.{stored, text_done, key_done, asset_done, kind_legal, kind_done, how_many, container_done, closing}

@@ -9,15 +9,14 @@ use lib.Seq.{get_or-take, length-take-le}
 use lib.Dec.{eqb, ltb}
 use borrow.Author.Tests.{eqb-true, eqb-false, ne_eqb, lt-ltb, ltb-false, ltb-true, not-true, not-false}
 use Rattle.numbers.proofs.Tests.{on_test}
-use Rattle.xml_model.specs.declared.Tag.{Tag}
+use Rattle.xml_model.specs.Shapes.{Tag}
 use Rattle.xml_model.specs.declared.State.{State}
-use Rattle.xml_model.specs.declared.Progress.{Progress}
 use Rattle.xml_model.specs.Repeat.{Next, stop, more}
 use Rattle.xml_model.specs.Bytes.{byte_at, part, spaces, run_end, stuck, looked}
 use Rattle.xml_model.specs.Tags.{unit_at}
 use Rattle.xml_model.specs.Elements.{name_of, rights_name, rights_role}
 use Rattle.xml_model.specs.State.{blank}
-use Rattle.xml_model.specs.Text.{Frame, Verdict, opened, judge, refusal, Config, ruled, unit_step, go, follow, finish, root}
+use Rattle.xml_model.specs.Text.{Progress, Frame, Verdict, opened, judge, refusal, Config, ruled, unit_step, go, follow, finish, root}
 use Rattle.xml_model.specs.Text.{progress_of, reading_of}
 use Rattle.xml_model.proofs.Runs.{byte-in, byte-out, byte_inside, run-within, stuck-pos, looked-on}
 use Rattle.xml_model.proofs.Units.{unit-lies}

@@ -11,7 +11,7 @@ use borrow.Author.Tests.{eqb-true, eq-eqb, ne_eqb, lt-ltb, le-ltb, ltb-false, le
 use Rattle.numbers.proofs.Tests.{on_test, clash}
 use Rattle.numbers.proofs.TableLaws.{below_or_not}
 use Rattle.xml_model.specs.Import.{Agree}
-use Rattle.xml_model.specs.declared.Attribute.{Attribute}
+use Rattle.xml_model.specs.Shapes.{Attribute}
 use Rattle.xml_model.specs.Bytes.{byte_at, part, same, is_name_start, spaces, names, texts, digits, in_class, run_end, bare}
 use Rattle.xml_model.specs.Bytes.{is_mark, stuck, looked}
 use Rattle.xml_model.specs.Tags.{stuck_attribute, value_at, equals_at, attribute_at, given}

@@ -12,13 +12,12 @@ use Rattle.numbers.specs.Count.{first}
 use Rattle.numbers.proofs.Tests.{on_test, on_same}
 use Rattle.numbers.proofs.TableLaws.{all_same, below_or_not, blanks}
 use Rattle.xml_model.specs.declared.Range.{Range}
-use Rattle.xml_model.specs.declared.Tag.{Tag}
+use Rattle.xml_model.specs.Shapes.{Tag}
 use Rattle.xml_model.specs.declared.Id.{Id}
 use Rattle.xml_model.specs.declared.State.{State}
-use Rattle.xml_model.specs.declared.Done.{Done}
 use Rattle.xml_model.specs.Tags.{look, tail_of, unit_at, start_tag}
 use Rattle.xml_model.specs.Elements.{id_bytes, idref_bytes, timer_bytes, skipped_role, child_role, next_state}
-use Rattle.xml_model.specs.State.{no_id, blank, ok, no, and_then, counted, with_elements, with_ids, alike, same_range, is_id, ids_in}
+use Rattle.xml_model.specs.State.{Done, no_id, blank, ok, no, and_then, counted, with_elements, with_ids, alike, same_range, is_id, ids_in}
 use Rattle.xml_model.specs.State.{id_position}
 use Rattle.xml_model.specs.State.{id_of, new_id, asset_named, named, begun, with_idref, with_timer_of, opening, closing}
 use Rattle.xml_model.specs.Text.{Frame, frame, Verdict, leads_to, entered, opened, ended, child, judge}

@@ -8,9 +8,9 @@ use lib.ListN.{length}
 use lib.Dec.{eqb}
 use borrow.Author.Tests.{eqb-true, eq-eqb}
 use Rattle.numbers.proofs.Tests.{on_test, clash}
-use Rattle.xml_model.specs.declared.Attribute.{Attribute}
-use Rattle.xml_model.specs.declared.Tail.{Tail}
-use Rattle.xml_model.specs.declared.Tag.{Tag}
+use Rattle.xml_model.specs.Shapes.{Attribute}
+use Rattle.xml_model.specs.Shapes.{Tail}
+use Rattle.xml_model.specs.Shapes.{Tag}
 use Rattle.xml_model.specs.Repeat.{Next, stop, more, repeat}
 use Rattle.xml_model.specs.Bytes.{byte_at, part, same, is_name_start, spaces, names, texts, run_end}
 use Rattle.xml_model.specs.Bytes.{is_mark, looked}

@@ -14,16 +14,14 @@ use Rattle.model.specs.Image.{Typed, image, read_code, read_book}
 use Rattle.model.specs.Demand3.{Demand3}
 use Rattle.model.proofs.Image.RoundTrip.{demand2}
 use Rattle.model.proofs.Demand3.Proof.{demand3}
-use Rattle.xml_model.specs.declared.Tag.{Tag}
+use Rattle.xml_model.specs.Shapes.{Tag}
 use Rattle.xml_model.specs.declared.State.{State}
-use Rattle.xml_model.specs.declared.Done.{Done}
-use Rattle.xml_model.specs.declared.Progress.{Progress}
 use Rattle.xml_model.specs.Repeat.{Next, stop, more}
 use Rattle.xml_model.specs.Bytes.{byte_at, part, spaces, run_end, bare, stuck, looked}
 use Rattle.xml_model.specs.Tags.{unit_at}
 use Rattle.xml_model.specs.Elements.{name_of, rights_name, rights_role, skipped_role, row_of, row_count, child_role, holds_anything}
-use Rattle.xml_model.specs.State.{blank, no, and_then, counted, same_range, closing}
-use Rattle.xml_model.specs.Text.{Frame, Verdict, leads_to, entered, opened, ended, child, judge, refusal, Config, ruled}
+use Rattle.xml_model.specs.State.{Done, blank, no, and_then, counted, same_range, closing}
+use Rattle.xml_model.specs.Text.{Progress, Frame, Verdict, leads_to, entered, opened, ended, child, judge, refusal, Config, ruled}
 use Rattle.xml_model.specs.Text.{unit_step, go, follow, finish, root, progress_of, reading_of}
 use Rattle.xml_model.proofs.Repeats.{repeat-ind}
 use Rattle.xml_model.proofs.LegalBook.{fresh-typed}

@@ -5,9 +5,9 @@ use mathlib.Core.Bool.{Bool, true, false, cond, not, ◌&&◌, ◌||◌}
 use mathlib.Core.List.{List}
 use lib.ListN.{length}
 use lib.Dec.{eqb}
-use Rattle.xml_model.specs.declared.Attribute.{Attribute}
-use Rattle.xml_model.specs.declared.Tail.{Tail}
-use Rattle.xml_model.specs.declared.Tag.{Tag}
+use Rattle.xml_model.specs.Shapes.{Attribute}
+use Rattle.xml_model.specs.Shapes.{Tail}
+use Rattle.xml_model.specs.Shapes.{Tag}
 use Rattle.xml_model.specs.Repeat.{Next, stop, more}
 use Rattle.xml_model.specs.Bytes.{byte_at, part, is_name_start, spaces, names, texts, run_end, is_mark, stuck, looked}
 use Rattle.xml_model.specs.Tags.{stuck_attribute, value_at, equals_at, attribute_at, given, tailed, stuck_tail, empty_tail}

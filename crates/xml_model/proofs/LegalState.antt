@@ -17,17 +17,16 @@ use Rattle.book.specs.Blank.{no_asset, no_entry}
 use Rattle.model.specs.Book.{asset_at, assets_in, entries_in, between, asset_legal, most_times, Legal, Fresh}
 use Rattle.model.proofs.Examples.Books.{no_book-legal, no_book-fresh}
 use Rattle.xml_model.specs.declared.Range.{Range}
-use Rattle.xml_model.specs.declared.Value.{Value}
-use Rattle.xml_model.specs.declared.Tag.{Tag}
+use Rattle.xml_model.specs.Shapes.{Value}
+use Rattle.xml_model.specs.Shapes.{Tag}
 use Rattle.xml_model.specs.declared.State.{State}
-use Rattle.xml_model.specs.declared.Done.{Done}
 use Rattle.xml_model.specs.Bytes.{bytes, part, bare, same}
 use Rattle.xml_model.specs.Tags.{look}
 use Rattle.xml_model.specs.Elements.{id_bytes, idref_bytes, timer_bytes, version_role, object_uid_role, asset_uid_role, inherit_uid_role}
 use Rattle.xml_model.specs.Elements.{asset_role, key_info_role, skipped_role, permission_role, reference_role, timed_count_role}
 use Rattle.xml_model.specs.Elements.{is_kind, kinds_from, holds_text, closes_from}
 use Rattle.xml_model.specs.Values.{value_if, number_of, is_number, number_in, uid_of, value_of}
-use Rattle.xml_model.specs.State.{blank, with_elements, with_ids, with_asset, with_references, with_limits, with_book, ok, no, and_then}
+use Rattle.xml_model.specs.State.{Done, blank, with_elements, with_ids, with_asset, with_references, with_limits, with_book, ok, no, and_then}
 use Rattle.xml_model.specs.State.{counted, ids_in, id_position, is_given, new_id, asset_named, begun, with_idref, with_timer_of, opening}
 use Rattle.xml_model.specs.State.{object_alone, with_timer, with_limit}
 use Rattle.xml_model.specs.State.{stored, text_done, key_done, with_one_asset, asset_done, how_many, kind_legal}

@@ -1,6 +1,7 @@
 -- Laws of the definitions in specs/, theorems about the reader of XML rights objects, and runs on constants.
 pub mod Examples
 pub mod Repeats
+pub mod Steps
 pub mod Runs
 pub mod Units
 pub mod CountsUnits

@@ -1,14 +1,18 @@
 -- Laws of bytes, of equal bytes, and of runs.
 use Prim.Native.Nat.{ℕ, zero, suc, ◌+◌, ◌-◌, ◌<◌, ◌≤◌}
 use mathlib.Core.Path.{◌≡◌, refl, sym, ap, ◌∙◌}
-use mathlib.Core.Bool.{Bool, true, false, cond, ◌||◌, false≢true}
+use mathlib.Core.Bool.{Bool, true, false, cond, ◌||◌, ◌&&◌, not, false≢true}
 use mathlib.Core.List.{List, [], ◌∷◌}
 use native.Mathlib.Numerals.{add-one}
 use native.Mathlib.Omega.{arith}
 use lib.ListN.{length, get_or, drop, length-drop, drop_of_length-le}
 use lib.Seq.{drop-cons, get_or-drop}
 use lib.Dec.{ltb, eqb}
-use borrow.Author.Tests.{eqb-true, eq-eqb, ne_eqb, lt-ltb, le-ltb, ltb-true}
+use borrow.Author.Tests.{eqb-true, eq-eqb, ne_eqb, lt-ltb, le-ltb, ltb-true, ltb-false}
+use Rattle.std.specs.Prelude.{position, unwrap_or}
+use Rattle.std.specs.List.{position_or_len}
+use Rattle.std.proofs.lemmas.List.Sums.{prefix_len-le-length}
+use lib.Pointwise.{pointwise}
 use Rattle.numbers.proofs.Tests.{on_test}
 use Rattle.xml_model.specs.Bytes.{byte_at, same, is_name_start, in_class, span, run_end, is_mark, stuck, looked}
 
@@ -72,26 +76,44 @@ same_self (x ∷ xs) = rw (eq-eqb x x refl) (same_self xs)
 pub same-lengths : (x y : List ℕ) → (length x ≡ length y → ⊥) → same x y ≡ false
 same-lengths x y h = on_test (same x y) (λ q. absurd (h (ap length (same_true x y q)))) (λ q. q)
 
-same-cons : (x y : ℕ) (xs ys : List ℕ) → same (x ∷ xs) (y ∷ ys) ≡ cond (eqb x y) (same xs ys) false
+-- `==` of two slices
+pub same_slices : (x y : List ℕ) → pointwise eqb x y ≡ same x y
 unfolding same
-same-cons x y xs ys = refl
-
-module _ (x y : List ℕ) (i : ℕ) (h : i < length x) (l : i < length y) where
-  pub same-on : get_or x i 0 ≡ get_or y i 0 → same (drop i x) (drop i y) ≡ same (drop (i + 1) x) (drop (i + 1) y)
-  same-on e = rw (add-one, drop-cons x i 0 h, drop-cons y i 0 l, same-cons, eq-eqb _ _ e)
-
-  pub same-off : (get_or x i 0 ≡ get_or y i 0 → ⊥) → same (drop i x) (drop i y) ≡ false
-  same-off e = rw (drop-cons x i 0 h, drop-cons y i 0 l, same-cons, ne_eqb _ _ e)
-
-pub same_out : (x y : List ℕ) (i : ℕ) → length x ≤ i → length y ≤ i → same (drop i x) (drop i y) ≡ true
-unfolding same
-same_out x y i h l = rw (drop_of_length-le x {i = i} h, drop_of_length-le y {i = i} l)
+same_slices [] [] = refl
+same_slices [] (y ∷ ys) = refl
+same_slices (x ∷ xs) [] = refl
+same_slices (x ∷ xs) (y ∷ ys) = rw (same_slices xs ys) (both (eqb x y) (same xs ys))
+  where
+    both : (a b : Bool) → (a && b) ≡ cond a b false
+    both true b = refl
+    both false b = refl
 
 -- ## Runs
+
+not_not : (b : Bool) → not (not b) ≡ b
+not_not true = refl
+not_not false = refl
 
 span-cons : (p : ℕ → Bool) (x : ℕ) (xs : List ℕ) → span p (x ∷ xs) ≡ cond (p x) (suc (span p xs)) 0
 unfolding span
 span-cons p x xs = refl
+
+up_to : (p : ℕ → Bool) (l : List ℕ) → position_or_len (λ x. not (p x)) l ≡ span p l
+unfolding span
+up_to p [] = refl
+up_to p (x ∷ xs) =
+    let e : 1 + span p xs ≡ suc (span p xs) = omega arith in
+    rw (not_not (p x), up_to p xs, e)
+
+-- it ends at the first byte that does not pass
+pub span-position : (p : ℕ → Bool) (l : List ℕ) → unwrap_or (position (λ x. not (p x)) l) (length l) ≡ span p l
+span-position p l =
+    let n = position_or_len (λ x. not (p x)) l in
+    on_test (ltb n (length l))
+    (λ q. rw q (up_to p l))
+    (λ q.
+    let e : length l ≡ n = omega (arith, prefix_len-le-length (λ x. not (not (p x))) l, ltb-false n (length l) q) in
+    rw q (e ∙ up_to p l))
 
 span-le : (p : ℕ → Bool) (l : List ℕ) → span p l ≤ length l
 unfolding span

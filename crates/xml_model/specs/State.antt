@@ -1,6 +1,7 @@
 -- What an element does to what has been read so far: order 1, where its first tag is read ("opening") and where its last tag is
 -- read ("closing"). A step gives the state after it, or the code of a fault.
 use Rattle.std.specs.Prelude.{ℕ, zero, suc, ◌+◌, ◌-◌, min, Bool, cond, not, ◌&&◌, ◌||◌, List, get_or, set, replicate, eqb, leb, ltb}
+use Rattle.std.specs.Prelude.{Result, Ok, Err}
 use Rattle.numbers.specs.Count.{all, first}
 use Rattle.book.specs.declared.Asset.{Asset}
 use Rattle.book.specs.declared.Limits.{Limits}
@@ -10,12 +11,13 @@ use Rattle.book.specs.Blank.{no_asset, no_limits, no_meters, no_book}
 use Rattle.model.specs.Book.{asset_at, assets_in, entries_in, in_book, flagged, asset_legal, limits_legal, most_times}
 use Rattle.model.specs.Book.{count_flag, timed_flag, start_flag, end_flag, interval_flag, accumulated_flag}
 use Rattle.xml_model.specs.declared.Range.{Range}
-use Rattle.xml_model.specs.declared.Tag.{Tag}
+use Rattle.xml_model.specs.Shapes.{Tag}
 use Rattle.xml_model.specs.declared.Id.{Id}
 use Rattle.xml_model.specs.declared.Ids.{Ids}
 use Rattle.xml_model.specs.declared.References.{References}
 use Rattle.xml_model.specs.declared.State.{State}
-use Rattle.xml_model.specs.declared.Done.{Done}
+use Rattle.xml_model.specs.declared.TextError.{TextError}
+use Rattle.xml_model.specs.Codes.{text_code}
 use Rattle.xml_model.specs.Bytes.{byte_at, part, bare}
 use Rattle.xml_model.specs.Tags.{look}
 use Rattle.xml_model.specs.Elements.{id_bytes, idref_bytes, timer_bytes}
@@ -112,11 +114,21 @@ with_book b st = record {
 
 -- ## Steps
 
+-- one step of reading: the state after it, or the code of a fault with a blank state
+pub record Done : Type 0 where
+  pub code : ℕ
+  pub state : State
+
 unfoldable pub ok : State → Done
 ok st = record { code = 0; state = st }
 
 unfoldable pub no : ℕ → Done
 no c = record { code = c; state = blank }
+
+-- the step that the code returns
+abbrev pub as_done : Result State TextError → Done
+as_done (Ok st) = ok st
+as_done (Err e) = no (text_code e)
 
 -- a step, and a second one if the first is no fault
 unfoldable pub and_then : Done → (State → Done) → Done

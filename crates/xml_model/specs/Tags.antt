@@ -1,8 +1,8 @@
 -- Tags: their attributes, and the unit, "one tag with the text in front of it". The grammar is in `Bytes`.
 use Rattle.std.specs.Prelude.{ℕ, ◌+◌, ◌-◌, Bool, true, false, cond, not, ◌&&◌, ◌||◌, List, length, eqb, ltb}
-use Rattle.xml_model.specs.declared.Attribute.{Attribute}
-use Rattle.xml_model.specs.declared.Tail.{Tail}
-use Rattle.xml_model.specs.declared.Tag.{Tag}
+use Rattle.xml_model.specs.Shapes.{Attribute}
+use Rattle.xml_model.specs.Shapes.{Tail}
+use Rattle.xml_model.specs.Shapes.{Tag}
 use Rattle.xml_model.specs.declared.Range.{Range}
 use Rattle.xml_model.specs.Repeat.{Next, stop, more, repeat}
 use Rattle.xml_model.specs.Bytes.{byte_at, part, same, is_name_start, spaces, names, texts, run_end, is_mark, stuck, looked}

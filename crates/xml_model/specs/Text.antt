@@ -1,17 +1,15 @@
 -- Order 1: what a text is answered. Units are judged from left to right, with the open elements on a stack: "the first tag at fault
 -- decides". In one unit the faults are judged "in that order": 40, then 41, then 42.
 use Rattle.std.specs.Prelude.{ℕ, ◌+◌, ◌-◌, cond, not, ◌||◌, List, [], ◌∷◌, length, eqb, leb, ltb}
-use Rattle.xml_model.specs.declared.Tag.{Tag}
+use Rattle.xml_model.specs.Shapes.{Tag}
 use Rattle.xml_model.specs.declared.State.{State}
-use Rattle.xml_model.specs.declared.Done.{Done}
-use Rattle.xml_model.specs.declared.Progress.{Progress}
-use Rattle.xml_model.specs.declared.Reading.{Reading}
+use Rattle.book.specs.declared.Book.{Book}
 use Rattle.xml_model.specs.Repeat.{Next, stop, more, repeat}
 use Rattle.xml_model.specs.Bytes.{byte_at, part, spaces, run_end, bare, stuck, looked}
 use Rattle.xml_model.specs.Tags.{unit_at}
 use Rattle.xml_model.specs.Elements.{name_of, rights_name, rights_role, skipped_role, row_of, row_count, child_role, next_state}
 use Rattle.xml_model.specs.Elements.{holds_anything}
-use Rattle.xml_model.specs.State.{blank, ok, no, and_then, counted, same_range, opening, closing}
+use Rattle.xml_model.specs.State.{Done, blank, ok, no, and_then, counted, same_range, opening, closing}
 
 -- an open element: where its name stands, its role, and the state to which its children have led
 pub record Frame : Type 0 where
@@ -67,6 +65,18 @@ judge s t e k st =
     (child s t e k st (row_of e.role e.state (name_of (part s t.name t.end))))))
 
 -- ## The text
+
+-- reading up to a place: the state there, or the code of the first fault and how far the text was looked at to tell
+pub record Progress : Type 0 where
+  pub code : ℕ
+  pub at : ℕ
+  pub state : State
+
+-- what a text is answered: 0, 40, 41 or 42, the number of its elements, and the book; not 0: no elements and a blank book
+pub record Reading : Type 0 where
+  pub code : ℕ
+  pub elements : ℕ
+  pub book : Book
 
 -- "nothing is stored, 0 elements reported"; the text was looked at up to p
 unfoldable pub refusal : ℕ → ℕ → Progress

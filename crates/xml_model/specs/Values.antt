@@ -1,8 +1,8 @@
 -- Text values of order 1: numbers, uids, times and durations.
 use Rattle.std.specs.Prelude.{ℕ, ◌+◌, ◌-◌, ◌*◌, Bool, true, false, cond, ◌&&◌, ◌||◌, List, [], ◌∷◌, length, take, drop, eqb, leb, ltb}
 use Rattle.model.specs.Book.{between, latest_time, most_times, most_seconds}
-use Rattle.xml_model.specs.declared.Value.{Value}
-use Rattle.xml_model.specs.declared.Piece.{Piece}
+use Rattle.xml_model.specs.Shapes.{Value}
+use Rattle.xml_model.specs.Shapes.{Piece}
 use Rattle.xml_model.specs.Bytes.{bytes, byte_at, part, same, digits, run_end}
 use Rattle.xml_model.specs.Elements.{version_role, object_uid_role, asset_uid_role, inherit_uid_role, count_role, timed_count_role}
 use Rattle.xml_model.specs.Elements.{start_role, end_role}

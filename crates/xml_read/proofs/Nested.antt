@@ -8,18 +8,15 @@ use lib.ListN.{length}
 use lib.Dec.{eqb, leb}
 use borrow.Author.Tests.{eqb-true, eqb-false, eq-eqb, ne_eqb, le-leb, lt-leb}
 use Rattle.numbers.proofs.Tests.{on_test}
-use Rattle.xml_model.specs.declared.Tag.{Tag}
+use Rattle.xml_model.specs.Shapes.{Tag}
 use Rattle.xml_model.specs.declared.State.{State}
-use Rattle.xml_model.specs.declared.Done.{Done}
-use Rattle.xml_model.specs.declared.Progress.{Progress}
 use Rattle.xml_model.specs.Bytes.{part, bare}
 use Rattle.xml_model.specs.Tags.{unit_at}
 use Rattle.xml_model.specs.Elements.{name_of, row_of, row_count, holds_anything}
-use Rattle.xml_model.specs.State.{no, and_then}
-use Rattle.xml_model.specs.Text.{Frame, frame, leads_to, entered, opened, ended, child, judge, refusal, go, follow}
+use Rattle.xml_model.specs.State.{Done, no, and_then}
+use Rattle.xml_model.specs.Text.{Progress, Frame, frame, leads_to, entered, opened, ended, child, judge, refusal, go, follow, finish}
 use Rattle.xml_model.proofs.Units.{Lies, unit-lies}
-use Rattle.xml_read.specs.declared.Child.{Child}
-use Rattle.xml_read.specs.Nesting.{child_at, entering, opening_tag, empty_tag, reached, after, Element, Contents, Turn}
+use Rattle.xml_read.specs.Nesting.{Child, child_at, entering, opening_tag, empty_tag, reached, after, Element, Contents, Turn}
 use Rattle.xml_read.proofs.Units.{go-unit, go-done, follow-leads, follow-good, follow-fault, after-good, after-fault}
 
 -- where a unit lies
@@ -30,13 +27,29 @@ reached-at : (p : ℕ) (d : Done) → (reached p d).at ≡ p
 unfolding reached refusal
 reached-at p d = on_test (eqb d.code 0) (λ q. rw q) (λ q. rw q)
 
+reached-code : (p : ℕ) (d : Done) → (reached p d).code ≡ d.code
+unfolding reached refusal
+reached-code p d = on_test (eqb d.code 0) (λ q. rw q (sym (eqb-true _ _ q))) (λ q. rw q)
+
+reached-good : (p : ℕ) (d : Done) → d.code ≡ 0 → reached p d ≡ record { code = 0; at = p; state = d.state }
+unfolding reached
+reached-good p d h = rw (eq-eqb _ _ h)
+
+reached-fault : (p : ℕ) (d : Done) → (d.code ≡ 0 → ⊥) → reached p d ≡ refusal d.code p
+unfolding reached
+reached-fault p d h = rw (ne_eqb _ _ h)
+
+refusal-code : (c p : ℕ) → (refusal c p).code ≡ c
+unfolding refusal
+refusal-code c p = refl
+
 -- ## Refusals
 
 after-refusal : (s : List ℕ) (k : List Frame) (c p : ℕ) → (c ≡ 0 → ⊥) → after s k (refusal c p) ≡ refusal c p
 unfolding refusal
 after-refusal s k c p h = after-fault s k (refusal c p) h
 
-not-refused : {P : Type 0} (c p : ℕ) → (c ≡ 0 → ⊥) → (refusal c p).code ≡ 0 → P
+pub not-refused : {P : Type 0} (c p : ℕ) → (c ≡ 0 → ⊥) → (refusal c p).code ≡ 0 → P
 unfolding refusal
 not-refused c p h e = absurd (h e)
 
@@ -97,6 +110,22 @@ module _ {s : List ℕ} {t : Tag} {role left : ℕ} {st : State} where
         within = h.within;
       }
 
+      -- the same, of what the step gives at the tag's end
+      pub el-refused : (c p : ℕ) → (c ≡ 0 → ⊥) → refusal c p ≡ reached t.next d → Element s t role left st (refusal c p)
+      el-refused c p n e =
+          let w : d.code ≡ c = sym (reached-code t.next d) ∙ sym (ap (λ (x : Progress). x.code) e) ∙ refusal-code c p in
+          let m : d.code ≡ 0 → ⊥ = λ q. n (sym w ∙ q) in
+          rw (e ∙ reached-fault t.next d m) (el-fault m)
+
+      pub el-inside : (p : ℕ) (st' : State) → record { code = 0; at = p; state = st' } ≡ reached t.next d → {r : Progress}
+          → Contents s p t.name t.end role (left - 1) st' r → Element s t role left st r
+      el-inside p st' e h =
+          let w : d.code ≡ 0 = sym (reached-code t.next d) ∙ sym (ap (λ (x : Progress). x.code) e) in
+          let g = e ∙ reached-good t.next d w in
+          let a : p ≡ t.next = ap (λ (x : Progress). x.at) g in
+          let b : st' ≡ d.state = ap (λ (x : Progress). x.state) g in
+          el-open w (rw (a, b) at h)
+
 -- an element that is in no other
 pub el-root : {s : List ℕ} {t : Tag} {role : ℕ} {st : State} {r : Progress} → Element s t role 12 st r
     → r ≡ follow s t.next (opened s t role [] st)
@@ -109,6 +138,11 @@ el-root {s} {t} {role} {st} {r} h = whole ∙ sym (h.reads [] refl)
     whole = on_test (eqb r.code 0)
         (λ q. good (eqb-true _ _ q) ∙ sym (go-done s r.at r.state) ∙ sym (after-good s [] r (eqb-true _ _ q)))
         (λ q. sym (after-fault s [] r (eqb-false _ _ q)))
+
+-- a fault is still one behind the outermost element
+pub refused-ends : (s : List ℕ) (c p : ℕ) → (c ≡ 0 → ⊥) → refusal c p ≡ finish s (refusal c p)
+unfolding refusal finish
+refused-ends s c p h = rw (ne_eqb _ _ h)
 
 -- ## Contents
 

@@ -8,14 +8,12 @@ use lib.ListN.{length}
 use lib.Dec.{eqb}
 use borrow.Author.Tests.{eqb-true, eq-eqb, ne_eqb}
 use Rattle.numbers.proofs.Tests.{on_test}
-use Rattle.xml_model.specs.declared.Tag.{Tag}
+use Rattle.xml_model.specs.Shapes.{Tag}
 use Rattle.xml_model.specs.declared.State.{State}
-use Rattle.xml_model.specs.declared.Done.{Done}
-use Rattle.xml_model.specs.declared.Progress.{Progress}
 use Rattle.xml_model.specs.Repeat.{Next, stop, more}
 use Rattle.xml_model.specs.Tags.{unit_at}
-use Rattle.xml_model.specs.State.{no}
-use Rattle.xml_model.specs.Text.{Frame, Verdict, Config, leads_to, judge, refusal, ruled, unit_step, go, follow}
+use Rattle.xml_model.specs.State.{Done, no}
+use Rattle.xml_model.specs.Text.{Progress, Frame, Verdict, Config, leads_to, judge, refusal, ruled, unit_step, go, follow}
 use Rattle.xml_model.proofs.Repeats.{repeat-stop, repeat-more}
 use Rattle.xml_model.proofs.Units.{unit-lies}
 use Rattle.xml_read.specs.Nesting.{reached, after}

@@ -1,18 +1,21 @@
 -- What the element reader and the contents reader are to show. The definition judges units with a stack of open elements; the
 -- readers know only the innermost one. So each says: whatever is open around it, the units from here on give what its result and
 -- the units behind it give.
-use Rattle.std.specs.Prelude.{ℕ, ◌+◌, ◌≤◌, ◌≡◌, true, cond, not, ◌&&◌, List, ◌∷◌, length, eqb, leb}
-use Rattle.xml_model.specs.declared.Tag.{Tag}
+use Rattle.std.specs.Prelude.{ℕ, ◌+◌, ◌≤◌, ◌≡◌, Bool, true, cond, not, ◌&&◌, List, ◌∷◌, length, eqb, leb}
+use Rattle.xml_model.specs.Shapes.{Tag}
 use Rattle.xml_model.specs.declared.State.{State}
-use Rattle.xml_model.specs.declared.Done.{Done}
-use Rattle.xml_model.specs.declared.Progress.{Progress}
 use Rattle.xml_model.specs.Bytes.{part, bare}
 use Rattle.xml_model.specs.Elements.{name_of, skipped_role, row_of, row_count, child_role, next_state, holds_anything}
-use Rattle.xml_model.specs.State.{ok, and_then, counted, opening, closing}
-use Rattle.xml_model.specs.Text.{Frame, frame, opened, refusal, go, follow}
-use Rattle.xml_read.specs.declared.Child.{Child}
+use Rattle.xml_model.specs.State.{Done, ok, and_then, counted, opening, closing}
+use Rattle.xml_model.specs.Text.{Progress, Frame, frame, opened, refusal, go, follow}
 
 -- ## One tag
+
+-- what an open element makes of a child: whether it is accepted, its role, and the state to which it leads its parent
+pub record Child : Type 0 where
+  pub accepted : Bool
+  pub role : ℕ
+  pub state : ℕ
 
 -- the child of tag t, in an open element of that role and state: what holds anything takes it as skipped, and stays in its state
 unfoldable pub child_at : List ℕ → Tag → ℕ → ℕ → Child

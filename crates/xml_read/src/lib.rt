@@ -2,15 +2,19 @@
 // falls with every level.
 #![tactic(auto)]
 
-ghost use Rattle.std.specs.Prelude.{◌≡◌, ◌≤◌, length};
+ghost use Rattle.std.specs.Prelude.{◌≡◌, ◌≤◌, false, length, Ok, MatchOption};
+ghost use Rattle.xml_model.specs.Codes.{as_tag};
+ghost use Rattle.xml_model.specs.State.{as_done};
 ghost use Rattle.xml_model.specs.Tags.{unit_at};
-ghost use Rattle.xml_model.specs.Text.{frame, ended, refusal, finish, root, progress_of, reading_of};
+ghost use Rattle.xml_model.specs.Text.{frame, ended, finish, root, progress_of, reading_of};
 ghost use Rattle.xml_read.specs.Nesting.{child_at, entering, opening_tag, empty_tag, reached, Element, Contents};
+ghost use Rattle.xml_read.specs.Results.{accepts, as_progress, as_reading};
 
-use xml_model::{Done, Progress, Reading, State, Tag};
-use xml_scan::{SPACES, byte_at, is_bare, looked, run_end, same_range, stuck_code, unit_at};
+use book::Book;
+use xml_model::{Fault, Form, State, Tag, TextError};
+use xml_scan::{Class, byte_at, is_bare, run_end, same_range, stuck, unit_at};
 use xml_state::{closing, opening};
-use xml_steps::{accepted, blank_state, counted};
+use xml_steps::{blank_state, counted};
 use xml_table::{
     RIGHTS, RIGHTS_NAME, ROW_COUNT, SKIPPED, child_role, holds_anything, name_of, next_state,
     row_of,
@@ -19,224 +23,216 @@ use xml_table::{
 // "to depth 12, rights being 1"
 const MOST_DEEP: u8 = 12;
 
-// What an open element makes of a child: whether it is accepted, its role, and the state to which it leads its parent.
-#[derive(Clone, Copy)]
-pub struct Child {
-    pub accepted: bool,
-    pub role: u8,
-    pub state: u8,
+// What an open element makes of a child that it accepts: its role, and the state to which it leads its parent.
+#[derive(Clone, Copy, Debug, PartialEq, Eq)]
+struct Child {
+    role: u8,
+    state: u8,
 }
 
-// A fault: the state beside it is blank. The text was looked at up to `at`.
-fn refusal(code: u8, at: usize) -> Progress
-    ensures { result ≡ refusal code at }
-{
-    Progress {
-        code: code,
-        at: at,
-        state: blank_state(),
-    }
+// A place up to which the text is read, and what has been read.
+#[derive(Clone, Copy)]
+struct Progress {
+    at: usize,
+    state: State,
+}
+
+// What an accepted text holds: the number of its elements, and the book.
+#[derive(Clone, Copy, Debug, PartialEq, Eq)]
+pub struct Reading {
+    pub elements: u16,
+    pub book: Book,
 }
 
 // What a step gives at a tag that ends at `at`.
-fn reached(at: usize, d: Done) -> Progress
-    ensures { result ≡ reached at d }
+#[tactic(auto, unfolding(crate::specs::Nesting::reached, xml_model::specs::State::ok, xml_model::specs::State::no))]
+fn reached(at: usize, done: Result<State, TextError>) -> Result<Progress, Fault>
+    ensures { as_progress result ≡ reached at (as_done done) }
 {
-    if d.code == 0 {
-        let st = d.state;
-        return Progress {
-            code: 0,
-            at: at,
-            state: st,
-        };
+    match done {
+        Ok(state) => Ok(Progress { at, state }),
+        Err(error) => Err(Fault { error, at }),
     }
-    refusal(d.code, at)
 }
 
 // The child whose first tag is t, in an open element of that role and state.
-fn child_at(s: &[u8], t: Tag, role: u8, state: u8) -> Child
+#[tactic(auto, unfolding(crate::specs::Nesting::child_at))]
+fn child_at(s: &[u8], t: Tag, role: u8, state: u8) -> Option<Child>
     requires { (t.name ≤ t.end) × (t.end ≤ length s.now) }
-    ensures { result ≡ child_at s.now t role state }
+    ensures { MatchOption result
+        ((child_at s.now (as_tag t) role state).accepted ≡ false)
+        (λ c. child_at s.now (as_tag t) role state ≡ accepts c.role c.state) }
 {
     if holds_anything(role) {
-        return Child {
-            accepted: true,
+        return Some(Child {
             role: SKIPPED,
-            state: state,
-        };
+            state,
+        });
     }
-    let a = t.name;
-    let b = t.end;
-    let k = row_of(role, state, name_of(&s[a..b]));
-    Child {
-        accepted: !(ROW_COUNT <= k) & is_bare(s, t.from, t.at),
+    let k = row_of(role, state, name_of(&s[t.name..t.end]));
+    if (ROW_COUNT <= k) | !is_bare(s, t.from, t.at) {
+        return None;
+    }
+    Some(Child {
         role: child_role(k),
         state: next_state(k),
-    }
+    })
 }
 
 // The first tag of an element, but for its count. What a KeyInfo holds is only counted.
-fn entering(s: &[u8], t: Tag, role: u8, st: State) -> Done
-    ensures { result ≡ entering s.now t role st }
+#[tactic(auto, unfolding(crate::specs::Nesting::entering))]
+fn entering(s: &[u8], t: Tag, role: u8, st: State) -> Result<State, TextError>
+    ensures { as_done result ≡ entering s.now (as_tag t) role st }
 {
     if role == SKIPPED {
-        return accepted(st);
+        return Ok(st);
     }
     opening(s, t, role, st)
 }
 
 // An opening tag.
-fn opening_tag(s: &[u8], t: Tag, role: u8, st: State) -> Done
-    ensures { result ≡ opening_tag s.now t role st }
+fn opening_tag(s: &[u8], t: Tag, role: u8, st: State) -> Result<State, TextError>
+    ensures { as_done result ≡ opening_tag s.now (as_tag t) role st }
 {
-    let d = entering(s, t, role, st);
-    if d.code != 0 {
-        return d;
-    }
-    let begun = d.state;
-    counted(begun)
+    counted(entering(s, t, role, st)?)
 }
 
 // An empty-element tag: also the element's last tag, with no text in front of it.
-fn empty_tag(s: &[u8], t: Tag, role: u8, st: State) -> Progress
-    ensures { result ≡ reached t.next (empty_tag s.now t role st) }
+fn empty_tag(s: &[u8], t: Tag, role: u8, st: State) -> Result<State, TextError>
+    ensures { as_done result ≡ empty_tag s.now (as_tag t) role st }
 {
-    let d = entering(s, t, role, st);
-    if d.code != 0 {
-        return refusal(d.code, t.next);
-    }
-    let begun = d.state;
-    let e = closing(s, t.next, t.next, role, 0, begun);
-    if e.code != 0 {
-        return refusal(e.code, t.next);
-    }
-    let done = e.state;
-    reached(t.next, counted(done))
+    let begun = entering(s, t, role, st)?;
+    counted(closing(s, t.next, t.next, role, 0, begun)?)
 }
 
 // An end tag, in the element whose name stands from `name` to `end`.
-fn end_tag(s: &[u8], t: Tag, name: usize, end: usize, role: u8, state: u8, st: State) -> Progress
-    ensures { result ≡ reached t.next (ended s.now t (frame name end role state) st) }
+#[tactic(auto, unfolding(xml_model::specs::Text::ended))]
+fn end_tag(
+    s: &[u8],
+    t: Tag,
+    name: usize,
+    end: usize,
+    role: u8,
+    state: u8,
+    st: State,
+) -> Result<State, TextError>
+    ensures { as_done result ≡ ended s.now (as_tag t) (frame name end role state) st }
 {
-    if same_range(s, t.name, t.end, name, end) {
-        return reached(t.next, closing(s, t.from, t.at, role, state, st));
+    if !same_range(s, t.name, t.end, name, end) {
+        return Err(TextError::Malformed);
     }
-    refusal(40, t.next)
+    closing(s, t.from, t.at, role, state, st)
 }
 
 // The element reader: the element whose first tag is t, with `left` levels for it and what it holds.
 #[cycle(contents_element)]
-fn element(s: &[u8], t: Tag, role: u8, left: u8, st: State) -> Progress
+fn element(s: &[u8], t: Tag, role: u8, left: u8, st: State) -> Result<Progress, Fault>
     requires { t.next ≤ length s.now }
-    ensures { Element s.now t role left st result }
+    ensures { Element s.now (as_tag t) role left st (as_progress result) }
 {
     if left == 0 {
-        return refusal(41, t.next);
+        return Err(Fault {
+            error: TextError::Unaccepted,
+            at: t.next,
+        });
     }
-    if t.form != 0 {
-        return empty_tag(s, t, role, st);
+    if t.form != Form::Open {
+        return reached(t.next, empty_tag(s, t, role, st));
     }
-    let d = opening_tag(s, t, role, st);
-    if d.code != 0 {
-        return refusal(d.code, t.next);
-    }
-    let inside = d.state;
-    contents(s, t.next, t.name, t.end, role, left - 1, inside)
+    let inside = reached(t.next, opening_tag(s, t, role, st))?;
+    contents(s, inside, t.name, t.end, role, left - 1)
 }
 
-// The contents reader: what stands from `at` on in the element whose name stands from `name` to `end`, with its end tag. One value
+// The contents reader: what stands behind `here` in the element whose name stands from `name` to `end`, with its end tag. One value
 // holds the state from child to child: it is large, and the levels keep their copies of it on the stack.
 #[cycle(contents_element)]
-fn contents(s: &[u8], at: usize, name: usize, end: usize, role: u8, left: u8, st: State) -> Progress
-    ensures { Contents s.now at name end role left st result }
+fn contents(
+    s: &[u8],
+    mut here: Progress,
+    name: usize,
+    end: usize,
+    role: u8,
+    left: u8,
+) -> Result<Progress, Fault>
+    ensures { Contents s.now here.at name end role left here.state (as_progress result) }
 {
     let mut state: u8 = 0;
-    let mut here = Progress {
-        code: 0,
-        at: at,
-        state: st,
-    };
     loop {
-        let t = unit_at(s, here.at);
-        if t.code != 0 {
-            return refusal(t.code, t.next);
+        let t = unit_at(s, here.at)?;
+        if t.form == Form::End {
+            return reached(t.next, end_tag(s, t, name, end, role, state, here.state));
         }
-        if t.form == 2 {
-            return end_tag(s, t, name, end, role, state, here.state);
-        }
-        let c = child_at(s, t, role, state);
-        if !c.accepted {
-            return refusal(41, t.next);
-        }
-        here = element(s, t, c.role, left, here.state);
-        if here.code != 0 {
-            return here;
-        }
-        state = c.state;
+        let Some(child) = child_at(s, t, role, state) else {
+            return Err(Fault {
+                error: TextError::Unaccepted,
+                at: t.next,
+            });
+        };
+        here = element(s, t, child.role, left, here.state)?;
+        state = child.state;
     }
 }
 
 // Behind the outermost element.
-fn finished(s: &[u8], r: Progress) -> Progress
-    ensures { result ≡ finish s.now r }
+#[tactic(auto, unfolding(xml_model::specs::Text::finish))]
+fn finished(s: &[u8], here: Progress) -> Result<Progress, Fault>
+    ensures { as_progress result ≡ finish s.now (as_progress (Ok here)) }
 {
-    if r.code != 0 {
-        return r;
+    let at = run_end(s, Class::Spaces, here.at);
+    if at < s.len() {
+        return Err(stuck(s, at));
     }
-    let z = run_end(s, SPACES, r.at);
-    if z < s.len() {
-        return refusal(stuck_code(s, z), looked(s, z));
-    }
-    let st = r.state;
-    Progress {
-        code: 0,
-        at: z,
-        state: st,
-    }
+    Ok(Progress {
+        at,
+        state: here.state,
+    })
 }
 
 // The outermost element, whose first tag is the unit at i.
-fn root_at(s: &[u8], i: usize) -> Progress
-    ensures { result ≡ root s.now (unit_at s.now i) }
+#[tactic(auto, unfolding(xml_model::specs::Text::root))]
+fn root_at(s: &[u8], i: usize) -> Result<Progress, Fault>
+    ensures { as_progress result ≡ root s.now (unit_at s.now i) }
 {
-    let t = unit_at(s, i);
-    if t.code != 0 {
-        return refusal(t.code, t.next);
+    let t = unit_at(s, i)?;
+    if name_of(&s[t.name..t.end]) != RIGHTS_NAME {
+        return Err(Fault {
+            error: TextError::Unaccepted,
+            at: t.next,
+        });
     }
-    let a = t.name;
-    let b = t.end;
-    if name_of(&s[a..b]) == RIGHTS_NAME {
-        let r = element(s, t, RIGHTS, MOST_DEEP, blank_state());
-        return finished(s, r);
-    }
-    refusal(41, t.next)
+    let here = element(s, t, RIGHTS, MOST_DEEP, blank_state())?;
+    finished(s, here)
 }
 
 // The whole text, with the state that it leads to.
-fn progress_of(s: &[u8]) -> Progress
-    ensures { result ≡ progress_of s.now }
+#[tactic(auto, unfolding(xml_model::specs::Text::progress_of, xml_model::specs::Text::refusal))]
+fn progress_of(s: &[u8]) -> Result<Progress, Fault>
+    ensures { as_progress result ≡ progress_of s.now }
 {
-    let i = run_end(s, SPACES, 0);
+    let i = run_end(s, Class::Spaces, 0);
     if byte_at(s, i) != 60 {
-        return refusal(stuck_code(s, i), looked(s, i));
+        return Err(stuck(s, i));
     }
     if byte_at(s, i + 1) == 47 {
-        return refusal(40, i + 2);
+        return Err(Fault {
+            error: TextError::Malformed,
+            at: i + 2,
+        });
     }
     root_at(s, i)
 }
 
-// The whole text: the answer, and with answer 0 the number of its elements and the book.
-// Rules out: a 13th level or a 257th element accepted, an end tag of another name, elements or a book beside a refusal.
-pub fn read(s: &[u8]) -> Reading
-    ensures { result ≡ reading_of s.now }
+// The whole text: the number of its elements and the book, or why it is refused.
+// Rules out: a 13th level or a 257th element accepted, an end tag of another name.
+#[tactic(auto, unfolding(xml_model::specs::Text::reading_of, xml_model::specs::Text::refusal, xml_model::specs::State::blank))]
+pub fn read(s: &[u8]) -> Result<Reading, TextError>
+    ensures { as_reading result ≡ reading_of s.now }
 {
-    let r = progress_of(s);
-    let st = r.state;
-    let book = st.book;
-    Reading {
-        code: r.code,
-        elements: st.elements,
-        book: book,
+    match progress_of(s) {
+        Ok(r) => Ok(Reading {
+            elements: r.state.elements,
+            book: r.state.book,
+        }),
+        Err(fault) => Err(fault.error),
     }
 }

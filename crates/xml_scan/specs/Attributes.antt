@@ -1,7 +1,10 @@
 -- Where the attribute that a loop has just read lies.
 use Rattle.std.specs.Prelude.{ℕ, ◌≡◌, List, length}
-use Rattle.std.proofs.Common.{arith}
-use Rattle.xml_model.specs.declared.Attribute.{Attribute}
+use Rattle.std.proofs.Common.{◌∙◌, arith}
+use Rattle.xml_model.specs.declared.TextError.{TextError}
+use Rattle.xml_model.specs.declared.Fault.{Fault}
+use Rattle.xml_model.specs.Shapes.{Attribute}
+use Rattle.xml_model.specs.Codes.{text_code, IsFault}
 use Rattle.xml_model.specs.Bytes.{spaces, run_end}
 use Rattle.xml_model.specs.Tags.{attribute_at}
 use Rattle.xml_model.proofs.Runs.{run-from}
@@ -20,3 +23,12 @@ held-as s j i a p q o =
       moved = omega (arith, w.moved);
       to = w.to;
     }
+
+error-code : (e : TextError) → text_code e ≡ 0 → ⊥
+error-code TextError.Malformed e = absurd (omega (arith, e))
+error-code TextError.Unaccepted e = absurd (omega (arith, e))
+error-code TextError.TooMany e = absurd (omega (arith, e))
+
+-- a fault's code is not 0
+pub fault-code : (f : Fault) (code at : ℕ) → IsFault f code at → code ≡ 0 → ⊥
+fault-code f code at w e = error-code f.error (w.0 ∙ e)

@@ -2,53 +2,42 @@
 // every text and every place. A place behind the end of the text is allowed everywhere.
 #![tactic(auto)]
 
-ghost use Rattle.std.specs.Prelude.{◌≡◌, cond, ◌+◌, ◌-◌, ◌≤◌, ◌<◌, length};
-ghost use Rattle.xml_model.specs.Bytes.{byte_at, part, same, is_name_start, in_class, run_end, bare, is_mark, stuck, looked};
-ghost use Rattle.xml_model.specs.Tags.{stuck_attribute, value_at, equals_at, attribute_at, given, stuck_tail, empty_tail, tail_of, look};
-ghost use Rattle.xml_model.specs.Tags.{stuck_tag, end_tag, start_tag, tag_at, unit_at};
+ghost use Rattle.std.specs.Prelude.{◌≡◌, not, position, true, false, ◌-◌, ◌≤◌, ◌<◌, length, MatchOption};
+ghost use Rattle.xml_model.specs.Bytes.{byte_at, part, is_name_start, in_class, run_end, bare, is_mark, stuck, looked};
+ghost use Rattle.xml_model.specs.Tags.{value_at, equals_at, attribute_at, given, empty_tail, tail_of, look, end_tag, start_tag, tag_at};
+ghost use Rattle.xml_model.specs.Tags.{unit_at};
+ghost use Rattle.xml_model.specs.Codes.{IsFault, IsAttribute, IsTail, IsTag, no_range};
 ghost use Rattle.xml_model.specs.State.{same_range};
+ghost use Rattle.xml_scan.specs.Classes.{class_code, is_quote};
 
-use xml_model::{Attribute, Range, Tag, Tail};
+use numbers::pick;
+use xml_model::{Attribute, Fault, Form, Range, Tag, Tail, TextError};
 
-// The classes of bytes that a run can have; a quote, 34 or 39, stands for what is between two of them.
-pub const SPACES: u8 = 0;
-
-pub const NAMES: u8 = 1;
-
-pub const TEXTS: u8 = 2;
-
-pub const DIGITS: u8 = 3;
-
-fn pick(w: bool, a: bool, b: bool) -> bool
-    ensures { result ≡ cond w a b }
-{
-    if w { a } else { b }
-}
-
-fn pick_code(w: bool, a: u8, b: u8) -> u8
-    ensures { result ≡ cond w a b }
-{
-    if w { a } else { b }
-}
-
-fn pick_place(w: bool, a: usize, b: usize) -> usize
-    ensures { result ≡ cond w a b }
-{
-    if w { a } else { b }
+// A class of bytes that a run can have. The class of a quote is what may stand between two of them.
+#[derive(Clone, Copy, Debug, PartialEq, Eq)]
+pub enum Class {
+    Spaces,
+    Names,
+    Texts,
+    Digits,
+    Double,
+    Single,
 }
 
 // ## Bytes
 
 // The byte at i, 256 at the end of the text.
 // Rules out: a byte 0 behind the end, the byte before i.
+#[tactic(auto, unfolding(xml_model::specs::Bytes::byte_at))]
 pub fn byte_at(s: &[u8], i: usize) -> u16
     ensures { result ≡ byte_at s.now i }
 {
     if i < s.len() { s[i] as u16 } else { 256 }
 }
 
-fn in_class(class: u8, c: u8) -> bool
-    ensures { result ≡ in_class class c }
+#[tactic(auto, unfolding(xml_model::specs::Bytes::in_class))]
+fn in_class(class: Class, c: u8) -> bool
+    ensures { result ≡ in_class (class_code class) c }
 {
     let space = (c == 32) | (c == 9) | (c == 10) | (c == 13);
     let start = (65 <= c) & (c <= 90)
@@ -59,45 +48,42 @@ fn in_class(class: u8, c: u8) -> bool
     let digit = (48 <= c) & (c <= 57);
     let name = start | digit | (c == 45) | (c == 46);
     let text = ((32 <= c) | space) & (c <= 255) & !(c == 60) & !(c == 38);
-    pick(
-        class == SPACES,
-        space,
-        pick(
-            class == NAMES,
-            name,
-            pick(
-                class == TEXTS,
-                text,
-                pick(class == DIGITS, digit, text & !(c == class)),
-            ),
-        ),
-    )
+    match class {
+        Class::Spaces => space,
+        Class::Names => name,
+        Class::Texts => text,
+        Class::Digits => digit,
+        Class::Double => text & !(c == 34),
+        Class::Single => text & !(c == 39),
+    }
+}
+
+fn first_outside(class: Class, s: &[u8]) -> Option<usize>
+    ensures { result ≡ position (λ x. not (in_class (class_code class) x)) s.now }
+{
+    s.iter().position(|c| !in_class(class, *c))
 }
 
 // The end of the run of bytes of a class that starts at `from`.
 // Rules out: the place of the last byte of the run, a run that goes on behind a byte of another class.
-pub fn run_end(s: &[u8], class: u8, from: usize) -> usize
-    ensures { result ≡ run_end class s.now from }
+pub fn run_end(s: &[u8], class: Class, from: usize) -> usize
+    ensures { result ≡ run_end (class_code class) s.now from }
 {
-    let mut i = from;
-    while i < s.len() {
-        if !in_class(class, s[i]) {
-            return i;
-        }
-        i = i + 1;
-    }
-    i
+    let rest = &s[from.min(s.len())..];
+    from + first_outside(class, rest).unwrap_or(rest.len())
 }
 
 // Whether only white space stands from a to b.
 // Rules out: true if a letter stands there, false for no byte at all.
+#[tactic(auto, unfolding(xml_model::specs::Bytes::bare))]
 pub fn is_bare(s: &[u8], a: usize, b: usize) -> bool
     ensures { result ≡ bare s.now a b }
 {
-    let end = run_end(s, SPACES, a);
+    let end = run_end(s, Class::Spaces, a);
     b <= end
 }
 
+#[tactic(auto, unfolding(xml_model::specs::Bytes::is_mark, xml_model::specs::Bytes::byte_at))]
 fn is_mark(s: &[u8], i: usize) -> bool
     ensures { result ≡ is_mark s.now i }
 {
@@ -110,48 +96,28 @@ fn is_mark(s: &[u8], i: usize) -> bool
     }
 }
 
-// The answer where no rule allows the byte at i.
-// Rules out: 40 for `&`, 41 for the end of the text.
-pub fn stuck_code(s: &[u8], i: usize) -> u8
-    ensures { result ≡ stuck s.now i }
-{
-    pick_code(is_mark(s, i), 41, 40)
-}
-
-// How far the text is looked at to tell that answer.
-// Rules out: a place that grows with i behind the end of the text.
-pub fn looked(s: &[u8], i: usize) -> usize
+// How far the text is looked at to tell what is wrong where no rule allows the byte at i.
+#[tactic(auto, unfolding(xml_model::specs::Bytes::looked))]
+fn looked(s: &[u8], i: usize) -> usize
     ensures { result ≡ looked s.now i }
 {
     let n = s.len();
     if i < n {
         let c = byte_at(s, i);
-        return pick_place(c == 60, i + 2, i + 1);
+        return pick(c == 60, i + 2, i + 1);
     }
     n + 1
 }
 
-// Rules out: true if one text only starts with the other.
-pub fn equal<'a>(x: &'a [u8], y: &'a [u8]) -> bool
-    ensures { result ≡ same x.now y.now }
+// What is wrong where no rule allows the byte at i.
+// Rules out: 40 for `&`, 41 for the end of the text; a place that grows with i behind the end.
+#[tactic(auto, unfolding(xml_model::specs::Bytes::stuck))]
+pub fn stuck(s: &[u8], i: usize) -> Fault
+    ensures { IsFault result (stuck s.now i) (looked s.now i) }
 {
-    if x.len() != y.len() {
-        return false;
-    }
-    let mut i = 0;
-    while i < x.len() {
-        if x[i] != y[i] {
-            return false;
-        }
-        i = i + 1;
-    }
-    true
-}
-
-fn less(b: usize, a: usize) -> usize
-    ensures { result ≡ b - a }
-{
-    if a <= b { b - a } else { 0 }
+    let error = pick(is_mark(s, i), TextError::Unaccepted, TextError::Malformed);
+    let at = looked(s, i);
+    Fault { error, at }
 }
 
 // Whether the bytes from a to b are those from x to y.
@@ -159,65 +125,60 @@ fn less(b: usize, a: usize) -> usize
 pub fn same_range(s: &[u8], a: usize, b: usize, x: usize, y: usize) -> bool
     ensures { result ≡ same_range s.now a b x y }
 {
-    let n = less(b, a);
-    if n != less(y, x) {
+    let n = b.saturating_sub(a);
+    if n != y.saturating_sub(x) {
         return false;
     }
-    let mut i: usize = 0;
-    while i < n {
+    for i in 0..n {
         if byte_at(s, a + i) != byte_at(s, x + i) {
             return false;
         }
-        i = i + 1;
     }
     true
 }
 
 // ## Attributes
 
-fn stuck_attribute(s: &[u8], i: usize) -> Attribute
-    ensures { result ≡ stuck_attribute s.now i }
+// A quote's class.
+fn quote_of(c: u16) -> Option<Class>
+    ensures { MatchOption result (is_quote c ≡ false) (λ k. (is_quote c ≡ true) × (class_code k ≡ c)) }
 {
-    let code = stuck_code(s, i);
-    let to = looked(s, i);
-    Attribute {
-        code: code,
-        name: i,
-        end: i,
-        from: i,
-        to: to,
+    match c {
+        34 => Some(Class::Double),
+        39 => Some(Class::Single),
+        _ => None,
     }
 }
 
-fn value_at(s: &[u8], i: usize, e: usize, v: usize) -> Attribute
-    ensures { result ≡ value_at s.now i e v }
+#[tactic(auto, unfolding(xml_model::specs::Tags::value_at, xml_model::specs::Tags::stuck_attribute))]
+fn value_at(s: &[u8], i: usize, e: usize, v: usize) -> Result<Attribute, Fault>
+    ensures { IsAttribute result (value_at s.now i e v) }
 {
     let q = byte_at(s, v);
-    if (q == 34) | (q == 39) {
-        let quote = (q % 256) as u8;
-        let z = run_end(s, quote, v + 1);
-        if byte_at(s, z) == q {
-            return Attribute {
-                code: 0,
-                name: i,
-                end: e,
-                from: v + 1,
-                to: z,
-            };
-        }
-        return stuck_attribute(s, z);
+    let Some(quote) = quote_of(q) else {
+        return Err(stuck(s, v));
+    };
+    let z = run_end(s, quote, v + 1);
+    if byte_at(s, z) != q {
+        return Err(stuck(s, z));
     }
-    stuck_attribute(s, v)
+    Ok(Attribute {
+        name: i,
+        end: e,
+        from: v + 1,
+        to: z,
+    })
 }
 
-fn equals_at(s: &[u8], i: usize, e: usize, q: usize) -> Attribute
-    ensures { result ≡ equals_at s.now i e q }
+#[tactic(auto, unfolding(xml_model::specs::Tags::equals_at, xml_model::specs::Tags::stuck_attribute))]
+fn equals_at(s: &[u8], i: usize, e: usize, q: usize) -> Result<Attribute, Fault>
+    ensures { IsAttribute result (equals_at s.now i e q) }
 {
-    if byte_at(s, q) == 61 {
-        let v = run_end(s, SPACES, q + 1);
-        return value_at(s, i, e, v);
+    if byte_at(s, q) != 61 {
+        return Err(stuck(s, q));
     }
-    stuck_attribute(s, q)
+    let v = run_end(s, Class::Spaces, q + 1);
+    value_at(s, i, e, v)
 }
 
 fn name_starts(s: &[u8], i: usize) -> bool
@@ -227,15 +188,16 @@ fn name_starts(s: &[u8], i: usize) -> bool
     (65 <= c) & (c <= 90) | (97 <= c) & (c <= 122) | (c == 95) | (c == 58) | (128 <= c) & (c <= 255)
 }
 
-fn attribute_at(s: &[u8], i: usize) -> Attribute
-    ensures { result ≡ attribute_at s.now i }
+#[tactic(auto, unfolding(xml_model::specs::Tags::attribute_at, xml_model::specs::Tags::stuck_attribute))]
+fn attribute_at(s: &[u8], i: usize) -> Result<Attribute, Fault>
+    ensures { IsAttribute result (attribute_at s.now i) }
 {
-    if name_starts(s, i) {
-        let e = run_end(s, NAMES, i);
-        let q = run_end(s, SPACES, e);
-        return equals_at(s, i, e, q);
+    if !name_starts(s, i) {
+        return Err(stuck(s, i));
     }
-    stuck_attribute(s, i)
+    let e = run_end(s, Class::Names, i);
+    let q = run_end(s, Class::Spaces, e);
+    equals_at(s, i, e, q)
 }
 
 // Whether one of the attributes from `first` on and before p has the name that stands from n to e.
@@ -245,14 +207,13 @@ fn is_given(s: &[u8], first: usize, p: usize, n: usize, e: usize) -> bool
 {
     let mut j = first;
     while j < p {
-        let i = run_end(s, SPACES, j);
-        let a = attribute_at(s, i);
-        if a.code != 0 {
+        let i = run_end(s, Class::Spaces, j);
+        let Ok(a) = attribute_at(s, i) else {
             return false;
-        }
+        };
         let x = a.name;
         let y = a.end;
-        if equal(&s[n..e], &s[x..y]) {
+        if &s[n..e] == &s[x..y] {
             return true;
         }
         j = a.to + 1;
@@ -260,25 +221,24 @@ fn is_given(s: &[u8], first: usize, p: usize, n: usize, e: usize) -> bool
     false
 }
 
-// The value of the attribute `name` of a tag whose attributes start at `first`; from 0 if it has none.
+// The value of the attribute `name` of a tag whose attributes start at `first`.
 // Rules out: the value of an attribute whose name only starts like this one, that of another tag.
-pub fn look<'a>(s: &'a [u8], name: &'a [u8], first: usize) -> Range
-    ensures { result ≡ look s.now name.now first }
+pub fn look<'a>(s: &'a [u8], name: &'a [u8], first: usize) -> Option<Range>
+    ensures { MatchOption result (look s.now name.now first ≡ no_range) (λ r. (look s.now name.now first ≡ r) × (0 < r.from)) }
 {
     let mut j = first;
     loop {
-        let i = run_end(s, SPACES, j);
-        let a = attribute_at(s, i);
-        if a.code != 0 {
-            return Range { from: 0, to: 0 };
-        }
+        let i = run_end(s, Class::Spaces, j);
+        let Ok(a) = attribute_at(s, i) else {
+            return None;
+        };
         let x = a.name;
         let y = a.end;
-        if equal(name, &s[x..y]) {
-            return Range {
+        if name == &s[x..y] {
+            return Some(Range {
                 from: a.from,
                 to: a.to,
-            };
+            });
         }
         j = a.to + 1;
     }
@@ -286,159 +246,116 @@ pub fn look<'a>(s: &'a [u8], name: &'a [u8], first: usize) -> Range
 
 // ## Tags
 
-fn stuck_tail(s: &[u8], i: usize) -> Tail
-    ensures { result ≡ stuck_tail s.now i }
-{
-    let code = stuck_code(s, i);
-    let next = looked(s, i);
-    Tail {
-        code: code,
-        form: 0,
-        next: next,
-    }
-}
-
 // A `/` stands at g.
-fn empty_tail(s: &[u8], g: usize) -> Tail
+#[tactic(auto, unfolding(xml_model::specs::Tags::empty_tail, xml_model::specs::Tags::tailed))]
+fn empty_tail(s: &[u8], g: usize) -> Result<Tail, Fault>
     requires { g < length s.now }
-    ensures { result ≡ empty_tail s.now g }
+    ensures { IsTail result (empty_tail s.now g) }
 {
-    if byte_at(s, g + 1) == 62 {
-        return Tail {
-            code: 0,
-            form: 1,
-            next: g + 2,
-        };
+    if byte_at(s, g + 1) != 62 {
+        return Err(stuck(s, g + 1));
     }
-    stuck_tail(s, g + 1)
+    Ok(Tail {
+        form: Form::Empty,
+        next: g + 2,
+    })
 }
 
 // What follows a tag's name, which ends at `first`.
-fn tail_of(s: &[u8], first: usize) -> Tail
-    ensures { result ≡ tail_of s.now first }
+fn tail_of(s: &[u8], first: usize) -> Result<Tail, Fault>
+    ensures { IsTail result (tail_of s.now first) }
 {
     let mut j = first;
     loop {
-        let g = run_end(s, SPACES, j);
+        let g = run_end(s, Class::Spaces, j);
         let b = byte_at(s, g);
         if b == 62 {
-            return Tail {
-                code: 0,
-                form: 0,
+            return Ok(Tail {
+                form: Form::Open,
                 next: g + 1,
-            };
+            });
         }
         if b == 47 {
             return empty_tail(s, g);
         }
         if g == j {
-            return stuck_tail(s, g);
+            return Err(stuck(s, g));
         }
-        let a = attribute_at(s, g);
-        if a.code != 0 {
-            return Tail {
-                code: a.code,
-                form: 0,
-                next: a.to,
-            };
-        }
+        let a = attribute_at(s, g)?;
         let next = a.to + 1;
         if is_given(s, first, j, a.name, a.end) {
-            return Tail {
-                code: 40,
-                form: 0,
-                next: next,
-            };
+            return Err(Fault {
+                error: TextError::Malformed,
+                at: next,
+            });
         }
         j = next;
     }
 }
 
-fn stuck_tag(s: &[u8], i: usize) -> Tag
-    ensures { result ≡ stuck_tag s.now i }
-{
-    let code = stuck_code(s, i);
-    let next = looked(s, i);
-    Tag {
-        code: code,
-        form: 0,
-        from: 0,
-        at: 0,
-        name: 0,
-        end: 0,
-        next: next,
-    }
-}
-
 // The name of the end tag at `at` ends at e.
-fn end_tag(s: &[u8], from: usize, at: usize, e: usize) -> Tag
+#[tactic(auto, unfolding(xml_model::specs::Tags::end_tag, xml_model::specs::Tags::stuck_tag))]
+fn end_tag(s: &[u8], from: usize, at: usize, e: usize) -> Result<Tag, Fault>
     requires { at < length s.now }
-    ensures { result ≡ end_tag s.now from at e }
+    ensures { IsTag result (end_tag s.now from at e) }
 {
-    let g = run_end(s, SPACES, e);
-    if byte_at(s, g) == 62 {
-        return Tag {
-            code: 0,
-            form: 2,
-            from: from,
-            at: at,
-            name: at + 2,
-            end: e,
-            next: g + 1,
-        };
+    let g = run_end(s, Class::Spaces, e);
+    if byte_at(s, g) != 62 {
+        return Err(stuck(s, g));
     }
-    stuck_tag(s, g)
+    Ok(Tag {
+        form: Form::End,
+        from,
+        at,
+        name: at + 2,
+        end: e,
+        next: g + 1,
+    })
 }
 
 // The name of the tag at `at` ends at e.
-fn start_tag(s: &[u8], from: usize, at: usize, e: usize) -> Tag
+#[tactic(auto, unfolding(xml_model::specs::Tags::start_tag))]
+fn start_tag(s: &[u8], from: usize, at: usize, e: usize) -> Result<Tag, Fault>
     requires { at < length s.now }
-    ensures { result ≡ start_tag s.now from at e }
+    ensures { IsTag result (start_tag s.now from at e) }
 {
-    let x = tail_of(s, e);
-    Tag {
-        code: x.code,
+    let x = tail_of(s, e)?;
+    Ok(Tag {
         form: x.form,
-        from: from,
-        at: at,
+        from,
+        at,
         name: at + 1,
         end: e,
         next: x.next,
-    }
+    })
 }
 
 // A `<` stands at `at`.
-fn tag_at(s: &[u8], from: usize, at: usize) -> Tag
+fn tag_at(s: &[u8], from: usize, at: usize) -> Result<Tag, Fault>
     requires { at < length s.now }
-    ensures { result ≡ tag_at s.now from at }
+    ensures { IsTag result (tag_at s.now from at) }
 {
-    if byte_at(s, at + 1) == 47 {
-        let a = at + 2;
-        if name_starts(s, a) {
-            let e = run_end(s, NAMES, a);
-            return end_tag(s, from, at, e);
-        }
-        return stuck_tag(s, a);
+    let ends = byte_at(s, at + 1) == 47;
+    let a = pick(ends, at + 2, at + 1);
+    if !name_starts(s, a) {
+        return Err(stuck(s, a));
     }
-    let a = at + 1;
-    if name_starts(s, a) {
-        let e = run_end(s, NAMES, a);
-        return start_tag(s, from, at, e);
+    let e = run_end(s, Class::Names, a);
+    if ends {
+        return end_tag(s, from, at, e);
     }
-    stuck_tag(s, a)
+    start_tag(s, from, at, e)
 }
 
 // The unit that starts at i: the text up to the next `<`, and the tag there.
-// Rules out: code 0 for a tag with an attribute twice, a comment read as a tag, a unit that ends within an attribute's value.
-pub fn unit_at(s: &[u8], i: usize) -> Tag
-    ensures { result ≡ unit_at s.now i }
+// Rules out: a tag for one with an attribute twice, a comment read as a tag, a unit that ends within an attribute's value.
+#[tactic(auto, unfolding(xml_model::specs::Tags::unit_at, xml_model::specs::Tags::stuck_tag))]
+pub fn unit_at(s: &[u8], i: usize) -> Result<Tag, Fault>
+    ensures { IsTag result (unit_at s.now i) }
 {
-    let at = run_end(s, TEXTS, i);
-    if byte_at(s, at) == 60 {
-        if is_mark(s, at) {
-            return stuck_tag(s, at);
-        }
-        return tag_at(s, i, at);
+    let at = run_end(s, Class::Texts, i);
+    if (byte_at(s, at) != 60) | is_mark(s, at) {
+        return Err(stuck(s, at));
     }
-    stuck_tag(s, at)
+    tag_at(s, i, at)
 }

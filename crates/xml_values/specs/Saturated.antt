@@ -1,6 +1,6 @@
 -- Numbers as the code holds them. A text can have any number of digits; a number stays at 10^12, which is above every bound.
 use Rattle.std.specs.Prelude.{ℕ, min}
-use Rattle.xml_model.specs.declared.Piece.{Piece}
+use Rattle.xml_model.specs.Shapes.{Piece}
 
 abbrev pub ceiling : ℕ
 ceiling = 1000000000000

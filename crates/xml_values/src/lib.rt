@@ -1,35 +1,29 @@
 // Text values of order 1: numbers, uids, times and durations. Each function is defined for every text.
 #![tactic(auto)]
 
-ghost use Rattle.std.specs.Prelude.{◌≡◌, true, cond, ◌+◌, ◌-◌, ◌*◌, ◌≤◌, min, length};
+ghost use Rattle.std.specs.Prelude.{◌≡◌, true, ◌+◌, ◌-◌, ◌*◌, ◌≤◌, min, length, unwrap_or};
 ghost use Rattle.xml_model.specs.Values.{value_if, number_of, is_number, number_in, uid_of, digits_at, number_at, time_formed, time_real, seconds_at};
 ghost use Rattle.xml_model.specs.Values.{time_if, time_of, piece_at, duration_formed, duration_of, value_of};
+ghost use Rattle.xml_model.specs.Codes.{as_value, as_piece};
+ghost use Rattle.xml_table.specs.Codes.{role_code};
 ghost use Rattle.xml_values.specs.Saturated.{ceiling, saturated};
 
 use book::{LATEST_TIME, MOST_SECONDS, MOST_TIMES};
 use calendar::{days_before, in_calendar, month_days};
-use numbers::{pick64, saturating_sub};
-use xml_model::{Piece, Value};
-use xml_scan::{DIGITS, byte_at, equal, run_end};
-use xml_table::{ASSET_UID, COUNT, END, INHERIT_UID, OBJECT_UID, START, TIMED_COUNT, VERSION};
+use numbers::pick;
+use xml_model::Piece;
+use xml_scan::{Class, byte_at, run_end};
+use xml_table::Role;
 
 // Where a number stays: above every bound, and far from where a sum would wrap.
 const CEILING: u64 = 1000000000000;
 
-fn value_if(good: bool, n: u64) -> Value
+#[tactic(auto, unfolding(xml_model::specs::Values::value_if))]
+fn value_if(good: bool, n: u64) -> Option<u32>
     requires { good ≡ true → n ≤ 4294967295 }
-    ensures { result ≡ value_if good n }
+    ensures { as_value result ≡ value_if good n }
 {
-    if good {
-        return Value {
-            valid: true,
-            number: n as u32,
-        };
-    }
-    Value {
-        valid: false,
-        number: 0,
-    }
+    if good { Some(n as u32) } else { None }
 }
 
 // ## Numbers
@@ -37,15 +31,14 @@ fn value_if(good: bool, n: u64) -> Value
 fn digit_of(c: u8) -> u64
     ensures { result ≡ c - 48 }
 {
-    if c < 48 { 0 } else { (c - 48) as u64 }
+    c.saturating_sub(48) as u64
 }
 
 fn with_digit(x: u64, d: u64) -> u64
     requires { (x ≤ ceiling) × (d ≤ 255) }
     ensures { result ≡ min (10 * x + d) ceiling }
 {
-    let y = 10 * x + d;
-    if y < CEILING { y } else { CEILING }
+    (10 * x + d).min(CEILING)
 }
 
 // The number that these digits are, up to 10^12.
@@ -53,26 +46,25 @@ fn number_of(v: &[u8]) -> u64
     ensures { result ≡ min (number_of v.now) ceiling }
 {
     let mut x: u64 = 0;
-    let mut i = 0;
-    while i < v.len() {
-        x = with_digit(x, digit_of(v[i]));
-        i = i + 1;
+    for c in v {
+        x = with_digit(x, digit_of(*c));
     }
     x
 }
 
+#[tactic(auto, unfolding(xml_model::specs::Values::is_number))]
 fn is_number(v: &[u8]) -> bool
     ensures { result ≡ is_number v.now }
 {
     let n = v.len();
-    let end = run_end(v, DIGITS, 0);
+    let end = run_end(v, Class::Digits, 0);
     (0 < n) & (n <= end)
 }
 
 // A number from least to most.
 // Rules out: an empty text, a sign or a space accepted; zeros in front refused; a number that wraps into the range.
-pub fn number_in(least: u32, most: u32, v: &[u8]) -> Value
-    ensures { result ≡ number_in least most v.now }
+pub fn number_in(least: u32, most: u32, v: &[u8]) -> Option<u32>
+    ensures { as_value result ≡ number_in least most v.now }
 {
     let n = number_of(v);
     let low = least as u64;
@@ -83,31 +75,31 @@ pub fn number_in(least: u32, most: u32, v: &[u8]) -> Value
 // ## Uids
 
 // Rules out: `CID:5`, `cid:0` or `cid:65536` accepted, `cid:` counted into the number.
-fn uid_of(v: &[u8]) -> Value
-    ensures { result ≡ uid_of v.now }
+fn uid_of(v: &[u8]) -> Option<u32>
+    ensures { as_value result ≡ uid_of v.now }
 {
     if v.len() < 4 {
-        return value_if(false, 0);
+        return None;
     }
-    let from: usize = 0;
-    let to: usize = 4;
-    let prefix = &v[from..to];
-    if equal(prefix, b"cid:") | equal(prefix, b"pid:") {
-        return number_in(1, 65535, &v[to..]);
+    let prefix = &v[..4];
+    if (prefix == b"cid:".as_slice()) | (prefix == b"pid:".as_slice()) {
+        return number_in(1, 65535, &v[4..]);
     }
-    value_if(false, 0)
+    None
 }
 
 // ## Times
 
+#[tactic(auto, unfolding(xml_model::specs::Values::digits_at))]
 fn digits_at(v: &[u8], i: usize, n: usize) -> bool
     requires { i + n ≤ 20 }
     ensures { result ≡ digits_at v.now i n }
 {
-    let end = run_end(v, DIGITS, i);
+    let end = run_end(v, Class::Digits, i);
     i + n <= end
 }
 
+#[tactic(auto, unfolding(xml_model::specs::Values::time_formed))]
 fn time_formed(v: &[u8]) -> bool
     ensures { result ≡ time_formed v.now }
 {
@@ -142,6 +134,7 @@ fn two_digits(v: &[u8], i: usize) -> u8
     number_of(&v[i..e]) as u8
 }
 
+#[tactic(auto, unfolding(xml_model::specs::Values::time_real))]
 fn time_real(year: u16, month: u8, day: u8, hour: u8, minute: u8, second: u8) -> bool
     ensures { result ≡ time_real year month day hour minute second }
 {
@@ -153,26 +146,28 @@ fn time_real(year: u16, month: u8, day: u8, hour: u8, minute: u8, second: u8) ->
         & (second <= 59)
 }
 
+#[tactic(auto, unfolding(xml_model::specs::Values::seconds_at))]
 fn seconds_at(year: u16, month: u8, day: u8, hour: u8, minute: u8, second: u8) -> u64
     ensures { result ≡ seconds_at year month day hour minute second }
 {
     let first = days_before(year, month) as u64;
-    let later = saturating_sub(day as u32, 1) as u64;
+    let later = day.saturating_sub(1) as u64;
     (first + later) * 86400 + (hour as u64) * 3600 + (minute as u64) * 60 + (second as u64)
 }
 
-fn time_if(good: bool, t: u64) -> Value
-    ensures { result ≡ time_if good t }
+#[tactic(auto, unfolding(xml_model::specs::Values::time_if))]
+fn time_if(good: bool, t: u64) -> Option<u32>
+    ensures { as_value result ≡ time_if good t }
 {
     value_if(good & (t <= LATEST_TIME as u64), t)
 }
 
 // Rules out: February 30, 24:00:00, a time after 2096-10-02T07:06:40Z, a time without its Z accepted.
-fn time_of(v: &[u8]) -> Value
-    ensures { result ≡ time_of v.now }
+fn time_of(v: &[u8]) -> Option<u32>
+    ensures { as_value result ≡ time_of v.now }
 {
     if !time_formed(v) {
-        return value_if(false, 0);
+        return None;
     }
     let year = four_digits(v, 0);
     let month = two_digits(v, 5);
@@ -188,54 +183,47 @@ fn time_of(v: &[u8]) -> Value
 
 // Digits from i on and the letter u behind them; if they are not there, nothing.
 fn piece_at(v: &[u8], u: u8, i: usize) -> Piece
-    ensures value { result ≡ saturated (piece_at v.now u i) }
-    ensures number_le_ceiling { (result.number ≤ ceiling) × (result.next ≤ i + length v.now) }
+    ensures value { as_piece result ≡ saturated (piece_at v.now u i) }
+    ensures number_le_ceiling { (unwrap_or result.number 0 ≤ ceiling) × (result.next ≤ i + length v.now) }
 {
-    let e = run_end(v, DIGITS, i);
+    let e = run_end(v, Class::Digits, i);
     let c = byte_at(v, e);
     if i < e {
         if c == u as u16 {
             return Piece {
-                there: true,
-                number: number_of(&v[i..e]),
+                number: Some(number_of(&v[i..e])),
                 next: e + 1,
             };
         }
     }
     Piece {
-        there: false,
-        number: 0,
+        number: None,
         next: i,
     }
 }
 
-fn pick(w: bool, a: bool, b: bool) -> bool
-    ensures { result ≡ cond w a b }
-{
-    if w { a } else { b }
-}
-
+#[tactic(auto, unfolding(xml_model::specs::Values::duration_formed))]
 fn duration_formed(v: &[u8], d: Piece, h: Piece, m: Piece, s: Piece) -> bool
-    ensures { result ≡ duration_formed v.now d h m s }
+    ensures { result ≡ duration_formed v.now (as_piece d) (as_piece h) (as_piece m) (as_piece s) }
 {
     let n = v.len();
     let timed = byte_at(v, d.next) == 84;
-    let times = (h.there | m.there | s.there) & (s.next == n);
-    let days = d.there & (d.next == n);
+    let times = (h.number.is_some() | m.number.is_some() | s.number.is_some()) & (s.next == n);
+    let days = d.number.is_some() & (d.next == n);
     (byte_at(v, 0) == 80) & pick(timed, times, days)
 }
 
 // Rules out: `P`, `PT`, `P1DT` or `PT1S1M` accepted, a T not needed.
-fn duration_of(v: &[u8]) -> Value
-    ensures { result ≡ duration_of v.now }
+fn duration_of(v: &[u8]) -> Option<u32>
+    ensures { as_value result ≡ duration_of v.now }
 {
     let d = piece_at(v, 68, 1);
     let h = piece_at(v, 72, d.next + 1);
     let m = piece_at(v, 77, h.next);
     let s = piece_at(v, 83, m.next);
-    let x = h.number * 3600 + m.number * 60 + s.number;
+    let x = h.number.unwrap_or(0) * 3600 + m.number.unwrap_or(0) * 60 + s.number.unwrap_or(0);
     let timed = byte_at(v, d.next) == 84;
-    let n = d.number * 86400 + pick64(timed, x, 0);
+    let n = d.number.unwrap_or(0) * 86400 + pick(timed, x, 0);
     let high = MOST_SECONDS as u64;
     value_if(duration_formed(v, d, h, m, s) & (n <= high), n)
 }
@@ -243,23 +231,16 @@ fn duration_of(v: &[u8]) -> Value
 // ## The value of an element that holds a text, by its role
 
 // Rules out: version 2.1 accepted, a uid without its prefix in an asset, a count of 0 refused, one of 1,000,001.
-pub fn value_of(role: u8, v: &[u8]) -> Value
-    ensures { result ≡ value_of role v.now }
+#[tactic(auto, using(xml_model::proofs::Runs::same_slices), unfolding(xml_model::specs::Values::value_of))]
+pub fn value_of(role: Role, v: &[u8]) -> Option<u32>
+    ensures { as_value result ≡ value_of (role_code role) v.now }
 {
-    if role == VERSION {
-        return value_if(equal(v, b"2.2"), 0);
+    match role {
+        Role::Version => value_if(v == b"2.2".as_slice(), 0),
+        Role::ObjectUid => number_in(1, 65535, v),
+        Role::AssetUid | Role::InheritUid => uid_of(v),
+        Role::Count | Role::TimedCount => number_in(0, MOST_TIMES, v),
+        Role::Start | Role::End => time_of(v),
+        _ => duration_of(v),
     }
-    if role == OBJECT_UID {
-        return number_in(1, 65535, v);
-    }
-    if (role == ASSET_UID) | (role == INHERIT_UID) {
-        return uid_of(v);
-    }
-    if (role == COUNT) | (role == TIMED_COUNT) {
-        return number_in(0, MOST_TIMES, v);
-    }
-    if (role == START) | (role == END) {
-        return time_of(v);
-    }
-    duration_of(v)
 }

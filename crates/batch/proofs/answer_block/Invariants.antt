@@ -91,17 +91,8 @@ invariant-loop-p l =
     (length l.book.players ≡ 16) × (l.report ≡ recorded_all l.initial.book l.initial.report (overdue l.t (take l.p l.initial.book.players))) ×
     (l.good ≡ good_lines l.fn.b.assets l.initial.book.assetcount l.report l.lent) × (length l.report ≡ 64)
 
-abbrev pub decreases-loop-p : goal.decreases-loop-p
-decreases-loop-p l = 16 - l.p
-
 abbrev pub invariant-loop-e : goal.invariant-loop-e
 invariant-loop-e l = (l.e ≤ l.n) × (l.n ≤ 64) × (l.best ≡ found_after l.book.entries l.asset l.reach.parent l.kind l.ask l.e)
 
-abbrev pub decreases-loop-e : goal.decreases-loop-e
-decreases-loop-e l = l.n - l.e
-
 abbrev pub invariant-loop-i : goal.invariant-loop-i
 invariant-loop-i l = Going l.initial.book l.initial.report l.lent l.records l.initial.out l.count l.out l.book l.report l.rows l.ends l.good l.next l.at l.i
-
-abbrev pub decreases-loop-i : goal.decreases-loop-i
-decreases-loop-i l = l.count - l.i

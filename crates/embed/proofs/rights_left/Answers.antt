@@ -1,60 +1,15 @@
--- `embed::rights_left` meets its contract: each of its exits leaves what `Seen` says.
-use Prim.Native.Nat.{ℕ}
-use mathlib.Core.Path.{◌≡◌, sym, ap, ◌∙◌}
-use mathlib.Core.List.{List}
-use borrow.Author.Tests.{lt-ltb, le-ltb}
-use Rattle.book.specs.declared.Book.{Book}
-use Rattle.book.specs.declared.Entry.{Entry}
-use Rattle.views.specs.Views.{view_time, left_values}
-use Rattle.embed.specs.Calls.{held_book}
+-- `embed::rights_left` meets its contract: the view finds what is left of the entry.
+use Rattle.std.proofs.Common.{rules, ◌∙◌}
 use Rattle.embed.specs.Seen.{has_entry, entry_found, left_seen}
-use Rattle.embed.proofs.SeenLeft.{entry_then, entry-there, seen-refused, seen-absent, seen-given}
+use Rattle.embed.proofs.SeenLeft.{seen-found}
 use Rattle.embed.proofs.rights_left.Goals as goal
 
--- the entry at the time of the view
-found :
-    (s : List ℕ) (time i : ℕ) {b : Book} {t : ℕ} {e : Entry} →
-    b ≡ held_book s →
-    t ≡ view_time b.time time →
-    e ≡ entry_then b t i →
-    left_values t b.switch e ≡ left_seen s time i
-unfolding left_seen entry_found
-found s time i {b} {t} {e} same p q =
-    ap (left_values t b.switch) q
-    ∙ ap (λ (u : ℕ). left_values u b.switch (entry_then b u i)) p
-    ∙ ap (λ (x : Book). let u = view_time x.time time in left_values u x.switch (entry_then x u i)) same
-
-pub returns-then-loaded-ne0 : goal.returns-then-loaded-ne0
-returns-then-loaded-ne0 c =
-    let a = c.args in
-    let s = a.image.now in
-    let seen =
-    seen-refused s (has_entry s a.position) (left_seen s a.time a.position) a.out.now
-    _ c.load-loaded.ensures.0 c.if-loaded-ne0.true in
-    record { value = seen.0; out_after = seen.1 }
-
-pub returns-then-at_most_64-at : goal.returns-then-at_most_64-at
-returns-then-at_most_64-at c =
-    let a = c.args in
-    let s = a.image.now in
-    let load = c.load-loaded.ensures in
-    let seen =
-    seen-absent s (has_entry s a.position) (left_seen s a.time a.position) a.out.now
-    (sym load.0 ∙ c.if-loaded-ne0.false)
-    (entry-there s _ _ a.position load.1 c.at_most_64.ensures ∙ le-ltb _ _ c.if-at_most_64-at.true) in
-    record { value = seen.0; out_after = seen.1 }
-
 pub returns : goal.returns
+unfolding has_entry entry_found left_seen
 returns c =
     let a = c.args in
-    let s = a.image.now in
-    let load = c.load-loaded.ensures in
+    let v = c.view.ensures in
     let seen =
-    seen-given s (has_entry s a.position) (left_seen s a.time a.position) a.out.now
-    _ _ _ (sym load.0 ∙ c.if-loaded-ne0.false)
-    (entry-there s _ _ a.position load.1 c.at_most_64.ensures ∙ lt-ltb _ _ c.if-at_most_64-at.false)
-    (c.left_values-values.ensures
-    ∙ found s a.time a.position load.1
-    c.view_time-when.ensures c.entry_then.ensures)
-    c.fill32.ensures in
+    seen-found (λ x. x) a.image.now (left_seen a.image.now a.time a.position) (has_entry a.image.now a.position) v.0 _ a.out.now _
+    (λ z. let p = v.1 z in search rules) (c.code_of.ensures ∙ v.2) v.3 in
     record { value = seen.0; out_after = seen.1 }

@@ -1,34 +1,33 @@
-use mathlib.Core.Path.{◌≡◌, refl, sym, ap, ap₂, ◌∙◌}
-use mathlib.Core.Bool.{Bool, ◌&&◌}
-use mathlib.Core.List.{List}
-use Prim.Native.Nat.{ℕ, ◌-◌, ◌≤◌}
+-- `image_limits::assets_legal` meets its contract: each of the used assets is judged.
+use mathlib.Core.Path.{◌≡◌, ap, ◌∙◌}
+use mathlib.Core.Bool.{Bool}
+use Prim.Native.Nat.{ℕ, ◌≤◌}
 use native.Mathlib.Omega.{arith}
+use lib.ListN.{length, take, get_or}
+use Rattle.std.proofs.Common.{rules, tests}
+use Rattle.std.proofs.lemmas.Iterator.{YieldsList-from_slice}
+use Rattle.std.proofs.lemmas.Iterator.Consumers.{YieldsList-from_enumerate}
+use Rattle.std.proofs.lemmas.Iterator.Search.{all_from_yields_List}
+use lib.Seq.{length-take-le}
 use Rattle.numbers.specs.Count.{all}
-use Rattle.numbers.proofs.Loops.{all-turn}
+use Rattle.numbers.proofs.Loops.{length-mapped}
+use Rattle.numbers.proofs.ListLaws.{list_all-enumerated}
+use Rattle.book.specs.Blank.{no_asset}
 use Rattle.book.specs.declared.Asset.{Asset}
-use Rattle.model.specs.Book.{asset_at, assets_in, asset_legal, assets_legal}
-use borrow.Author.Rules.{rules}
-use Rattle.image_limits.proofs.assets_legal.Invariants.{judged}
+use Rattle.model.specs.Book.{asset_position, assets_in, asset_legal, assets_legal}
+use Rattle.image_limits.proofs.Used.{legal_used}
 use Rattle.image_limits.proofs.assets_legal.Goals as goal
-
-pub loop-i-init : goal.loop-i-init
-unfolding all
-loop-i-init c = (omega arith, refl)
-
-pub loop-i-preserved : goal.loop-i-preserved
-loop-i-preserved c =
-    let n = c.at_most_64-n.result in
-    let l = c.loop-i in (
-      omega arith,
-      ap₂ ◌&&◌ l.invariant.1 c.asset_legal-w.ensures ∙ sym
-          (all-turn (judged c.args.b.assets n) l.i),
-    )
 
 pub returns : goal.returns
 unfolding assets_legal assets_in
 returns c =
-    let assets = c.args.b.assets in
-    let n = c.at_most_64-n in
-    let l = c.loop-i in
-    let e : l.i ≡ n.result = omega arith in
-    l.invariant.1 ∙ ap (all (judged assets n.result)) e ∙ ap (λ (k : ℕ). all (judged assets k) k) n.ensures
+    let b = c.args.b in
+    let n = c.at_most_64.result in
+    let slots : length b.assets ≡ 64 = search length-mapped in
+    let fits : n ≤ length b.assets = omega (arith, slots, c.at_most_64.ensures) in
+    let used = legal_used b.assets n fits in
+    all_from_yields_List (λ (p : ℕ × Asset). asset_legal b.assets n p.0 p.1) _ _ c.all.result c.all.ensures.ran
+    (YieldsList-from_enumerate (YieldsList-from_slice (take n b.assets) cc) cc)
+    (λ x r q k. search (rules, tests, used))
+    ∙ list_all-enumerated (asset_legal b.assets n) b.assets no_asset n fits
+    ∙ ap (λ (m : ℕ). all (λ i. asset_legal b.assets m i (get_or b.assets i no_asset)) m) c.at_most_64.ensures

@@ -1,38 +1,33 @@
-use mathlib.Core.Path.{◌≡◌, refl, sym, ap, ap₂, ◌∙◌}
-use mathlib.Core.Bool.{Bool, ◌&&◌}
-use mathlib.Core.List.{List}
-use Prim.Native.Nat.{ℕ, ◌-◌, ◌≤◌}
+-- `image_limits::entries_legal` meets its contract: each of the used entries is judged.
+use mathlib.Core.Path.{◌≡◌, sym, ap, ap₂, ◌∙◌}
+use mathlib.Core.Bool.{Bool}
+use Prim.Native.Nat.{ℕ, ◌≤◌}
 use native.Mathlib.Omega.{arith}
-use Rattle.numbers.specs.Count.{all}
-use Rattle.numbers.proofs.Loops.{all-turn}
+use lib.ListN.{length, take, get_or}
 use lib.Dec.{ltb}
-use Rattle.book.specs.declared.Asset.{Asset}
+use Rattle.std.proofs.Common.{rules, tests}
+use Rattle.std.proofs.lemmas.Iterator.{YieldsList-from_slice}
+use Rattle.std.proofs.lemmas.Iterator.Search.{all_from_yields_List}
+use Rattle.numbers.specs.Count.{all}
+use Rattle.numbers.proofs.Loops.{length-mapped}
+use Rattle.numbers.proofs.ListLaws.{list_all-all}
+use Rattle.book.specs.Blank.{no_entry}
 use Rattle.book.specs.declared.Entry.{Entry}
-use Rattle.model.specs.Book.{limits_at, assets_in, entries_in, asset_position, in_book, limits_legal, entries_legal}
-use borrow.Author.Rules.{rules}
-use Rattle.image_limits.proofs.entries_legal.Invariants.{judged}
+use Rattle.model.specs.Book.{asset_position, in_book, assets_in, entries_in, limits_legal, entries_legal}
+use Rattle.image_limits.proofs.Used.{known_used}
 use Rattle.image_limits.proofs.entries_legal.Goals as goal
 
-pub loop-i-init : goal.loop-i-init
-unfolding all
-loop-i-init c = (omega arith, refl)
-
-pub loop-i-preserved : goal.loop-i-preserved
-loop-i-preserved c =
-    let b = c.args.b in
-    let n = c.at_most_64-n.result in
-    let l = c.loop-i in
-    let known = ap (λ (k : ℕ). limits_legal (ltb k n) (limits_at b.entries l.i)) c.asset_position.ensures in
-    (omega arith, ap₂ ◌&&◌ l.invariant.1 (c.limits_legal-w.ensures ∙ known) ∙ sym (all-turn (judged b.assets n b.entries) l.i))
-
 pub returns : goal.returns
-unfolding entries_legal assets_in entries_in in_book
+unfolding entries_legal in_book assets_in entries_in
 returns c =
     let b = c.args.b in
-    let n = c.at_most_64-n in
-    let m = c.at_most_64-m in
-    let l = c.loop-i in
-    let e : l.i ≡ m.result = omega arith in
-    l.invariant.1
-    ∙ ap (all (judged b.assets n.result b.entries)) e
-    ∙ ap₂ (λ (x y : ℕ). all (judged b.assets x b.entries) y) n.ensures m.ensures
+    let m = c.at_most_64.result in
+    let n = c.at_most_64-2.result in
+    let slots : length b.assets ≡ 64 = search length-mapped in
+    let places : length b.entries ≡ 64 = search length-mapped in
+    let known = known_used b.assets m (omega (arith, slots, c.at_most_64.ensures)) in
+    let judged : Entry → Bool = λ e. limits_legal (ltb (asset_position b.assets m e.limits.asset) m) e.limits in
+    all_from_yields_List judged _ _ c.all.result c.all.ensures.ran (YieldsList-from_slice (take n b.entries) cc)
+    (λ x r q k. search (rules, tests, known))
+    ∙ list_all-all judged b.entries no_entry n (omega (arith, places, c.at_most_64-2.ensures))
+    ∙ ap₂ (λ (x y : ℕ). all (λ i. limits_legal (ltb (asset_position b.assets x (get_or b.entries i no_entry).limits.asset) x) (get_or b.entries i no_entry).limits) y) c.at_most_64.ensures c.at_most_64-2.ensures

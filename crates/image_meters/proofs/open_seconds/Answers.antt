@@ -13,15 +13,14 @@ use Rattle.image_meters.proofs.open_seconds.Goals as goal
 
 pub loop-p-init : goal.loop-p-init
 unfolding sum
-loop-p-init c = (omega arith, omega arith, refl)
+loop-p-init c = (omega arith, refl)
 
 pub loop-p-preserved : goal.loop-p-preserved
 loop-p-preserved c =
     let a = c.args in
     let l = c.loop-p in
-    let turn = c.counted-d.ensures ∙ ap₂ (λ (w : Bool) (d : ℕ). cond w d 0) c.opens_entry-w.ensures
-    c.length_of.ensures in
-    (omega arith, omega arith, ap₂ ◌+◌ l.invariant.2 turn ∙ sym (sum-turn (spent a.i a.players) l.p))
+    let turn = c.pick-d.ensures ∙ ap₂ (λ (w : Bool) (d : ℕ). cond w d 0) c.opens_entry.ensures c.saturating_sub.ensures in
+    (omega arith, ap₂ ◌+◌ l.invariant.1 turn ∙ sym (sum-turn (spent a.i a.players.now) l.p))
 
 pub returns : goal.returns
 unfolding open_seconds
@@ -29,4 +28,4 @@ returns c =
     let a = c.args in
     let l = c.loop-p in
     let e : l.p ≡ 16 = omega arith in
-    l.invariant.2 ∙ ap (sum (spent a.i a.players)) e
+    l.invariant.1 ∙ ap (sum (spent a.i a.players.now)) e

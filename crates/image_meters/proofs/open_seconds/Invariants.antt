@@ -16,7 +16,4 @@ abbrev pub spent : ℕ → List Player → ℕ → ℕ
 spent i ps k = cond (opens i (player_at ps k).current) (lasts (player_at ps k).current) 0
 
 abbrev pub invariant-loop-p : goal.invariant-loop-p
-invariant-loop-p l = (l.p ≤ 16) × (l.seconds ≤ 4294967295 * l.p) × (l.seconds ≡ sum (spent l.i l.players) l.p)
-
-abbrev pub decreases-loop-p : goal.decreases-loop-p
-decreases-loop-p l = 16 - l.p
+invariant-loop-p l = (l.seconds ≤ 4294967295 * l.p) × (l.seconds ≡ sum (spent l.i l.players) l.p)

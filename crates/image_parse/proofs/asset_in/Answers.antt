@@ -1,7 +1,6 @@
 -- `image_parse::asset_in` meets its contract: each field is read at its offset.
 use mathlib.Core.Path.{◌∙◌}
 use Rattle.image_parse.specs.Versions.{asset-read}
-use borrow.Author.Rules.{rules}
 use Rattle.image_parse.proofs.asset_in.Goals as goal
 
 pub returns : goal.returns

@@ -1,13 +1,8 @@
 -- `image_parse::assets_in` meets its contract. After i turns the first i slots are read, and the others are blank.
-use Prim.Native.Nat.{ℕ, ◌+◌, ◌-◌, ◌≤◌}
-use mathlib.Core.Path.{ap}
-use native.Mathlib.Omega.{arith}
-use lib.ListN.{length, replicate}
+use Prim.Native.Nat.{◌-◌}
 use Rattle.book.specs.Blank.{no_asset}
-use Rattle.model.specs.Image.{asset_size, asset_in, asset_table}
-use borrow.Author.Rules.{rules}
-use Rattle.image_parse.specs.Versions.{asset-least}
-use Rattle.image_parse.specs.Tables.{ReadTo, read_none, read-room, read-turn, read_all, part_room}
+use Rattle.model.specs.Image.{asset_size, asset_in}
+use Rattle.image_parse.specs.Tables.{ReadTo}
 use Rattle.image_parse.proofs.assets_in.Given as goal
 
 abbrev pub invariant-loop-i : goal.invariant-loop-i

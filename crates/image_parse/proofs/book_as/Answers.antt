@@ -3,10 +3,7 @@ use mathlib.Core.Path.{ap}
 use native.Mathlib.Omega.{arith}
 use Rattle.model.specs.Image.{header_size, version_in}
 use Rattle.image_parse.specs.Versions.{header-two, header-five}
-use Prim.Native.Nat.{◌≤◌}
-use lib.ListN.{length}
-use Rattle.image_parse.specs.Header.{HeaderStands, header-stands, Located, located, read-there}
-use borrow.Author.Rules.{rules}
+use Rattle.image_parse.specs.Header.{HeaderStands, header-stands, located, read-there}
 use Rattle.image_parse.proofs.book_as.Goals as goal
 use Rattle.image_parse.proofs.book_as.Goals.{After-players_from-playersfrom, Start}
 

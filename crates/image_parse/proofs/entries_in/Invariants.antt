@@ -1,12 +1,8 @@
 -- `image_parse::entries_in` meets its contract. After i turns the first i slots are read, and the others are blank.
-use Prim.Native.Nat.{ℕ, ◌+◌, ◌-◌, ◌≤◌}
-use mathlib.Core.Path.{ap}
-use native.Mathlib.Omega.{arith}
-use lib.ListN.{length, replicate}
+use Prim.Native.Nat.{◌-◌}
 use Rattle.book.specs.Blank.{no_entry}
-use Rattle.model.specs.Image.{entry_size, entry_in, entry_table}
-use borrow.Author.Rules.{rules}
-use Rattle.image_parse.specs.Tables.{ReadTo, read_none, read-room, read-turn, read_all, part_room}
+use Rattle.model.specs.Image.{entry_size, entry_in}
+use Rattle.image_parse.specs.Tables.{ReadTo}
 use Rattle.image_parse.proofs.entries_in.Given as goal
 
 abbrev pub invariant-loop-i : goal.invariant-loop-i

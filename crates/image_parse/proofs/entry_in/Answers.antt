@@ -4,7 +4,6 @@ use native.Mathlib.Omega.{arith}
 use lib.ListN.{length}
 use Rattle.model.specs.Image.{entry_in}
 use Rattle.image_parse.specs.Versions.{entry-least}
-use borrow.Author.Rules.{rules}
 use Rattle.image_parse.proofs.entry_in.Goals as goal
 use Rattle.image_parse.proofs.entry_in.Goals.{Start}
 

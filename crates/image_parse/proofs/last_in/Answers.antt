@@ -3,7 +3,6 @@ use mathlib.Core.Path.{ap, ◌∙◌}
 use Prim.Native.Nat.{ℕ, ◌+◌}
 use Rattle.numbers.specs.Fields.{bits8, bits16, bits32, number_at}
 use Rattle.image_parse.specs.Versions.{last-read}
-use borrow.Author.Rules.{rules}
 use Rattle.image_parse.proofs.last_in.Goals as goal
 
 pub returns : goal.returns

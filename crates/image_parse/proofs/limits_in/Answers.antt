@@ -4,7 +4,6 @@ use Prim.Native.Nat.{◌≤◌}
 use native.Mathlib.Omega.{arith}
 use lib.ListN.{length}
 use Rattle.image_parse.specs.Versions.{limits-read, entry-two, entry-four}
-use borrow.Author.Rules.{rules}
 use Rattle.image_parse.proofs.limits_in.Goals as goal
 use Rattle.image_parse.proofs.limits_in.Goals.{Start}
 

@@ -2,7 +2,6 @@
 use mathlib.Core.Path.{◌∙◌}
 use native.Mathlib.Omega.{arith}
 use Rattle.image_parse.specs.Versions.{meters-read, entry-four}
-use borrow.Author.Rules.{rules}
 use Rattle.image_parse.proofs.meters_in.Goals as goal
 
 pub added32-marks-requires : goal.added32-marks-requires

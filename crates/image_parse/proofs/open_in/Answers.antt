@@ -4,7 +4,6 @@ use Prim.Native.Nat.{ℕ, ◌+◌}
 use native.Mathlib.Omega.{arith}
 use Rattle.numbers.specs.Fields.{bits8, bits32, number_at}
 use Rattle.image_parse.specs.Versions.{added, open-read, player-two}
-use borrow.Author.Rules.{rules}
 use Rattle.image_parse.proofs.open_in.Goals as goal
 
 pub added32-content-requires : goal.added32-content-requires

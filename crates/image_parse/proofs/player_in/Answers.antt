@@ -4,7 +4,6 @@ use native.Mathlib.Omega.{arith}
 use lib.ListN.{length}
 use Rattle.model.specs.Image.{player_in}
 use Rattle.image_parse.specs.Versions.{wider, player-least}
-use borrow.Author.Rules.{rules}
 use Rattle.image_parse.proofs.player_in.Goals as goal
 use Rattle.image_parse.proofs.player_in.Goals.{Start}
 

@@ -1,12 +1,10 @@
-use Prim.Native.Nat.{ℕ, ◌+◌, ◌-◌, ◌≤◌}
 use mathlib.Core.Path.{ap, ◌∙◌}
 use mathlib.Core.List.{append-nil}
 use native.Mathlib.Omega.{arith}
-use lib.ListN.{length, replicate}
+use lib.ListN.{replicate}
 use Rattle.book.specs.Blank.{no_player}
 use Rattle.model.specs.Image.{player_size, player_in, player_table}
-use borrow.Author.Rules.{rules}
-use Rattle.image_parse.specs.Tables.{ReadTo, read_none, read-room, read-turn, read_all, part_room}
+use Rattle.image_parse.specs.Tables.{read_none, read-room, read-turn, read_all, part_room}
 use Rattle.image_parse.proofs.players_in.Goals as goal
 
 pub loop-i-init : goal.loop-i-init

@@ -1,26 +1,23 @@
-use mathlib.Core.Path.{◌≡◌, refl, sym, ◌∙◌}
-use Prim.Native.Nat.{◌+◌, ◌-◌, ◌<◌, ◌≤◌}
+-- `put` lays the source into the buffer: the part that is written is as long as the source.
+use mathlib.Core.Path.{◌≡◌, refl, sym, ap, ◌∙◌}
+use mathlib.Core.List.{List, ◌++◌, append_assoc}
+use Prim.Native.Nat.{ℕ, ◌+◌}
 use native.Mathlib.Omega.{arith}
-use lib.ListN.{length, take, length-set}
+use lib.ListN.{length, take, drop}
+use lib.Seq.{drop-drop}
+use borrow.Rule.Slice.PartMut.{put_mid}
 use Rattle.numbers.specs.Buffer.{lay}
-use Rattle.numbers.proofs.BufferLaws.{lay-nil, lay-byte, lay-all}
 use Rattle.image_write.proofs.put.Goals as goal
 
-pub loop-j-init : goal.loop-j-init
-loop-j-init c = (omega arith, sym (lay-nil _ _), refl)
-
-pub loop-j-preserved : goal.loop-j-preserved
-loop-j-preserved c =
-    let a = c.args in
-    let l = c.loop-j in
-    let h : a.at + l.j < length a.buf.now = omega arith in (
-      omega arith,
-      rw l.invariant.1 (lay-byte a.buf.now a.at a.src.now l.j h c.loop-j-test.true),
-      simp length-set l.invariant.2,
+part-laid : (l s t : List ℕ) (at k : ℕ) → k ≡ length s → t ≡ s → put_mid at k l t ≡ lay l at s
+unfolding lay
+part-laid l s t at k n e =
+    rw (n, e) (
+    ap (λ (x : List ℕ). take at l ++ (s ++ x)) (drop-drop (length s) at l)
+    ∙ sym (append_assoc (take at l) s (drop (at + length s) l))
     )
 
 pub returns : goal.returns
 returns c =
     let a = c.args in
-    let l = c.loop-j in
-    (omega arith, l.invariant.1 ∙ lay-all a.buf.now a.at a.src.now l.j c.loop-j-test.false)
+    (refl, part-laid a.buf.now a.src.now _ a.at _ (omega arith) c.copy_from_slice.ensures.after)

@@ -1,10 +1,6 @@
-use mathlib.Core.List.{List}
-use Prim.Native.Nat.{ℕ, ◌-◌}
-use native.Mathlib.Omega.{arith}
-use borrow.Author.Rules.{rules}
 use lib.ListN.{get_or}
 use Rattle.book.specs.Blank.{no_entry}
-use Rattle.numbers.proofs.BufferLaws.{WrittenTo, written_none, written-room, written-turn, written_all}
+use Rattle.numbers.proofs.BufferLaws.{written_none, written-room, written-turn, written_all}
 use Rattle.model.specs.Image.{newest, entry_size, entry_bytes}
 use Rattle.image_pieces.specs.Pieces.{entry_length}
 use Rattle.image_write.proofs.put_entries.Goals as goal
@@ -12,13 +8,13 @@ use Rattle.image_write.proofs.put_entries.Goals as goal
 pub loop-i-init : goal.loop-i-init
 loop-i-init c =
     let a = c.args in
-    written_none (λ k. entry_bytes (get_or a.table k no_entry)) (entry_size newest) a.buf.now a.at a.n
+    written_none (λ k. entry_bytes (get_or a.table.now k no_entry)) (entry_size newest) a.buf.now a.at a.n
 
 pub put_entry-o-requires : goal.put_entry-o-requires
 put_entry-o-requires c =
     let a = c.args in
     let l = c.loop-i in
-    written-room (λ k. entry_bytes (get_or a.table k no_entry)) (entry_size newest) a.buf.now a.at a.n _ l.i l.o
+    written-room (λ k. entry_bytes (get_or a.table.now k no_entry)) (entry_size newest) a.buf.now a.at a.n _ l.i l.o
     c.requires.1 l.invariant c.loop-i-test.true
 
 pub loop-i-preserved : goal.loop-i-preserved
@@ -26,7 +22,7 @@ loop-i-preserved c =
     let a = c.args in
     let l = c.loop-i in
     let p = c.put_entry-o in
-    written-turn (λ k. entry_bytes (get_or a.table k no_entry)) (entry_size newest) a.buf.now a.at a.n (λ k. entry_length _) _ _
+    written-turn (λ k. entry_bytes (get_or a.table.now k no_entry)) (entry_size newest) a.buf.now a.at a.n (λ k. entry_length _) _ _
     l.i l.o _
     c.requires.1 l.invariant
     c.loop-i-test.true p.ensures.0 p.ensures.1 p.auto.buf
@@ -35,6 +31,6 @@ pub returns : goal.returns
 returns c =
     let a = c.args in
     let l = c.loop-i in
-    let w = written_all (λ k. entry_bytes (get_or a.table k no_entry)) (entry_size newest) a.buf.now a.at a.n _ l.i l.o l.invariant
+    let w = written_all (λ k. entry_bytes (get_or a.table.now k no_entry)) (entry_size newest) a.buf.now a.at a.n _ l.i l.o l.invariant
     c.loop-i-test.false in
     record { value = w.0; buf_after = w.1 }

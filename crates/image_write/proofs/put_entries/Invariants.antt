@@ -1,17 +1,9 @@
 -- `put_entries` writes the records one after another. After i turns the first i are written.
-use mathlib.Core.List.{List}
-use Prim.Native.Nat.{ℕ, ◌-◌}
-use native.Mathlib.Omega.{arith}
-use borrow.Author.Rules.{rules}
 use lib.ListN.{get_or}
 use Rattle.book.specs.Blank.{no_entry}
-use Rattle.numbers.proofs.BufferLaws.{WrittenTo, written_none, written-room, written-turn, written_all}
+use Rattle.numbers.proofs.BufferLaws.{WrittenTo}
 use Rattle.model.specs.Image.{newest, entry_size, entry_bytes}
-use Rattle.image_pieces.specs.Pieces.{entry_length}
 use Rattle.image_write.proofs.put_entries.Given as goal
 
 abbrev pub invariant-loop-i : goal.invariant-loop-i
 invariant-loop-i l = WrittenTo (λ k. entry_bytes (get_or l.table k no_entry)) (entry_size newest) l.initial.buf l.at l.n l.buf l.i l.o
-
-abbrev pub decreases-loop-i : goal.decreases-loop-i
-decreases-loop-i l = l.n - l.i

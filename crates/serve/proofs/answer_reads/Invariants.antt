@@ -8,6 +8,6 @@ use Rattle.serve.proofs.answer_reads.Given as goal
 
 abbrev pub invariant-loop : goal.invariant-loop
 invariant-loop g l = (l.kept < record_size)
-    × ((ls : List Line) → l.initial.lines ≡ taken_lines ls → l.lent ≡ length ls
-    → Reading l.initial.book ls l.book l.lines l.lent (take l.kept l.input)
+    × ((ls : List Line) → l.initial.report.lines ≡ taken_lines ls → l.initial.report.lent ≡ length ls
+    → Reading l.initial.book ls l.book l.report.lines l.report.lent (take l.kept l.input)
     (g.R.Read.remaining l.initial.reader) (g.W.Write.contents l.initial.writer) (g.R.Read.remaining l.reader) (g.W.Write.contents l.writer))

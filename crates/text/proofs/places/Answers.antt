@@ -1,34 +1,14 @@
--- `text::places` meets its contract: each test fixes the number of digits.
-use native.Mathlib.Omega.{arith}
+-- The logarithm is one less than the number of digits.
+use Rattle.std.proofs.Common.{arith}
+use Rattle.std.proofs.Math.Nat.{pow-succ'}
 use Rattle.text.specs.Digits.{places-one, places-more}
 use Rattle.text.proofs.places.Goals as goal
 
-pub returns-then-n-lt10 : goal.returns-then-n-lt10
-returns-then-n-lt10 c = places-one c.args.n c.if-n-lt10.true
+pub returns-in-Some : goal.returns-in-Some
+returns-in-Some c =
+    let log = c.in-Some.ensures in
+    let d = places-more c.in-Some.k c.args.n log.power_le (rw (pow-succ' 10 c.in-Some.k) log.next_power_gt) (omega arith) in
+    omega arith
 
-pub returns-then-n-lt100 : goal.returns-then-n-lt100
-returns-then-n-lt100 c = places-more 1 _ (omega arith) (omega arith) (omega arith)
-
-pub returns-then-n-lt1000 : goal.returns-then-n-lt1000
-returns-then-n-lt1000 c = places-more 2 _ (omega arith) (omega arith) (omega arith)
-
-pub returns-then-n-lt10000 : goal.returns-then-n-lt10000
-returns-then-n-lt10000 c = places-more 3 _ (omega arith) (omega arith) (omega arith)
-
-pub returns-then-n-lt100000 : goal.returns-then-n-lt100000
-returns-then-n-lt100000 c = places-more 4 _ (omega arith) (omega arith) (omega arith)
-
-pub returns-then-n-lt1000000 : goal.returns-then-n-lt1000000
-returns-then-n-lt1000000 c = places-more 5 _ (omega arith) (omega arith) (omega arith)
-
-pub returns-then-n-lt10000000 : goal.returns-then-n-lt10000000
-returns-then-n-lt10000000 c = places-more 6 _ (omega arith) (omega arith) (omega arith)
-
-pub returns-then-n-lt100000000 : goal.returns-then-n-lt100000000
-returns-then-n-lt100000000 c = places-more 7 _ (omega arith) (omega arith) (omega arith)
-
-pub returns-then-n-lt1000000000 : goal.returns-then-n-lt1000000000
-returns-then-n-lt1000000000 c = places-more 8 _ (omega arith) (omega arith) (omega arith)
-
-pub returns : goal.returns
-returns c = places-more 9 _ (omega arith) (omega arith) (omega arith)
+pub returns-in-None : goal.returns-in-None
+returns-in-None c = places-one c.args.n (omega (arith, c.in-None.ensures.none))

@@ -1,27 +1,11 @@
--- `text::put_refused` meets its contract.
-use native.Mathlib.Omega.{arith}
-use lib.ListN.{length-set}
-use Rattle.text.specs.Digits.{refused-laid}
-use borrow.Author.Rules.{rules}
+-- The seven bytes are those that follow the code in a refusal.
+use Rattle.std.proofs.Common.{ap, ◌∙◌, arith}
+use Rattle.numbers.specs.Buffer.{lay}
+use Rattle.model.specs.Run.{decimal, decimal_in}
+use Rattle.text.specs.Digits.{part-laid}
+use Rattle.text.specs.Lines.{refused_end}
 use Rattle.text.proofs.put_refused.Goals as goal
 
-pub bounds-out-at-2 : goal.bounds-out-at-2
-bounds-out-at-2 c = simp length-set (omega arith)
-
-pub bounds-out-at-3 : goal.bounds-out-at-3
-bounds-out-at-3 c = simp length-set (omega arith)
-
-pub bounds-out-at-4 : goal.bounds-out-at-4
-bounds-out-at-4 c = simp length-set (omega arith)
-
-pub bounds-out-at-5 : goal.bounds-out-at-5
-bounds-out-at-5 c = simp length-set (omega arith)
-
-pub bounds-out-at-6 : goal.bounds-out-at-6
-bounds-out-at-6 c = simp length-set (omega arith)
-
-pub bounds-out-at-7 : goal.bounds-out-at-7
-bounds-out-at-7 c = simp length-set (omega arith)
-
 pub returns : goal.returns
-returns c = refused-laid c.args.out.now c.args.at (omega arith)
+unfolding refused_end decimal decimal_in
+returns c = part-laid c.args.out.now c.args.at _ _ (omega (arith, c.copy_from_slice.ensures.len)) ∙ ap (lay c.args.out.now c.args.at) c.copy_from_slice.ensures.after

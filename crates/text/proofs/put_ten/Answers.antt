@@ -1,7 +1,6 @@
 -- `text::put_ten` meets its contract: five pairs of digits, written one after another.
 use native.Mathlib.Omega.{arith}
 use Rattle.text.specs.Digits.{ten-laid}
-use borrow.Author.Rules.{rules}
 use Rattle.text.proofs.put_ten.Goals as goal
 
 pub returns : goal.returns

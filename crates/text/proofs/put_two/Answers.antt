@@ -2,7 +2,6 @@
 use native.Mathlib.Omega.{arith}
 use lib.ListN.{length-set}
 use Rattle.text.specs.Digits.{two-laid}
-use borrow.Author.Rules.{rules}
 use Rattle.text.proofs.put_two.Goals as goal
 
 pub bounds-out-at-2 : goal.bounds-out-at-2

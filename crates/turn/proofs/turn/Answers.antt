@@ -3,8 +3,10 @@
 use Prim.Native.Nat.{ℕ, ◌+◌, ◌*◌, ◌-◌, ◌/◌, ◌%◌, ◌≤◌}
 use native.Mathlib.Omega.{arith}
 use borrow.Author.Tests.{leb-true, le-leb}
-use mathlib.Core.Path.{◌≡◌, sym, ap, ◌∙◌}
-use mathlib.Core.Bool.{Bool, true, false, cond}
+use Rattle.std.proofs.Math.Seq.{paste}
+use borrow.Author.Rules.{rules}
+use mathlib.Core.Path.{◌≡◌, sym, ap, subst, ◌∙◌}
+use mathlib.Core.Bool.{Bool, true, cond}
 use mathlib.Core.List.{List, ◌++◌}
 use lib.ListN.{length, take, drop}
 use lib.Seq.{length-take-le, take-take, take-add, drop_at}
@@ -19,20 +21,11 @@ use Rattle.turn.specs.Turn.{kept_after, input_after}
 use Rattle.turn.specs.Kept.{kept_less}
 use Rattle.turn.proofs.turn.Goals as goal
 
-module _ (b : Book) (ls : List Line) (lent : ℕ) (input : List ℕ) (n : ℕ) (ended : Bool) (out : List ℕ) where
-  abbrev Left : Bool → Book → List Line → ℕ → ℕ → List ℕ → List ℕ → Type 0
-  Left done book lines written kept inputs outs =
-      (done ≡ inside input n)
-      × ((book ≡ book_after b ls lent input n ended)
-      × ((lines ≡ lines_after b ls lent input n ended)
-      × ((written ≡ written_after b ls lent input n ended)
-      × ((kept ≡ kept_after input n ended)
-      × ((inputs ≡ input_after input n ended)
-      × (outs ≡ out_after b ls lent input n ended out))))))
-
-  left-refused : inside input n ≡ false → Left false b ls 0 0 input out
-  unfolding book_after lines_after written_after out_after kept_after input_after
-  left-refused e = (sym e, (rw e, (rw e, (rw e, (rw e, (rw e, rw e))))))
+-- the kept bytes moved to the front
+moved : (input : List ℕ) (whole kept : ℕ) → paste input 0 (drop whole input) kept ≡ take kept (drop whole input) ++ drop kept input
+moved input whole kept =
+    let z : 0 + kept ≡ kept = omega arith in
+    ap (λ (i : ℕ). take kept (drop whole input) ++ drop i input) z
 
 -- a slice of a prefix
 part : (a k : ℕ) (l : List ℕ) → a + k ≤ length l → drop a (take (a + k) l) ≡ take k (drop a l)
@@ -76,34 +69,32 @@ module _ (b : Book) (ls : List Line) (lent : ℕ) (input : List ℕ) (n : ℕ) (
   unfolding text_after
   text-is = ap (block_text b ls lent) answered-is
 
-  left-answered : (book : Book) (lines : List Line) (written : ℕ) (inputs outs : List ℕ)
-      → book ≡ block_book b ls lent records (length out) → lines ≡ block_lines b ls lent records (length out)
-      → written ≡ block_written b ls lent records (length out) → outs ≡ block_buffer b ls lent records out
-      → inputs ≡ take kept (drop (n - kept) input) ++ drop kept input
-      → Left b ls lent input n ended out true book lines written kept inputs outs
-  unfolding block_book block_lines block_written block_buffer book_after lines_after written_after out_after kept_after input_after kept_count
-  left-answered book lines written inputs outs eb el ew eo ei =
-      let book-is : book ≡ book_after b ls lent input n ended = eb ∙ rw (fits-is, inside_is, answered-is) in
-      let lines_are : lines ≡ lines_after b ls lent input n ended = el ∙ rw (fits-is, inside_is, answered-is) in
-      let written_is : written ≡ written_after b ls lent input n ended = ew ∙ rw (fits-is, inside_is, text-is) in
-      let count-is : kept ≡ kept_after input n ended = rw inside_is count in
-      let input-is : inputs ≡ input_after input n ended = ei ∙ rw (inside_is, kept-is, count) in
-      let out-is : outs ≡ out_after b ls lent input n ended out = eo ∙ rw (fits-is, inside_is, text-is) in
-      (sym inside_is, (book-is, (lines_are, (written_is, (count-is, (input-is, out-is))))))
+  book-is : block_book b ls lent records (length out) ≡ book_after b ls lent input n ended
+  unfolding block_book book_after
+  book-is = rw (fits-is, inside_is, answered-is)
 
-pub returns-then-not-within : goal.returns-then-not-within
-returns-then-not-within c =
-    let a = c.args in
-    let w = left-refused a.b a.lines a.lent a.input.now a.n a.ended a.out.now (sym c.within.ensures ∙ c.if-not-within.true) in
-    record {
-      done_value = w.0;
-      book_value = w.1.0;
-      lines_value = w.1.1.0;
-      written_value = w.1.1.1.0;
-      kept_value = w.1.1.1.1.0;
-      input_after = w.1.1.1.1.1.0;
-      out_after = w.1.1.1.1.1.1;
-    }
+  lines_are : block_lines b ls lent records (length out) ≡ lines_after b ls lent input n ended
+  unfolding block_lines lines_after
+  lines_are = rw (fits-is, inside_is, answered-is)
+
+  written_is : block_written b ls lent records (length out) ≡ written_after b ls lent input n ended
+  unfolding block_written written_after
+  written_is = rw (fits-is, inside_is, text-is)
+
+  out-is : block_buffer b ls lent records out ≡ out_after b ls lent input n ended out
+  unfolding block_buffer out_after
+  out-is = rw (fits-is, inside_is, text-is)
+
+  kept-count : kept ≡ kept_after input n ended
+  unfolding kept_after kept_count
+  kept-count = rw inside_is count
+
+  input-is : paste input 0 (drop (n - kept) input) (n - (n - kept)) ≡ input_after input n ended
+  unfolding input_after kept_count
+  input-is =
+      let l = less in
+      let e : n - (n - kept) ≡ kept = omega arith in
+      subst (λ (i : ℕ). paste input 0 (drop (n - kept) input) i ≡ input_after input n ended) (sym e) (moved input (n - kept) kept ∙ rw (inside_is, kept-is, count))
 
 pub overflow_sub-whole : goal.overflow_sub-whole
 overflow_sub-whole c =
@@ -111,44 +102,20 @@ overflow_sub-whole c =
     (λ q. let e = rw q at c.pick-kept.ensures in omega arith)
     (λ q. let e = rw q at c.pick-kept.ensures in omega arith)
 
-pub answer_first-block-requires : goal.answer_first-block-requires
-answer_first-block-requires c =
-    let at_test = c.before in
-    let a = at_test.args in
-    let there : a.n ≤ length a.input.now = leb-true a.n (length a.input.now)
-    (sym at_test.within.ensures ∙ at_test.if-not-within.false) in
-    omega arith
-
-pub move_front-requires : goal.move_front-requires
-move_front-requires c =
-    let at-pick = c.before in
-    let at_test = at-pick.before in
-    let a = at_test.args in
-    let there : a.n ≤ length a.input.now = leb-true a.n (length a.input.now)
-    (sym at_test.within.ensures ∙ at_test.if-not-within.false) in
-    on_test a.ended (λ q. let e = rw q at at-pick.pick-kept.ensures in omega arith)
-    (λ q. let e = rw q at at-pick.pick-kept.ensures in omega arith)
-
 pub returns : goal.returns
 returns c =
-    let at_block = c.before in
-    let at-pick = at_block.before in
-    let at_test = at-pick.before in
-    let a = at_test.args in
-    let block = at_block.answer_first-block in
-    let w = left-answered
-    a.b a.lines a.lent a.input.now a.n a.ended a.out.now at-pick.pick-kept.result
-    (sym at_test.within.ensures ∙ at_test.if-not-within.false) at-pick.pick-kept.ensures
-    (omega arith)
-    block.result.book block.result.lines block.result.written _ _ block.ensures.book_value block.ensures.lines_value
-    block.ensures.written_value block.ensures.out_after
-    c.move_front.ensures in
+    let a = c.args in
+    let block = c.answer_block-block.ensures in
+    let within : inside a.input.now a.n ≡ true = search rules in
+    let kept = c.pick-kept.result in
+    let count = c.pick-kept.ensures in
     record {
-      done_value = w.0;
-      book_value = w.1.0;
-      lines_value = w.1.1.0;
-      written_value = w.1.1.1.0;
-      kept_value = w.1.1.1.1.0;
-      input_after = w.1.1.1.1.1.0;
-      out_after = w.1.1.1.1.1.1;
+      done = within;
+      book_value = block.0 ∙ book-is a.b a.report.lines a.report.lent a.input.now a.n a.ended a.out.now kept within count (omega arith);
+      lines_value = block.1 ∙ lines_are a.b a.report.lines a.report.lent a.input.now a.n a.ended a.out.now kept within count (omega arith);
+      lent_value = block.2;
+      written_value = block.3 ∙ written_is a.b a.report.lines a.report.lent a.input.now a.n a.ended a.out.now kept within count (omega arith);
+      kept_value = kept-count a.b a.report.lines a.report.lent a.input.now a.n a.ended a.out.now kept within count (omega arith);
+      input_after = c.copy_within.ensures.after ∙ input-is a.b a.report.lines a.report.lent a.input.now a.n a.ended a.out.now kept within count (omega arith);
+      out_after = block.4 ∙ out-is a.b a.report.lines a.report.lent a.input.now a.n a.ended a.out.now kept within count (omega arith);
     }

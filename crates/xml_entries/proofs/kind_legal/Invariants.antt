@@ -1,7 +1,7 @@
--- `xml_entries::kind_legal` meets its contract. The invariant: `legal` tells whether the first i entries are legal.
+-- `xml_entries::kind_legal` meets its contract. The invariant: the first i entries are legal.
 use mathlib.Core.Path.{◌≡◌}
-use mathlib.Core.Bool.{Bool}
-use Prim.Native.Nat.{ℕ, ◌-◌, ◌≤◌}
+use mathlib.Core.Bool.{Bool, true}
+use Prim.Native.Nat.{ℕ}
 use Rattle.numbers.specs.Count.{all}
 use Rattle.model.specs.Book.{in_book, limits_legal}
 use Rattle.xml_model.specs.declared.State.{State}
@@ -12,7 +12,4 @@ abbrev pub judged : ℕ → State → ℕ → Bool
 judged kind st i = limits_legal (in_book st.book (asset_for st i)) (limits_for kind st i)
 
 abbrev pub invariant-loop-i : goal.invariant-loop-i
-invariant-loop-i l = (l.i ≤ l.n) × (l.legal ≡ all (judged l.kind l.st) l.i)
-
-abbrev pub decreases-loop-i : goal.decreases-loop-i
-decreases-loop-i l = l.n - l.i
+invariant-loop-i l = all (judged l.kind l.st) l.i ≡ true

@@ -5,9 +5,8 @@ use mathlib.Core.List.{List, [], ◌∷◌, ◌++◌}
 use lib.ListN.{take}
 use Rattle.book.specs.declared.Asset.{Asset}
 use Rattle.book.specs.declared.Entry.{Entry}
-use Rattle.xml_model.specs.declared.Reading.{Reading}
 use Rattle.xml_model.specs.Bytes.{bytes}
-use Rattle.xml_model.specs.Text.{reading_of}
+use Rattle.xml_model.specs.Text.{Reading, reading_of}
 use Rattle.xml_model.proofs.Examples.Computes.{reading-run}
 
 unfoldable pub assets : List Asset → List (List ℕ)

@@ -3,7 +3,7 @@ use Prim.Native.Nat.{ℕ}
 use mathlib.Core.Path.{◌≡◌, refl}
 use mathlib.Core.Bool.{Bool, true, false}
 use mathlib.Core.List.{List, [], ◌∷◌, map}
-use Rattle.xml_model.specs.declared.Value.{Value}
+use Rattle.xml_model.specs.Shapes.{Value}
 use Rattle.xml_model.specs.Bytes.{bytes}
 use Rattle.xml_model.specs.Calendar.{month_days, days_before}
 use Rattle.xml_model.specs.Values.{time_of, duration_of}

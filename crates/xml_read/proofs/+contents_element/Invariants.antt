@@ -12,9 +12,9 @@ decreases-contents l = l.left + l.left + 1
 abbrev pub decreases-element : goal.decreases-element
 decreases-element l = l.left + l.left
 
-abbrev pub invariant-contents-loop-here : goal.invariant-contents-loop-here
-invariant-contents-loop-here l =
-    Turn l.s l.at l.name l.end l.role l.left l.initial.here.state l.here.at l.state l.here.state
+abbrev pub invariant-contents-loop-t : goal.invariant-contents-loop-t
+invariant-contents-loop-t l =
+    Turn l.s l.initial.here.at l.name l.end l.role l.left l.initial.here.state l.here.at l.state l.here.state
 
-abbrev pub decreases-contents-loop-here : goal.decreases-contents-loop-here
-decreases-contents-loop-here l = length l.s - l.here.at
+abbrev pub decreases-contents-loop-t : goal.decreases-contents-loop-t
+decreases-contents-loop-t l = length l.s - l.here.at

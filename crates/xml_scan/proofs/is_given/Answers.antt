@@ -1,92 +1,87 @@
-use mathlib.Core.Path.{refl, sym, ap, ◌∙◌}
+use mathlib.Core.Path.{◌≡◌, refl, sym, ap, subst, ◌∙◌}
+use mathlib.Core.Bool.{true, false}
+use Rattle.std.specs.Prelude.{◌+◌}
 use native.Mathlib.Omega.{arith}
-use Rattle.xml_model.specs.Tags.{attribute_at}
+use Rattle.xml_model.specs.Bytes.{part, same}
+use Rattle.xml_model.specs.Tags.{attribute_at, given}
+use Rattle.xml_model.specs.Shapes.{Attribute}
+use Rattle.xml_model.proofs.Runs.{same_slices}
 use Rattle.xml_model.proofs.Units.{given_out, given-stuck, given-here, given-on}
-use Rattle.xml_scan.specs.Attributes.{held-as}
+use Rattle.xml_scan.specs.Attributes.{held-as, fault-code}
 use Rattle.xml_scan.proofs.is_given.Goals as goal
 
 pub loop-j-init : goal.loop-j-init
 loop-j-init c = refl
 
-pub run_end-i-requires : goal.run_end-i-requires
-run_end-i-requires c = tt
-
-pub attribute_at-a-requires : goal.attribute_at-a-requires
-attribute_at-a-requires c = tt
-
-pub returns-then-a-ne0 : goal.returns-then-a-ne0
-returns-then-a-ne0 c =
+pub returns-in_default : goal.returns-in_default
+returns-in_default c =
     let a = c.args in
     let l = c.loop-j in
-    let x = c.attribute_at-a.ensures in
-    let e = x ∙ ap (attribute_at a.s.now) c.run_end-i.ensures in
-    let t = c.loop-j-test.true in
-    sym (l.invariant ∙ given-stuck a.s.now a.p _ l.j t (rw e at c.if-a-ne0.true))
+    let g = c.run_end-i.ensures in
+    let n = fault-code _ _ _ (rw g at c.in_default.ensures) in
+    sym (l.invariant ∙ given-stuck a.s.now a.p _ l.j c.loop-j-test.true n)
 
-pub slice_bounds-equal-count-in-loop-j : goal.slice_bounds-equal-count-in-loop-j
-slice_bounds-equal-count-in-loop-j c =
+pub slice_bounds-eq-count-in-loop-j : goal.slice_bounds-eq-count-in-loop-j
+slice_bounds-eq-count-in-loop-j c =
     let a = c.args in
     let g = c.run_end-i.ensures in
-    let x = c.attribute_at-a.ensures in
-    let w = held-as a.s.now _ _ _ g x c.if-a-ne0.false in
+    let x = c.in-Ok.ensures in
+    let w = held-as a.s.now _ _ _ g x refl in
     omega (arith, w.named)
 
-pub slice_bounds-equal-start-in-loop-j : goal.slice_bounds-equal-start-in-loop-j
-slice_bounds-equal-start-in-loop-j c =
+pub slice_bounds-eq-start-in-loop-j : goal.slice_bounds-eq-start-in-loop-j
+slice_bounds-eq-start-in-loop-j c =
     let a = c.args in
     let g = c.run_end-i.ensures in
-    let x = c.attribute_at-a.ensures in
-    let w = held-as a.s.now _ _ _ g x c.if-a-ne0.false in
+    let x = c.in-Ok.ensures in
+    let w = held-as a.s.now _ _ _ g x refl in
     omega (arith, w.named, w.ended)
 
-pub slice_bounds-equal-end-in-loop-j : goal.slice_bounds-equal-end-in-loop-j
-slice_bounds-equal-end-in-loop-j c =
+pub slice_bounds-eq-end-in-loop-j : goal.slice_bounds-eq-end-in-loop-j
+slice_bounds-eq-end-in-loop-j c =
     let a = c.args in
     let g = c.run_end-i.ensures in
-    let x = c.attribute_at-a.ensures in
-    let w = held-as a.s.now _ _ _ g x c.if-a-ne0.false in
+    let x = c.in-Ok.ensures in
+    let w = held-as a.s.now _ _ _ g x refl in
     omega (arith, w.ended)
 
-pub equal-requires : goal.equal-requires
-equal-requires c = tt
-
-pub returns-then-equal : goal.returns-then-equal
-returns-then-equal c =
+pub returns-then-eq : goal.returns-then-eq
+returns-then-eq c =
     let a = c.args in
     let l = c.loop-j in
-    let x = c.attribute_at-a.ensures in
+    let x = c.in-Ok.ensures in
     let e = x ∙ ap (attribute_at a.s.now) c.run_end-i.ensures in
     let t = c.loop-j-test.true in
-    let o = rw e at c.if-a-ne0.false in
-    let n = rw e at (sym c.equal.ensures ∙ c.if-equal.true) in
+    let o = ap (λ (y : Attribute). y.code) (sym e) in
+    let n = subst (λ (y : Attribute). same (part a.s.now a.n a.e) (part a.s.now y.name y.end) ≡ true) e (sym (c.eq.ensures ∙ same_slices _ _) ∙ c.if-eq.true) in
     sym (l.invariant ∙ given-here a.s.now a.p _ l.j t o n)
 
 pub overflow_add-j : goal.overflow_add-j
 overflow_add-j c =
     let a = c.args in
     let g = c.run_end-i.ensures in
-    let x = c.attribute_at-a.ensures in
-    let w = held-as a.s.now _ _ _ g x c.if-a-ne0.false in
+    let x = c.in-Ok.ensures in
+    let w = held-as a.s.now _ _ _ g x refl in
     omega (arith, w.to)
 
 pub loop-j-smaller : goal.loop-j-smaller
 loop-j-smaller c =
     let a = c.args in
     let g = c.run_end-i.ensures in
-    let x = c.attribute_at-a.ensures in
-    let w = held-as a.s.now _ _ _ g x c.if-a-ne0.false in
+    let x = c.in-Ok.ensures in
+    let w = held-as a.s.now _ _ _ g x refl in
     omega (arith, w.to, w.moved)
 
 pub loop-j-preserved : goal.loop-j-preserved
 loop-j-preserved c =
     let a = c.args in
     let l = c.loop-j in
-    let x = c.attribute_at-a.ensures in
+    let x = c.in-Ok.ensures in
     let e = x ∙ ap (attribute_at a.s.now) c.run_end-i.ensures in
     let t = c.loop-j-test.true in
-    let o = rw e at c.if-a-ne0.false in
-    let n = rw e at (sym c.equal.ensures ∙ c.if-equal.false) in
-    l.invariant ∙ given-on a.s.now a.p _ l.j t o n ∙ rw e
+    let o = ap (λ (y : Attribute). y.code) (sym e) in
+    let n = subst (λ (y : Attribute). same (part a.s.now a.n a.e) (part a.s.now y.name y.end) ≡ false) e (sym (c.eq.ensures ∙ same_slices _ _) ∙ c.if-eq.false) in
+    l.invariant ∙ given-on a.s.now a.p _ l.j t o n ∙ ap (λ (y : Attribute). given a.s.now a.p (part a.s.now a.n a.e) (y.to + 1)) (sym e)
 
 pub returns : goal.returns
 returns c =

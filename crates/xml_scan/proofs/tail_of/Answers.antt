@@ -1,20 +1,19 @@
-use mathlib.Core.Path.{sym, ap, ◌∙◌}
+use mathlib.Core.Path.{◌≡◌, refl, sym, ap, subst, ◌∙◌}
+use mathlib.Core.Bool.{true, false}
+use Rattle.std.specs.Prelude.{◌+◌}
+use Rattle.std.proofs.lemmas.Result.{err_from_is_err_and}
 use native.Mathlib.Omega.{arith}
-use Rattle.xml_model.specs.Bytes.{byte_at}
-use Rattle.xml_model.specs.Tags.{attribute_at, tailed}
+use Rattle.xml_model.specs.Codes.{IsFault}
+use Rattle.xml_model.specs.Bytes.{byte_at, part}
+use Rattle.xml_model.specs.Shapes.{Attribute}
+use Rattle.xml_model.specs.Tags.{attribute_at, given, tailed}
 use Rattle.xml_model.proofs.Runs.{inside}
-use Rattle.xml_model.proofs.Units.{rest-first, rest-open, rest-empty, rest-tight, rest-stuck, rest-twice, rest-on}
-use Rattle.xml_scan.specs.Attributes.{held-as}
+use Rattle.xml_model.proofs.Units.{rest, rest-first, rest-open, rest-empty, rest-tight, rest-stuck, rest-twice, rest-on}
+use Rattle.xml_scan.specs.Attributes.{held-as, fault-code}
 use Rattle.xml_scan.proofs.tail_of.Goals as goal
 
 pub loop-first-init : goal.loop-first-init
 loop-first-init c = rest-first _ _
-
-pub run_end-g-requires : goal.run_end-g-requires
-run_end-g-requires c = tt
-
-pub byte_at-b-requires : goal.byte_at-b-requires
-byte_at-b-requires c = tt
 
 pub overflow_add-result : goal.overflow_add-result
 overflow_add-result c =
@@ -44,12 +43,10 @@ returns-then-b-eq47 c =
     let g = c.run_end-g.ensures in
     let b = c.byte_at-b.ensures ∙ ap (byte_at a.s.now) g in
     let t = rw b at c.if-b-eq62.false in
-    sym (l.invariant ∙ rest-empty a.s.now a.first l.j t (rw b at c.if-b-eq47.true) ∙ rw (c.empty_tail.ensures, g))
-
-pub stuck_tail-requires : goal.stuck_tail-requires
-stuck_tail-requires c = tt
+    rw (l.invariant, rest-empty a.s.now a.first l.j t (rw b at c.if-b-eq47.true), ← g) c.empty_tail.ensures
 
 pub returns-then-g-j : goal.returns-then-g-j
+unfolding tailed
 returns-then-g-j c =
     let a = c.args in
     let l = c.loop-first in
@@ -57,38 +54,34 @@ returns-then-g-j c =
     let b = c.byte_at-b.ensures ∙ ap (byte_at a.s.now) g in
     let t = rw b at c.if-b-eq62.false in
     let u = rw b at c.if-b-eq47.false in
-    sym (l.invariant ∙ rest-tight a.s.now a.first l.j t u (rw g at c.if-g-j.true) ∙ rw (c.stuck_tail.ensures, g))
+    rw (l.invariant, rest-tight a.s.now a.first l.j t u (rw g at c.if-g-j.true), ← g) c.stuck.ensures
 
-pub attribute_at-a-requires : goal.attribute_at-a-requires
-attribute_at-a-requires c = tt
-
-pub returns-then-a-ne0 : goal.returns-then-a-ne0
+pub returns-in_err-a : goal.returns-in_err-a
 unfolding tailed
-returns-then-a-ne0 c =
+returns-in_err-a c =
     let a = c.args in
     let l = c.loop-first in
     let g = c.run_end-g.ensures in
     let b = c.byte_at-b.ensures ∙ ap (byte_at a.s.now) g in
-    let e = c.attribute_at-a.ensures ∙ ap (attribute_at a.s.now) g in
     let t = rw b at c.if-b-eq62.false in
     let u = rw b at c.if-b-eq47.false in
     let v = rw g at c.if-g-j.false in
-    sym (l.invariant ∙ rest-stuck a.s.now a.first l.j t u v (rw e at c.if-a-ne0.true) ∙ rw e)
+    let k : IsFault _ _ _ = rw g at c.in_err-a.ensures in
+    let p = err_from_is_err_and c.from_residual.result c.from_residual.ensures.1 in
+    rw (p.1, p.2, l.invariant, rest-stuck a.s.now a.first l.j t u v (fault-code _ _ _ k)) k
 
 pub overflow_add-next : goal.overflow_add-next
 overflow_add-next c =
     let a = c.args in
     let g = c.run_end-g.ensures in
-    let x = c.attribute_at-a.ensures in
-    let w = held-as a.s.now _ _ _ g x c.if-a-ne0.false in
+    let w = held-as a.s.now _ _ _ g c.in_ok-a.ensures refl in
     omega (arith, w.to)
 
 pub is_given-requires : goal.is_given-requires
 is_given-requires c =
     let a = c.args in
     let g = c.run_end-g.ensures in
-    let x = c.attribute_at-a.ensures in
-    let w = held-as a.s.now _ _ _ g x c.if-a-ne0.false in
+    let w = held-as a.s.now _ _ _ g c.in_ok-a.ensures refl in
     (w.named, w.ended)
 
 pub returns-then-is_given : goal.returns-then-is_given
@@ -98,20 +91,19 @@ returns-then-is_given c =
     let l = c.loop-first in
     let g = c.run_end-g.ensures in
     let b = c.byte_at-b.ensures ∙ ap (byte_at a.s.now) g in
-    let e = c.attribute_at-a.ensures ∙ ap (attribute_at a.s.now) g in
+    let e = c.in_ok-a.ensures ∙ ap (attribute_at a.s.now) g in
     let t = rw b at c.if-b-eq62.false in
     let u = rw b at c.if-b-eq47.false in
     let v = rw g at c.if-g-j.false in
-    let o = rw e at c.if-a-ne0.false in
-    let n = rw e at (sym c.is_given.ensures ∙ c.if-is_given.true) in
-    sym (l.invariant ∙ rest-twice a.s.now a.first l.j t u v o n ∙ rw e)
+    let o = ap (λ (y : Attribute). y.code) (sym e) in
+    let n = subst (λ (y : Attribute). given a.s.now l.j (part a.s.now y.name y.end) a.first ≡ true) e (sym c.is_given.ensures ∙ c.if-is_given.true) in
+    rw (l.invariant, rest-twice a.s.now a.first l.j t u v o n) (refl, ap (λ (y : Attribute). y.to + 1) e)
 
 pub loop-first-smaller : goal.loop-first-smaller
 loop-first-smaller c =
     let a = c.args in
     let g = c.run_end-g.ensures in
-    let x = c.attribute_at-a.ensures in
-    let w = held-as a.s.now _ _ _ g x c.if-a-ne0.false in
+    let w = held-as a.s.now _ _ _ g c.in_ok-a.ensures refl in
     omega (arith, w.to, w.moved)
 
 pub loop-first-preserved : goal.loop-first-preserved
@@ -120,10 +112,10 @@ loop-first-preserved c =
     let l = c.loop-first in
     let g = c.run_end-g.ensures in
     let b = c.byte_at-b.ensures ∙ ap (byte_at a.s.now) g in
-    let e = c.attribute_at-a.ensures ∙ ap (attribute_at a.s.now) g in
+    let e = c.in_ok-a.ensures ∙ ap (attribute_at a.s.now) g in
     let t = rw b at c.if-b-eq62.false in
     let u = rw b at c.if-b-eq47.false in
     let v = rw g at c.if-g-j.false in
-    let o = rw e at c.if-a-ne0.false in
-    let n = rw e at (sym c.is_given.ensures ∙ c.if-is_given.false) in
-    l.invariant ∙ rest-on a.s.now a.first l.j t u v o n ∙ rw e
+    let o = ap (λ (y : Attribute). y.code) (sym e) in
+    let n = subst (λ (y : Attribute). given a.s.now l.j (part a.s.now y.name y.end) a.first ≡ false) e (sym c.is_given.ensures ∙ c.if-is_given.false) in
+    l.invariant ∙ rest-on a.s.now a.first l.j t u v o n ∙ ap (λ (y : Attribute). rest a.s.now a.first (y.to + 1)) (sym e)

@@ -1,62 +1,19 @@
-use mathlib.Core.Path.{◌≡◌, refl, sym, ◌∙◌}
-use mathlib.Core.Bool.{true}
-use mathlib.Core.List.{List}
-use Prim.Native.Nat.{ℕ, ◌<◌}
-use native.Mathlib.Omega.{arith}
-use Rattle.numbers.specs.Count.{first}
-use Rattle.numbers.proofs.Loops.{first_on, first_found}
-use Rattle.xml_model.specs.declared.Range.{Range}
-use Rattle.xml_model.specs.declared.Ids.{Ids}
-use Rattle.xml_model.specs.State.{is_id, ids_in, id_position}
+-- `xml_state::id_position` meets its contract: an iterator over the ids finds what the definition finds.
+use Rattle.std.proofs.Common.{◌≡◌, ◌≤◌, rules, arith, tests, length, take}
+use Rattle.std.proofs.lemmas.Iterator.{YieldsList-from_slice}
+use Rattle.std.proofs.lemmas.Iterator.Search.{position_from_yields_List}
+use Rattle.std.proofs.lemmas.List.{length-take}
+use Rattle.xml_model.specs.declared.Id.{Id}
+use Rattle.xml_model.specs.State.{no_id, same_range, is_id, ids_in, id_position}
+use Rattle.xml_state.proofs.Search.{position-told}
 use Rattle.xml_state.proofs.id_position.Goals as goal
 
-module _ (s : List ℕ) (g : Ids) (v : Range) (n i : ℕ) (e : n ≡ ids_in g) where
-  found : i < n → first (is_id s g.table v) i ≡ i → is_id s g.table v i ≡ true → i ≡ id_position s g v
-  unfolding id_position
-  found h none here = rw (← e) (sym (first_found (is_id s g.table v) i n h none here))
-
-  missed : i ≡ n → first (is_id s g.table v) i ≡ i → n ≡ id_position s g v
-  unfolding id_position
-  missed q none = rw (← e, ← q) (sym none)
-
-pub ids_in-n-requires : goal.ids_in-n-requires
-ids_in-n-requires c = tt
-
-pub loop-i-init : goal.loop-i-init
-unfolding first
-loop-i-init c = (omega arith, refl)
-
-pub offset_bounds-g-i : goal.offset_bounds-g-i
-unfolding ids_in
-offset_bounds-g-i c = omega (arith, c.ids_in-n.ensures)
-
-pub bounds-g-i : goal.bounds-g-i
-unfolding ids_in
-bounds-g-i c = omega (arith, c.ids_in-n.ensures)
-
-pub same_range-requires : goal.same_range-requires
-same_range-requires c = tt
-
-pub returns-then-same_range : goal.returns-then-same_range
-unfolding is_id
-returns-then-same_range c =
-    let a = c.args in
-    let l = c.loop-i in
-    let n = c.ids_in-n in
-    found a.s.now a.g a.value n.result l.i n.ensures c.loop-i-test.true l.invariant.1
-    (sym c.same_range.ensures ∙ c.if-same_range.true)
-
-pub loop-i-preserved : goal.loop-i-preserved
-unfolding is_id
-loop-i-preserved c =
-    let a = c.args in
-    let l = c.loop-i in
-    let other = sym c.same_range.ensures ∙ c.if-same_range.false in
-    (omega arith, first_on (is_id a.s.now a.g.table a.value) l.i l.invariant.1 other)
-
 pub returns : goal.returns
+unfolding id_position is_id ids_in
 returns c =
     let a = c.args in
-    let l = c.loop-i in
-    let n = c.ids_in-n in
-    missed a.s.now a.g a.value n.result l.i n.ensures (omega arith) l.invariant.1
+    let p = λ (d : Id). same_range a.s.now a.value.from a.value.to d.from d.to in
+    let size : length (take (ids_in a.ids.now) a.ids.now.table) ≡ ids_in a.ids.now = rw (← c.as_slice.ensures.items) c.as_slice.ensures.size in
+    let room : ids_in a.ids.now ≤ length a.ids.now.table = omega (arith, length-take (ids_in a.ids.now) a.ids.now.table) in
+    position-told p a.ids.now.table no_id (ids_in a.ids.now) room c.position.result
+    (position_from_yields_List p _ _ c.position.result c.position.ensures.ran (YieldsList-from_slice _ (cc)) (λ x b q k. search (rules, tests)))

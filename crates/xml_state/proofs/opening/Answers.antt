@@ -1,39 +1,25 @@
 -- `xml_state::opening` meets its contract: the first of the three steps that is a fault is the result.
-use borrow.Author.Tests.{eq-eqb, ne_eqb}
-use Rattle.xml_model.specs.State.{and_then, opening}
+use Rattle.std.proofs.lemmas.Result.{err_from_is_err_and}
+use Rattle.xml_model.specs.State.{opening}
+use Rattle.xml_model.proofs.Steps.{no-then, ok-then}
+use Rattle.xml_state.proofs.Looks.{looked}
 use Rattle.xml_state.proofs.opening.Goals as goal
 
-pub returns-then-d-ne0 : goal.returns-then-d-ne0
-unfolding opening and_then
-returns-then-d-ne0 c = rw (
-  ← c.look-id.ensures,
-  ← c.begun.ensures,
-  ← c.new_id-d.ensures,
-  ne_eqb _ _ c.if-d-ne0.true,
-)
+pub returns-in_err-st : goal.returns-in_err-st
+unfolding opening
+returns-in_err-st c =
+    let p = err_from_is_err_and c.from_residual.result c.from_residual.ensures.1 in
+    rw (p.1, p.2, ← (looked _ _ c.look-id.ensures).0, ← c.begun.ensures, ← c.in_err-st.ensures) (no-then _ _)
 
-pub returns-then-e-ne0 : goal.returns-then-e-ne0
-unfolding opening and_then
-returns-then-e-ne0 c = rw (
-  ← c.look-id.ensures,
-  ← c.begun.ensures,
-  ← c.new_id-d.ensures,
-  eq-eqb _ _ c.if-d-ne0.false,
-  ← c.look-idref.ensures,
-  ← c.with_idref-e.ensures,
-  ne_eqb _ _ c.if-e-ne0.true,
-)
+pub returns-in_err-st-2 : goal.returns-in_err-st-2
+unfolding opening
+returns-in_err-st-2 c =
+    let p = err_from_is_err_and c.from_residual-in_err-st-2.result c.from_residual-in_err-st-2.ensures.1 in
+    rw (p.1, p.2, ← (looked _ _ c.look-id.ensures).0, ← c.begun.ensures, ← c.in_ok-st.ensures, ← ok-then, ← (looked _ _ c.look-idref.ensures).0, ← c.in_err-st-2.ensures)
+    (no-then _ _)
 
 pub returns : goal.returns
-unfolding opening and_then
-returns c = rw (
-  ← c.look-id.ensures,
-  ← c.begun.ensures,
-  ← c.new_id-d.ensures,
-  eq-eqb _ _ c.if-d-ne0.false,
-  ← c.look-idref.ensures,
-  ← c.with_idref-e.ensures,
-  eq-eqb _ _ c.if-e-ne0.false,
-  ← c.look-timer.ensures,
-  ← c.with_timer_of.ensures,
-)
+unfolding opening
+returns c =
+    rw (← (looked _ _ c.look-id.ensures).0, ← c.begun.ensures, ← c.in_ok-st.ensures, ← ok-then, ← (looked _ _ c.look-idref.ensures).0, ← c.in_ok-st-2.ensures,
+    ← ok-then, ← (looked _ _ c.look-timer.ensures).0) c.with_timer_of.ensures

@@ -7,7 +7,7 @@ pub returns-then-not-time_formed : goal.returns-then-not-time_formed
 unfolding time_of time_if value_if
 returns-then-not-time_formed c =
     let f = c.time_formed in
-    rw (c.value_if.ensures, ← f.ensures, c.if-not-time_formed.true)
+    rw (← f.ensures, c.if-not-time_formed.true)
 
 pub four_digits-year-requires : goal.four_digits-year-requires
 four_digits-year-requires c = (time-digits c.args.v.now c.time_formed.ensures c.if-not-time_formed.false).0

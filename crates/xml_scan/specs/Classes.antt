@@ -1,0 +1,15 @@
+-- The numbers by which the definitions know the classes of bytes.
+use Rattle.std.specs.Prelude.{ℕ, Bool, ◌||◌, eqb}
+use Rattle.xml_model.specs.Bytes.{spaces, names, texts, digits}
+use Rattle.xml_scan.specs.declared.Class.{Class}
+
+abbrev pub class_code : Class → ℕ
+class_code Class.Spaces = spaces
+class_code Class.Names = names
+class_code Class.Texts = texts
+class_code Class.Digits = digits
+class_code Class.Double = 34
+class_code Class.Single = 39
+
+abbrev pub is_quote : ℕ → Bool
+is_quote c = eqb c 34 || eqb c 39

@@ -1,0 +1,3 @@
+-- A search by an iterator, and the definitions' search.
+pub mod Search
+pub mod Looks

@@ -1,9 +1,0 @@
--- `xml_values::duration_formed` meets its contract: its tests are the definition's.
-use Rattle.xml_model.specs.Values.{duration_formed}
-use Rattle.xml_values.proofs.duration_formed.Goals as goal
-
-pub returns : goal.returns
-unfolding duration_formed
-returns c =
-    let b = c.before in
-    rw (c.pick.ensures, c.byte_at.ensures, b.byte_at-timed.ensures)
