@@ -2,13 +2,14 @@
 // The lines are held by value, in 64 places; how many of them were lent is passed beside them.
 #![tactic(auto)]
 
-ghost use Rattle.std.specs.Prelude.{◌≡◌, ◌<◌, cond, length, None, position, eqb, set};
+ghost use Rattle.std.specs.Prelude.{◌≡◌, ◌<◌, cond, length, None, set};
 ghost use Rattle.model.specs.Meters.{expired};
 ghost use Rattle.model.specs.Report.{line_at, raised, recorded, recorded_all, overdue, ended_by};
 ghost use Rattle.metering.specs.Recording.{line_in, request_in, request_seconds};
 ghost use Rattle.metering.specs.Good.{fine, good_lines, good_after};
 
 use book::{Answer, Asset, Book, Limits, Line, Open, Request, at_most_64, blank_asset, entry_at};
+use image_limits::asset_position;
 use report::raise_one;
 use rules::momentary;
 use uses::due;
@@ -41,14 +42,6 @@ pub fn good_lines(assets: &[Asset], lines: [Line; 64], count: usize) -> bool
     good
 }
 
-// The position of the asset with that number.
-// Rules out: the last of two with that number.
-fn position_of(assets: &[Asset], number: u32) -> Option<usize>
-    ensures { result ≡ position (λ a. eqb a.number number) assets.now }
-{
-    assets.iter().position(|a| a.number as u32 == number)
-}
-
 // The line of a content, by the position of its asset, if a use of an entry with these limits is recorded.
 // Rules out: a use recorded with the switch off or for an untracked entry, a content that the book lacks.
 #[tactic(auto, unfolding(crate::specs::Recording::line_in))]
@@ -58,7 +51,7 @@ pub fn line_for(switch: u32, l: Limits, assets: &[Asset], content: u32) -> Optio
     if !((switch == 1) & (l.tracked == 1)) {
         return None;
     }
-    position_of(assets, content)
+    asset_position(assets, content)
 }
 
 // Raises line k by a use of so many seconds, of an entry with these limits.
