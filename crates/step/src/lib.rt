@@ -224,9 +224,9 @@ fn lines_after(b: Book, e: Event, a: Answer, lines: [Line; 64]) -> [Line; 64]
 {
     let asking = book::player_at(b.players, e.player as usize);
     match rules::gate_of(b.time, asking.last, e) {
-        Err(_) => lines,
-        Ok(Admission::Resend) => lines,
         Ok(Admission::Take) => taken_lines(b, e, a, lines),
+        Ok(Admission::Resend) => lines,
+        Err(_) => lines,
     }
 }
 
