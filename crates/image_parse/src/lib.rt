@@ -2,11 +2,13 @@
 // image's version. An older image gets the marks that it lacks. The contents of the tables are not checked here.
 #![tactic(auto)]
 
-ghost use Rattle.std.specs.Prelude.{◌≡◌, cond, ◌+◌, ◌*◌, ◌<◌, ◌≤◌, length, leb, MatchResult};
+ghost use Rattle.std.specs.Prelude.{◌≡◌, cond, ℕ, ◌+◌, ◌*◌, ◌-◌, ◌<◌, ◌≤◌, List, ◌++◌, length, drop, replicate, leb, MatchResult};
 ghost use Rattle.numbers.specs.Fields.{bits8, bits16, bits32, bits64, number_at};
+ghost use Rattle.numbers.specs.Count.{listed};
+ghost use Rattle.book.specs.Blank.{no_asset, no_entry, no_player};
 ghost use Rattle.book.specs.Codes.{image_code};
 ghost use Rattle.model.specs.Image.{newest, number_width, asset_size, entry_size, player_size, asset_in, entry_in, player_in};
-ghost use Rattle.model.specs.Image.{asset_table, entry_table, player_table, with_marks, marked_entries, marked, version_in, book_as, book_in};
+ghost use Rattle.model.specs.Image.{with_marks, marked_entries, marked, version_in, book_as, book_in};
 ghost use Rattle.model.specs.Image.{header_broken};
 ghost use Rattle.image_parse.specs.Versions.{wider};
 
@@ -31,14 +33,14 @@ fn read16(s: &[u8], at: usize) -> u16
     requires { at + 2 ≤ length s.now }
     ensures { result ≡ number_at bits16 at s.now }
 {
-    numbers::join16(s[at], s[at + 1])
+    u16::from_be_bytes([s[at], s[at + 1]])
 }
 
 fn read32(s: &[u8], at: usize) -> u32
     requires { at + 4 ≤ length s.now }
     ensures { result ≡ number_at bits32 at s.now }
 {
-    numbers::join32(s[at], s[at + 1], s[at + 2], s[at + 3])
+    u32::from_be_bytes([s[at], s[at + 1], s[at + 2], s[at + 3]])
 }
 
 fn read64(s: &[u8], at: usize) -> u64
@@ -61,9 +63,89 @@ fn added32(s: &[u8], v: u16, first: u16, at: usize) -> u32
     0
 }
 
-// A record of version v at the start of the bytes. A field that the version lacks is 0.
+// A record of a table: how many bytes it has in a version, and what it is in bytes that begin with it. A field that the version lacks
+// is 0.
+trait Record: Copy {
+    ghost bytes: { ℕ → ℕ };
+
+    ghost held: { ℕ → List ℕ → Self };
+
+    ghost none: { Self };
+
+    fn width(v: u16) -> usize
+        ensures { (result ≡ bytes v) × (result ≤ 200) };
+
+    fn blank() -> Self
+        ensures { result ≡ none };
+
+    fn read(s: &[u8], v: u16) -> Self
+        requires { (1 ≤ v) × (v ≤ newest) × (bytes v ≤ length s.now) }
+        ensures { result ≡ held v s.now };
+}
+
+impl Record for Asset {
+    ghost bytes = { asset_size };
+
+    ghost held = { asset_in };
+
+    ghost none = { no_asset };
+
+    fn width(v: u16) -> usize {
+        asset_size(v)
+    }
+
+    fn blank() -> Asset {
+        book::blank_asset()
+    }
+
+    fn read(s: &[u8], v: u16) -> Asset {
+        asset_in(s, v)
+    }
+}
+
+impl Record for Entry {
+    ghost bytes = { entry_size };
+
+    ghost held = { entry_in };
+
+    ghost none = { no_entry };
+
+    fn width(v: u16) -> usize {
+        entry_size(v)
+    }
+
+    fn blank() -> Entry {
+        book::blank_entry()
+    }
+
+    fn read(s: &[u8], v: u16) -> Entry {
+        entry_in(s, v)
+    }
+}
+
+impl Record for Player {
+    ghost bytes = { player_size };
+
+    ghost held = { player_in };
+
+    ghost none = { no_player };
+
+    fn width(v: u16) -> usize {
+        player_size(v)
+    }
+
+    fn blank() -> Player {
+        book::blank_player()
+    }
+
+    fn read(s: &[u8], v: u16) -> Player {
+        player_in(s, v)
+    }
+}
+
+#[tactic(auto, unfolding(model::specs::Image::asset_size))]
 fn asset_in(s: &[u8], v: u16) -> Asset
-    requires { (1 ≤ v) × (v ≤ newest) × (5 ≤ length s.now) × (asset_size v ≤ length s.now) }
+    requires { (1 ≤ v) × (v ≤ newest) × (asset_size v ≤ length s.now) }
     ensures { result ≡ asset_in v s.now }
 {
     Asset {
@@ -190,54 +272,17 @@ fn player_in(s: &[u8], v: u16) -> Player
     }
 }
 
-// The three tables: the records at offset `at`, one after the other by the width of the version, and blank slots after them.
-fn assets_in(s: &[u8], v: u16, at: usize, n: usize) -> [Asset; 64]
-    requires { (1 ≤ v) × (v ≤ newest) × (n ≤ 64) × (at + asset_size v * n ≤ length s.now) }
-    ensures { result ≡ asset_table v s.now at n }
+// A table: the records at offset `at`, one after the other by the width of the version, and blank slots after them.
+fn table_in<T: Record, const N: usize>(s: &[u8], v: u16, at: usize, n: usize) -> [T; N]
+    requires { (1 ≤ v) × (v ≤ newest) × (n ≤ N) × (at + T.bytes v * n ≤ length s.now) }
+    ensures { result ≡ listed (λ i. T.held v (drop (at + T.bytes v * i) s.now)) n ++ replicate (N - n) T.none }
 {
-    let width = asset_size(v);
-    let mut table = [book::blank_asset(); 64];
-    let mut i: usize = 0;
+    let width = T::width(v);
+    let mut table = [T::blank(); N];
     let mut o = at;
-    while i < n {
-        let a = asset_in(&s[o..], v);
-        table[i] = a;
+    for i in 0..n {
+        table[i] = T::read(&s[o..], v);
         o = o + width;
-        i = i + 1;
-    }
-    table
-}
-
-fn entries_in(s: &[u8], v: u16, at: usize, n: usize) -> [Entry; 64]
-    requires { (1 ≤ v) × (v ≤ newest) × (n ≤ 64) × (at + entry_size v * n ≤ length s.now) }
-    ensures { result ≡ entry_table v s.now at n }
-{
-    let width = entry_size(v);
-    let mut table = [book::blank_entry(); 64];
-    let mut i: usize = 0;
-    let mut o = at;
-    while i < n {
-        let e = entry_in(&s[o..], v);
-        table[i] = e;
-        o = o + width;
-        i = i + 1;
-    }
-    table
-}
-
-fn players_in(s: &[u8], v: u16, at: usize) -> [Player; 16]
-    requires { (1 ≤ v) × (v ≤ newest) × (at + player_size v * 16 ≤ length s.now) }
-    ensures { result ≡ player_table v s.now at }
-{
-    let width = player_size(v);
-    let mut table = [book::blank_player(); 16];
-    let mut i: usize = 0;
-    let mut o = at;
-    while i < 16 {
-        let p = player_in(&s[o..], v);
-        table[i] = p;
-        o = o + width;
-        i = i + 1;
     }
     table
 }
@@ -291,22 +336,17 @@ fn book_as(s: &[u8]) -> Book
         },
         assetcount: assets,
         entrycount: entries,
-        assets: assets_in(s, v, assetsfrom, assets as usize),
-        entries: entries_in(s, v, entriesfrom, entries as usize),
-        players: players_in(s, v, playersfrom),
+        assets: table_in(s, v, assetsfrom, assets as usize),
+        entries: table_in(s, v, entriesfrom, entries as usize),
+        players: table_in(s, v, playersfrom, 16),
     }
 }
 
-fn with_marks(marks: u32, e: Entry) -> Entry
+fn with_marks(marks: u32, mut e: Entry) -> Entry
     ensures { result ≡ with_marks marks e }
 {
-    let l = e.limits;
-    let mut m = e.meters;
-    m.marks = marks;
-    Entry {
-        limits: l,
-        meters: m,
-    }
+    e.meters.marks = marks;
+    e
 }
 
 // The first n entries with a mark for each player that has them open.
@@ -315,12 +355,8 @@ fn marked_entries(players: [Player; 16], entries: [Entry; 64], n: usize) -> [Ent
     ensures { result ≡ marked_entries players entries n }
 {
     let mut table = entries;
-    let mut i: usize = 0;
-    while i < n {
-        let e = entries[i];
-        let w = with_marks(marks_of(players, i), e);
-        table[i] = w;
-        i = i + 1;
+    for i in 0..n {
+        table[i] = with_marks(marks_of(players, i), entries[i]);
     }
     table
 }

@@ -2,13 +2,12 @@
 // A buffer that is too short is left untouched.
 #![tactic(auto)]
 
-ghost use Rattle.std.specs.Prelude.{◌≡◌, ◌+◌, ◌*◌, ◌<◌, ◌≤◌, min, length, get_or, ◌++◌, MatchResult, OnErr};
+ghost use Rattle.std.specs.Prelude.{◌≡◌, ℕ, List, ◌+◌, ◌*◌, ◌<◌, ◌≤◌, min, length, get_or, ◌++◌, MatchResult, OnErr};
 ghost use Rattle.numbers.specs.Count.{joined};
 ghost use Rattle.numbers.specs.Buffer.{lay};
-ghost use Rattle.book.specs.Blank.{no_entry};
+ghost use Rattle.book.specs.Blank.{no_asset, no_entry, no_player};
 ghost use Rattle.book.specs.declared.TheConstants.{NO_ROOM};
-ghost use Rattle.image_pieces.specs.Pieces.{start_bytes, number_bytes, latest_bytes};
-ghost use Rattle.model.specs.Book.{asset_at, player_at};
+ghost use Rattle.image_pieces.specs.Pieces.{start_bytes, number_bytes, latest_bytes, asset-length, entry_length, player-length};
 ghost use Rattle.model.specs.Image.{newest, header_size, asset_size, entry_size, player_size, asset_bytes, entry_bytes, player_bytes, image_length};
 ghost use Rattle.model.specs.Image.{length_of, write_answer, write_buffer};
 
@@ -78,39 +77,77 @@ fn put_player(buf: &mut [u8], at: usize, p: Player) -> usize
     put(buf, o, &content)
 }
 
-// The three tables: writes the first n records at offset `at`, and returns the end offset.
-fn put_assets(buf: &mut [u8], at: usize, table: &[Asset; 64], n: usize) -> usize
-    requires { (n ≤ 64) × (at + asset_size newest * n ≤ length buf.old) }
-    ensures value { result ≡ at + asset_size newest * n }
-    ensures buf_after { buf.new ≡ lay buf.old at (joined (λ i. asset_bytes (asset_at table.now i)) n) }
+// A record of a table: how many bytes it has, and which.
+trait Record: Copy {
+    ghost size: { ℕ };
+
+    ghost bytes: { Self → List ℕ };
+
+    ghost none: { Self };
+
+    fn put(self, buf: &mut [u8], at: usize) -> usize
+        requires { at + size ≤ length buf.old }
+        ensures { (result ≡ at + size) × (buf.new ≡ lay buf.old at (bytes self)) };
+
+    ghost even: { (x : Self) → length (bytes x) ≡ size };
+}
+
+impl Record for Asset {
+    ghost size = { asset_size newest };
+
+    ghost bytes = { asset_bytes };
+
+    ghost none = { no_asset };
+
+    fn put(self, buf: &mut [u8], at: usize) -> usize {
+        put_asset(buf, at, self)
+    }
+
+    ghost even = { asset-length };
+}
+
+impl Record for Entry {
+    ghost size = { entry_size newest };
+
+    ghost bytes = { entry_bytes };
+
+    ghost none = { no_entry };
+
+    fn put(self, buf: &mut [u8], at: usize) -> usize {
+        put_entry(buf, at, self)
+    }
+
+    ghost even = { entry_length };
+}
+
+impl Record for Player {
+    ghost size = { player_size newest };
+
+    ghost bytes = { player_bytes };
+
+    ghost none = { no_player };
+
+    fn put(self, buf: &mut [u8], at: usize) -> usize {
+        put_player(buf, at, self)
+    }
+
+    ghost even = { player-length };
+}
+
+// A table: writes the first n records at offset `at`, and returns the end offset.
+fn put_table<T: Record, const N: usize>(
+    buf: &mut [u8],
+    at: usize,
+    table: &[T; N],
+    n: usize,
+) -> usize
+    requires { (n ≤ N) × (at + T.size * n ≤ length buf.old) }
+    ensures value { result ≡ at + T.size * n }
+    ensures buf_after { buf.new ≡ lay buf.old at (joined (λ i. T.bytes (get_or table.now i T.none)) n) }
 {
     let mut o = at;
     for i in 0..n {
-        o = put_asset(buf, o, table[i]);
-    }
-    o
-}
-
-fn put_entries(buf: &mut [u8], at: usize, table: &[Entry; 64], n: usize) -> usize
-    requires { (n ≤ 64) × (at + entry_size newest * n ≤ length buf.old) }
-    ensures value { result ≡ at + entry_size newest * n }
-    ensures buf_after { buf.new ≡ lay buf.old at (joined (λ i. entry_bytes (get_or table.now i no_entry)) n) }
-{
-    let mut o = at;
-    for i in 0..n {
-        o = put_entry(buf, o, table[i]);
-    }
-    o
-}
-
-fn put_players(buf: &mut [u8], at: usize, table: &[Player; 16]) -> usize
-    requires { at + player_size newest * 16 ≤ length buf.old }
-    ensures value { result ≡ at + player_size newest * 16 }
-    ensures buf_after { buf.new ≡ lay buf.old at (joined (λ p. player_bytes (player_at table.now p)) 16) }
-{
-    let mut o = at;
-    for i in 0..16 {
-        o = put_player(buf, o, table[i]);
+        o = table[i].put(buf, o);
     }
     o
 }
@@ -140,7 +177,7 @@ pub fn write(b: &Book, buf: &mut [u8]) -> Result<usize, NoRoom>
     let a = at_most_64(b.assetcount);
     let n = at_most_64(b.entrycount);
     let o = put_header(buf, a as u8, n as u8, b.time, b.switch, b.latest);
-    let o = put_assets(buf, o, &b.assets, a);
-    let o = put_entries(buf, o, &b.entries, n);
-    Ok(put_players(buf, o, &b.players))
+    let o = put_table(buf, o, &b.assets, a);
+    let o = put_table(buf, o, &b.entries, n);
+    Ok(put_table(buf, o, &b.players, 16))
 }

@@ -1,7 +1,8 @@
 -- `image_parse::book_as` meets its contract: each table is read where the sizes of the version and the counts of the header put it.
-use mathlib.Core.Path.{ap}
+use mathlib.Core.Path.{ap, ◌∙◌}
+use mathlib.Core.List.{append-nil}
 use native.Mathlib.Omega.{arith}
-use Rattle.model.specs.Image.{header_size, version_in}
+use Rattle.model.specs.Image.{header_size, version_in, asset_table, entry_table, player_table}
 use Rattle.image_parse.specs.Versions.{header-two, header-five}
 use Rattle.image_parse.specs.Header.{HeaderStands, header-stands, located, read-there}
 use Rattle.image_parse.proofs.book_as.Goals as goal
@@ -45,24 +46,24 @@ read32-requires c =
 pub overflow_cast-assets : goal.overflow_cast-assets
 overflow_cast-assets c = let l = (located c.args.s.now c.requires _ _ _ _ c.read16-v.ensures c.header_size-assetsfrom.ensures.0 c.entries_from-entriesfrom.ensures.0 c.players_from-playersfrom.ensures.0) in omega (arith, l.asset_count)
 
-pub assets_in-requires : goal.assets_in-requires
-assets_in-requires c = let l = (located c.args.s.now c.requires _ _ _ _ c.read16-v.ensures c.header_size-assetsfrom.ensures.0 c.entries_from-entriesfrom.ensures.0 c.players_from-playersfrom.ensures.0) in (l.oldest, l.known, l.asset_count, l.asset_room)
+pub table_in-requires : goal.table_in-requires
+table_in-requires c = let l = (located c.args.s.now c.requires _ _ _ _ c.read16-v.ensures c.header_size-assetsfrom.ensures.0 c.entries_from-entriesfrom.ensures.0 c.players_from-playersfrom.ensures.0) in (omega arith, (l.oldest, l.known, l.asset_count, l.asset_room))
 
 pub overflow_cast-entries : goal.overflow_cast-entries
 overflow_cast-entries c = let l = (located c.args.s.now c.requires _ _ _ _ c.read16-v.ensures c.header_size-assetsfrom.ensures.0 c.entries_from-entriesfrom.ensures.0 c.players_from-playersfrom.ensures.0) in omega (arith, l.entry_count)
 
-pub entries_in-requires : goal.entries_in-requires
-entries_in-requires c = let l = (located c.args.s.now c.requires _ _ _ _ c.read16-v.ensures c.header_size-assetsfrom.ensures.0 c.entries_from-entriesfrom.ensures.0 c.players_from-playersfrom.ensures.0) in
-    (l.oldest, l.known, l.entry_count, l.entry_room)
+pub table_in-requires-2 : goal.table_in-requires-2
+table_in-requires-2 c = let l = (located c.args.s.now c.requires _ _ _ _ c.read16-v.ensures c.header_size-assetsfrom.ensures.0 c.entries_from-entriesfrom.ensures.0 c.players_from-playersfrom.ensures.0) in
+    (omega arith, (l.oldest, l.known, l.entry_count, l.entry_room))
 
-pub players_in-requires : goal.players_in-requires
-players_in-requires c = let l = (located c.args.s.now c.requires _ _ _ _ c.read16-v.ensures c.header_size-assetsfrom.ensures.0 c.entries_from-entriesfrom.ensures.0 c.players_from-playersfrom.ensures.0) in (l.oldest, l.known, l.player_room)
+pub table_in-requires-3 : goal.table_in-requires-3
+table_in-requires-3 c = let l = (located c.args.s.now c.requires _ _ _ _ c.read16-v.ensures c.header_size-assetsfrom.ensures.0 c.entries_from-entriesfrom.ensures.0 c.players_from-playersfrom.ensures.0) in (omega arith, (l.oldest, l.known, omega arith, l.player_room))
 
 pub returns : goal.returns
-unfolding version_in
+unfolding version_in asset_table entry_table player_table
 returns c =
     read-there _ _ _ _ _ _ _ _ _ _ _ _ ((located c.args.s.now c.requires _ _ _ _ c.read16-v.ensures c.header_size-assetsfrom.ensures.0 c.entries_from-entriesfrom.ensures.0 c.players_from-playersfrom.ensures.0))
     c.added32-switch.ensures
     c.added32-player.ensures c.added32-started.ensures
-    c.read32.ensures c.assets_in.ensures c.entries_in.ensures
-    c.players_in.ensures
+    c.read32.ensures c.table_in.ensures c.table_in-2.ensures
+    (c.table_in-3.ensures ∙ append-nil _)

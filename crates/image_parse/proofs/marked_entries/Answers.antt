@@ -22,7 +22,7 @@ loop-i-preserved c =
     let z = c.before in
     let l = c.loop-i in
     let e = get_or z.args.entries l.i no_entry in
-    let here = c.with_marks-w.ensures ∙ ap (λ (m : ℕ). with_marks m e) c.marks_of.ensures in
+    let here = c.with_marks.ensures ∙ ap (λ (m : ℕ). with_marks m e) c.marks_of.ensures in
     let within : l.i < length z.args.entries = omega (arith, entries-64 z.before.before.before.before) in (
       omega arith,
       ap₂ (λ (t : List Entry) (x : Entry). set t l.i x) l.invariant.1 here ∙ marked_turn z.args.players z.args.entries l.i within,

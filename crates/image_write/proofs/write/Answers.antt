@@ -27,17 +27,17 @@ pub put_header-o-requires : goal.put_header-o-requires
 unfolding image_length header_size asset_size entry_size player_size
 put_header-o-requires c = search rules
 
-pub put_assets-o-requires : goal.put_assets-o-requires
+pub put_table-o-requires : goal.put_table-o-requires
 unfolding image_length header_size asset_size entry_size player_size
-put_assets-o-requires c = search rules
+put_table-o-requires c = search rules
 
-pub put_entries-o-requires : goal.put_entries-o-requires
+pub put_table-o-requires-2 : goal.put_table-o-requires-2
 unfolding image_length header_size asset_size entry_size player_size
-put_entries-o-requires c = search rules
+put_table-o-requires-2 c = search rules
 
-pub put_players-requires : goal.put_players-requires
+pub put_table-requires : goal.put_table-requires
 unfolding image_length header_size asset_size entry_size player_size
-put_players-requires c = search rules
+put_table-requires c = search rules
 
 pub returns : goal.returns
 unfolding write_answer write_buffer header_size asset_size entry_size player_size assets_in entries_in
@@ -55,9 +55,9 @@ returns c =
     let na : at_count.at_most_64-a.result ≡ assets_in b = at_count.at_most_64-a.ensures in
     let ne : at_count.at_most_64-n.result ≡ entries_in b = at_count.at_most_64-n.ensures in
     let ph = at-header.put_header-o in
-    let pa = at-assets.put_assets-o in
-    let pe = at-entries.put_entries-o in
-    let pp = at-players.put_players in
+    let pa = at-assets.put_table-o in
+    let pe = at-entries.put_table-o-2 in
+    let pp = at-players.put_table in
     let fits : length_of b ≤ length old =
     omega (arith, at_test.if-buf-image_length.false, at_length.image_length.ensures ∙ counted b) in
     let room : players_from b + player_size newest * 16 ≤ length old = rw (length-is b) at fits in
