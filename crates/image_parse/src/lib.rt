@@ -47,9 +47,16 @@ fn read64(s: &[u8], at: usize) -> u64
     requires { at + 8 ≤ length s.now }
     ensures { result ≡ number_at bits64 at s.now }
 {
-    let upper = read32(s, at);
-    let lower = read32(s, at + 4);
-    numbers::join64(upper, lower)
+    u64::from_be_bytes([
+        s[at],
+        s[at + 1],
+        s[at + 2],
+        s[at + 3],
+        s[at + 4],
+        s[at + 5],
+        s[at + 6],
+        s[at + 7],
+    ])
 }
 
 // A number that a version added, 0 in those before it.

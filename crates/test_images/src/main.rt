@@ -12,12 +12,6 @@ const IMAGE: usize = 5399;
 // Room for what a case's length in two bytes can say.
 const BUFFER: usize = 65536;
 
-#[derive(Clone, Copy)]
-struct Turn {
-    more: bool,
-    book: Book,
-}
-
 fn print_byte(rt: &impl Print, b: u8) -> io::Result<()> {
     print!(rt; "{b:02x}")
 }
@@ -72,37 +66,26 @@ fn judge(rt: &impl Print, held: Book, n: usize, buf: &[u8]) -> io::Result<Book> 
     Ok(held)
 }
 
-// One case: its length in two bytes, then the image.
-fn one_case<F: Read>(rt: &impl Print, file: &mut F, held: Book) -> io::Result<Turn> {
+// One case: its length in two bytes, then the image. None at the end of the file.
+fn one_case<F: Read>(rt: &impl Print, file: &mut F, held: Book) -> io::Result<Option<Book>> {
     let mut head = [0u8; 2];
     if file.read_exact(&mut head).is_err() {
-        return Ok(Turn {
-            more: false,
-            book: held,
-        });
+        return Ok(None);
     }
-    let n = numbers::join16(head[0], head[1]) as usize;
+    let n = u16::from_be_bytes(head) as usize;
     let mut buf = [0u8; BUFFER];
     fill(file, n, &mut buf);
-    let next = judge(rt, held, n, &buf)?;
-    Ok(Turn {
-        more: true,
-        book: next,
-    })
+    Ok(Some(judge(rt, held, n, &buf)?))
 }
 
 // A proved loop has to end, and nothing guarantees that a file does: no more cases than this are read.
 fn cases<F: Read>(rt: &impl Print, file: &mut F) -> io::Result<()> {
-    let mut t = Turn {
-        more: true,
-        book: book::blank_book(),
-    };
+    let mut held = book::blank_book();
     for _ in 0..1000000 {
-        if !t.more {
-            break;
+        match one_case(rt, file, held)? {
+            Some(next) => held = next,
+            None => break,
         }
-        let held = t.book;
-        t = one_case(rt, file, held)?;
     }
     Ok(())
 }
