@@ -262,6 +262,12 @@ pub two-laid : (l : List ℕ) (at n : ℕ) → at + 2 ≤ length l → set (set 
 unfolding two written
 two-laid l at n h = bytes-laid l at (48 + n / 10) ((48 + n % 10) ∷ []) (omega arith)
 
+pub refused-laid : (l : List ℕ) (at : ℕ) → at + 7 ≤ length l → set
+    (set (set (set (set (set (set l at 32) (at + 1) 50) (at + 2) 53) (at + 3) 53) (at + 4) 32) (at + 5) 48) (at + 6) 10 ≡ lay l at
+    refused_end
+unfolding refused_end decimal decimal_in written
+refused-laid l at h = bytes-laid l at 32 (50 ∷ 53 ∷ 53 ∷ 32 ∷ 48 ∷ 10 ∷ []) (omega arith)
+
 -- bytes copied over a part of their length
 pub part-laid : (l : List ℕ) (at k : ℕ) (s : List ℕ) → length s ≡ k → put_mid at k l s ≡ lay l at s
 unfolding lay
