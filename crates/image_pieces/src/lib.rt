@@ -2,8 +2,7 @@
 // header, an asset, two pieces of an entry, two of a player, what version 2 adds to header, entry and player, what version 4 adds to an
 // entry, and what version 5 adds to the header. Big-endian, each field in its place. Version 3 has 64 bits for a player's number, in its
 // place.
-// Each contract gives the whole array: the piece's values in its widths. A piece has few bytes, since the checker takes only some
-// fifty such casts in one literal; what a version adds to a record is a piece of its own.
+// Each contract gives the whole array: the piece's values in its widths. What a version adds to a record is a piece of its own.
 #![tactic(auto)]
 
 ghost use Rattle.std.specs.Prelude.{◌≡◌, ◌*◌, ◌≤◌, [], ◌∷◌};
@@ -128,73 +127,36 @@ pub fn image_length(v: u16, assets: u8, entries: u8) -> usize
 pub fn header_bytes(assets: u8, entries: u8, time: u32) -> [u8; HEADER_START]
     ensures { result ≡ laid_out header_start (start_values newest assets entries time) }
 {
-    [
-        82,
-        66,
-        75,
-        (NEWEST / 256 % 256) as u8,
-        (NEWEST % 256) as u8,
-        assets,
-        entries,
-        (time / 16777216 % 256) as u8,
-        (time / 65536 % 256) as u8,
-        (time / 256 % 256) as u8,
-        (time % 256) as u8,
-    ]
+    let [v0, v1] = NEWEST.to_be_bytes();
+    let [t0, t1, t2, t3] = time.to_be_bytes();
+    [82, 66, 75, v0, v1, assets, entries, t0, t1, t2, t3]
 }
 
 // Rules out: number and inherit swapped, the bytes of a number in another order.
 pub fn asset_bytes(a: Asset) -> [u8; ASSET]
     ensures { result ≡ laid_out (asset_widths newest) (asset_values a) }
 {
-    [
-        (a.number / 256 % 256) as u8,
-        (a.number % 256) as u8,
-        (a.inherit / 256 % 256) as u8,
-        (a.inherit % 256) as u8,
-        a.key,
-    ]
+    let [n0, n1] = a.number.to_be_bytes();
+    let [i0, i1] = a.inherit.to_be_bytes();
+    [n0, n1, i0, i1, a.key]
 }
 
 // Rules out: two fields swapped, a field of another width.
 pub fn limits_bytes(l: Limits) -> [u8; LIMITS]
     ensures { result ≡ laid_out limits_widths (limits_values l) }
 {
+    let [o0, o1] = l.object.to_be_bytes();
+    let [a0, a1] = l.asset.to_be_bytes();
+    let [c0, c1, c2, c3] = l.count.to_be_bytes();
+    let [t0, t1, t2, t3] = l.timed.to_be_bytes();
+    let [r0, r1, r2, r3] = l.timer.to_be_bytes();
+    let [s0, s1, s2, s3] = l.start.to_be_bytes();
+    let [e0, e1, e2, e3] = l.end.to_be_bytes();
+    let [i0, i1, i2, i3] = l.interval.to_be_bytes();
+    let [u0, u1, u2, u3] = l.accumulated.to_be_bytes();
     [
-        (l.object / 256 % 256) as u8,
-        (l.object % 256) as u8,
-        (l.asset / 256 % 256) as u8,
-        (l.asset % 256) as u8,
-        l.kind,
-        l.flags,
-        (l.count / 16777216 % 256) as u8,
-        (l.count / 65536 % 256) as u8,
-        (l.count / 256 % 256) as u8,
-        (l.count % 256) as u8,
-        (l.timed / 16777216 % 256) as u8,
-        (l.timed / 65536 % 256) as u8,
-        (l.timed / 256 % 256) as u8,
-        (l.timed % 256) as u8,
-        (l.timer / 16777216 % 256) as u8,
-        (l.timer / 65536 % 256) as u8,
-        (l.timer / 256 % 256) as u8,
-        (l.timer % 256) as u8,
-        (l.start / 16777216 % 256) as u8,
-        (l.start / 65536 % 256) as u8,
-        (l.start / 256 % 256) as u8,
-        (l.start % 256) as u8,
-        (l.end / 16777216 % 256) as u8,
-        (l.end / 65536 % 256) as u8,
-        (l.end / 256 % 256) as u8,
-        (l.end % 256) as u8,
-        (l.interval / 16777216 % 256) as u8,
-        (l.interval / 65536 % 256) as u8,
-        (l.interval / 256 % 256) as u8,
-        (l.interval % 256) as u8,
-        (l.accumulated / 16777216 % 256) as u8,
-        (l.accumulated / 65536 % 256) as u8,
-        (l.accumulated / 256 % 256) as u8,
-        (l.accumulated % 256) as u8,
+        o0, o1, a0, a1, l.kind, l.flags, c0, c1, c2, c3, t0, t1, t2, t3, r0, r1, r2, r3, s0, s1,
+        s2, s3, e0, e1, e2, e3, i0, i1, i2, i3, u0, u1, u2, u3,
     ]
 }
 
@@ -202,24 +164,12 @@ pub fn limits_bytes(l: Limits) -> [u8; LIMITS]
 pub fn meters_bytes(m: Meters) -> [u8; METERS]
     ensures { result ≡ laid_out meters_widths (meters_values m) }
 {
+    let [c0, c1, c2, c3] = m.count.to_be_bytes();
+    let [t0, t1, t2, t3] = m.timed.to_be_bytes();
+    let [f0, f1, f2, f3] = m.first.to_be_bytes();
+    let [s0, s1, s2, s3] = m.seconds.to_be_bytes();
     [
-        (m.count / 16777216 % 256) as u8,
-        (m.count / 65536 % 256) as u8,
-        (m.count / 256 % 256) as u8,
-        (m.count % 256) as u8,
-        (m.timed / 16777216 % 256) as u8,
-        (m.timed / 65536 % 256) as u8,
-        (m.timed / 256 % 256) as u8,
-        (m.timed % 256) as u8,
-        (m.first / 16777216 % 256) as u8,
-        (m.first / 65536 % 256) as u8,
-        (m.first / 256 % 256) as u8,
-        (m.first % 256) as u8,
-        (m.seconds / 16777216 % 256) as u8,
-        (m.seconds / 65536 % 256) as u8,
-        (m.seconds / 256 % 256) as u8,
-        (m.seconds % 256) as u8,
-        m.started,
+        c0, c1, c2, c3, t0, t1, t2, t3, f0, f1, f2, f3, s0, s1, s2, s3, m.started,
     ]
 }
 
@@ -227,26 +177,28 @@ pub fn meters_bytes(m: Meters) -> [u8; METERS]
 pub fn last_bytes(p: Last) -> [u8; LAST]
     ensures { result ≡ laid_out (last_widths newest) (last_values p) }
 {
-    let a = p.answer;
+    let [n0, n1, n2, n3, n4, n5, n6, n7] = p.number.to_be_bytes();
+    let [a0, a1] = p.asset.to_be_bytes();
+    let [u0, u1, u2, u3] = p.answer.until.to_be_bytes();
     [
-        (p.number / 4294967296 / 16777216 % 256) as u8,
-        (p.number / 4294967296 / 65536 % 256) as u8,
-        (p.number / 4294967296 / 256 % 256) as u8,
-        (p.number / 4294967296 % 256) as u8,
-        (p.number % 4294967296 / 16777216 % 256) as u8,
-        (p.number % 4294967296 / 65536 % 256) as u8,
-        (p.number % 4294967296 / 256 % 256) as u8,
-        (p.number % 4294967296 % 256) as u8,
+        n0,
+        n1,
+        n2,
+        n3,
+        n4,
+        n5,
+        n6,
+        n7,
         p.operation,
-        (p.asset / 256 % 256) as u8,
-        (p.asset % 256) as u8,
+        a0,
+        a1,
         p.kind,
-        a.code,
-        a.entry,
-        (a.until / 16777216 % 256) as u8,
-        (a.until / 65536 % 256) as u8,
-        (a.until / 256 % 256) as u8,
-        (a.until % 256) as u8,
+        p.answer.code,
+        p.answer.entry,
+        u0,
+        u1,
+        u2,
+        u3,
     ]
 }
 
@@ -254,18 +206,9 @@ pub fn last_bytes(p: Last) -> [u8; LAST]
 pub fn open_bytes(c: Open) -> [u8; CURRENT]
     ensures { result ≡ laid_out open_widths (open_values c) }
 {
-    [
-        c.on,
-        c.entry,
-        (c.begin / 16777216 % 256) as u8,
-        (c.begin / 65536 % 256) as u8,
-        (c.begin / 256 % 256) as u8,
-        (c.begin % 256) as u8,
-        (c.until / 16777216 % 256) as u8,
-        (c.until / 65536 % 256) as u8,
-        (c.until / 256 % 256) as u8,
-        (c.until % 256) as u8,
-    ]
+    let [b0, b1, b2, b3] = c.begin.to_be_bytes();
+    let [u0, u1, u2, u3] = c.until.to_be_bytes();
+    [c.on, c.entry, b0, b1, b2, b3, u0, u1, u2, u3]
 }
 
 // A number of its own: the book's switch, the content of an open use.
@@ -273,64 +216,33 @@ pub fn open_bytes(c: Open) -> [u8; CURRENT]
 pub fn number_bytes(n: u32) -> [u8; NUMBER]
     ensures { result ≡ laid_out (bits32 ∷ []) (n ∷ []) }
 {
-    [
-        (n / 16777216 % 256) as u8,
-        (n / 65536 % 256) as u8,
-        (n / 256 % 256) as u8,
-        (n % 256) as u8,
-    ]
+    n.to_be_bytes()
 }
 
 // Rules out: the mark for the player.
 pub fn latest_bytes(x: Latest) -> [u8; LATEST]
     ensures { result ≡ laid_out latest_widths (latest_values x) }
 {
-    [
-        (x.player / 16777216 % 256) as u8,
-        (x.player / 65536 % 256) as u8,
-        (x.player / 256 % 256) as u8,
-        (x.player % 256) as u8,
-        (x.started / 16777216 % 256) as u8,
-        (x.started / 65536 % 256) as u8,
-        (x.started / 256 % 256) as u8,
-        (x.started % 256) as u8,
-    ]
+    let [p0, p1, p2, p3] = x.player.to_be_bytes();
+    let [s0, s1, s2, s3] = x.started.to_be_bytes();
+    [p0, p1, p2, p3, s0, s1, s2, s3]
 }
 
 // Rules out: the timed value for the mark.
 pub fn track_bytes(l: Limits) -> [u8; TRACK]
     ensures { result ≡ laid_out (track_widths newest) (track_values l) }
 {
-    [
-        (l.tracked / 16777216 % 256) as u8,
-        (l.tracked / 65536 % 256) as u8,
-        (l.tracked / 256 % 256) as u8,
-        (l.tracked % 256) as u8,
-        (l.timedvalue / 16777216 % 256) as u8,
-        (l.timedvalue / 65536 % 256) as u8,
-        (l.timedvalue / 256 % 256) as u8,
-        (l.timedvalue % 256) as u8,
-        (l.mark / 16777216 % 256) as u8,
-        (l.mark / 65536 % 256) as u8,
-        (l.mark / 256 % 256) as u8,
-        (l.mark % 256) as u8,
-    ]
+    let [c0, c1, c2, c3] = l.tracked.to_be_bytes();
+    let [t0, t1, t2, t3] = l.timedvalue.to_be_bytes();
+    let [m0, m1, m2, m3] = l.mark.to_be_bytes();
+    [c0, c1, c2, c3, t0, t1, t2, t3, m0, m1, m2, m3]
 }
 
 // Rules out: threshold and marks swapped.
 pub fn group_bytes(e: Entry) -> [u8; GROUP]
     ensures { result ≡ laid_out (group_widths newest) (group_values newest e) }
 {
-    let l = e.limits;
-    let m = e.meters;
-    [
-        (l.threshold / 16777216 % 256) as u8,
-        (l.threshold / 65536 % 256) as u8,
-        (l.threshold / 256 % 256) as u8,
-        (l.threshold % 256) as u8,
-        (m.marks / 16777216 % 256) as u8,
-        (m.marks / 65536 % 256) as u8,
-        (m.marks / 256 % 256) as u8,
-        (m.marks % 256) as u8,
-    ]
+    let [t0, t1, t2, t3] = e.limits.threshold.to_be_bytes();
+    let [m0, m1, m2, m3] = e.meters.marks.to_be_bytes();
+    [t0, t1, t2, t3, m0, m1, m2, m3]
 }
