@@ -418,8 +418,7 @@ pub fn player_at(players: [Player; 16], i: usize) -> Player
 pub fn at_most_64(count: u8) -> usize
     ensures { result ≡ min count 64 }
 {
-    let n = count as usize;
-    if n < 64 { n } else { 64 }
+    usize::from(count).min(64)
 }
 
 // A line that names no content.

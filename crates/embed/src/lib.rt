@@ -1,5 +1,6 @@
 // The book of rights for servers written in C or Rust: functions on numbers and bytes, which crate `embed_c` exports.
-// No state is kept between calls. The book is passed as its image, which the caller keeps and lends.
+// No state is kept between calls. The book is passed as its image, which the caller keeps and lends. What a call returns is a number, for C;
+// within this crate it is a Result.
 #![tactic(auto)]
 
 ghost use Rattle.std.specs.Prelude.{◌≡◌, ℕ, ltb, Option, List, length, get_or};

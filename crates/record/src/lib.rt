@@ -10,6 +10,7 @@ ghost use Rattle.model.specs.Record.{request_of, decoded};
 
 use book::{Event, EventError, Kind, RECORD_SIZE, Request};
 
+// Takes the numbers that a record or a player's stored request holds, legal or not.
 // Rules out: kind 0 or 6 for a begin, a stop or a cancel that names an asset or a kind, two operations swapped.
 #[tactic(auto, unfolding(model::specs::Book::request_legal, model::specs::Record::request_of, model::specs::Record::kind_of))]
 fn request_of(operation: u8, asset: u16, kind: u8) -> Result<Request, EventError>

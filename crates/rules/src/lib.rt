@@ -205,7 +205,7 @@ pub fn flags_of(l: Limits) -> Flags
     }
 }
 
-// How many seconds a grant of a kind gives at most.
+// How many seconds a grant of a kind gives at most. By its number: an entry that an image holds can have a kind that is none.
 // Rules out: 59 or 61 seconds.
 #[tactic(auto, unfolding(model::specs::Book::grant_length))]
 pub fn grant_length(kind: u8) -> u32
@@ -214,6 +214,7 @@ pub fn grant_length(kind: u8) -> u32
     60
 }
 
+// By the kind's number, as above.
 // Rules out: treating execute as momentary, or export as not.
 #[tactic(auto, unfolding(model::specs::Book::momentary))]
 pub fn momentary(kind: u8) -> bool

@@ -50,6 +50,7 @@ fn settle_all(b: Book, t: u32) -> Book
         let p = n.players[i];
         let o = p.current;
         let k = o.entry as usize;
+        // A book that is not legal can have a use open of an entry that there is not.
         if k < 64 {
             let x = n.entries[k];
             n.entries[k].meters = uses::released_meters(x.limits, x.meters, o, i as u8, t);

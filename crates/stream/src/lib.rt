@@ -81,6 +81,7 @@ pub fn read_all<R: Read>(
     ensures end { IfSome result (λ n. n < length s.new → IsAtEnd (R.remaining input.new)) }
 {
     let mut n: usize = 0;
+    // What was read so far, and no index: a read gives as many bytes as it likes.
     while n < s.len() {
         match read_more(rt, input, s, n) {
             Ok(0) => return Some(n),

@@ -123,7 +123,7 @@ fn with_entries(kind: u8, st: State) -> Book
     b
 }
 
-// The last tag of a kind.
+// The last tag of a kind, by the kind's number, as an entry holds it.
 // Rules out: 42 where an entry breaks rule 25, an entry for each asset though there are references.
 #[tactic(auto, unfolding(xml_model::specs::State::kind_done, xml_model::specs::State::with_book, model::specs::Book::entries_in))]
 pub fn kind_done(kind: u8, mut st: State) -> Result<State, TextError>

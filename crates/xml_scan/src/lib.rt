@@ -206,6 +206,7 @@ fn is_given(s: &[u8], first: usize, p: usize, n: usize, e: usize) -> bool
     ensures { result ≡ given s.now p (part s.now n e) first }
 {
     let mut j = first;
+    // Each turn goes on behind the attribute before it: nothing is counted.
     while j < p {
         let i = run_end(s, Class::Spaces, j);
         let Ok(a) = attribute_at(s, i) else {

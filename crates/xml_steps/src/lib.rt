@@ -7,7 +7,7 @@ ghost use Rattle.xml_model.specs.State.{blank, as_done, counted};
 use book::{blank_asset, blank_book, blank_entry};
 use xml_model::{Id, Ids, References, State, TextError};
 
-// The position that stands for "no id".
+// The position that stands for "no id": `State` is a type of the definitions, which have a number there.
 pub const NO_POSITION: u16 = 256;
 
 // "at most 256" elements.
