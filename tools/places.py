@@ -20,7 +20,7 @@ FORMS = [
     (1, "a kind, role, class or form as a number", r"^(pub )?const (?!MOST|NO_ROOM|ROW_COUNT)[A-Z_]+: u8 = \d+;|\b(kind|operation|form|role|class): u8\b|\bname: u8\b|\bform: \d,"),
     (2, "a function beside which another differs in a type, size or constant", None),
     (3, "a loop that counts by hand", r"^\s*while |^\s*loop \{"),
-    (4, "a comparison, copy, conversion or blank by hand", r"fn (same|equal|same_(line|lines|book|bytes|range)|join\d+|four_\w+|blank_\w+|kind_of|kind_number|request_of|wire_of)\b|/ (256|65536|16777216|4294967296)( / \d+)? % 256\) as u8|^\s*\w+\[(at \+ )?\w+\] = \w+\[(\w+ \+ )?\w+\];"),
+    (4, "a comparison, copy or conversion by hand", r"fn (same|equal|same_(line|lines|book|bytes|range)|join\d+|four_\w+|kind_of|kind_number|request_of|wire_of)\b|/ (256|65536|16777216|4294967296)( / \d+)? % 256\) as u8|^\s*\w+\[(at \+ )?\w+\] = \w+\[(\w+ \+ )?\w+\];"),
     (4, "a bound or a difference by hand", r"(?<!\.)\b(min_size|min_time|min_wide|lesser|saturating_sub|less)\("),
     (5, "parameters that travel together", r"\bl: Limits, m: Meters\b|lines: \[Line; 64\], lent: usize|lines: \[Line; 64\], count: usize|^\s*lent: usize,$|role: u8, state: u8|player: u8, number: u64|^\s*number: u64,$|s: &\[u8\], a: usize, b: usize"),
     (6, "a table or a buffer with a length beside", r"(?<!const )\[(Asset|Entry); 64\], (n|count|assetcount): (u8|usize)|^\s*(assetcount|assets): .*,$|buf: &\[u8\]\)|, n: usize\b|^\s*n: usize,$|^ {4}pub count: u(8|16),$|\[u8; 192\]"),
