@@ -48,6 +48,7 @@ const LATEST: usize = 8;
 
 // The bytes of a header, an asset, an entry and a player: the sum of the pieces that the version has.
 // Rules out: a piece left out, or one that the version lacks.
+#[tactic(auto, unfolding(model::specs::Image::header_size))]
 pub fn header_size(v: u16) -> usize
     ensures { (result ≡ header_size v) × (result ≤ 200) }
 {
@@ -60,12 +61,14 @@ pub fn header_size(v: u16) -> usize
     HEADER_START
 }
 
+#[tactic(auto, unfolding(model::specs::Image::asset_size))]
 pub fn asset_size(v: u16) -> usize
     ensures { (result ≡ asset_size v) × (result ≤ 200) }
 {
     ASSET
 }
 
+#[tactic(auto, unfolding(model::specs::Image::entry_size))]
 pub fn entry_size(v: u16) -> usize
     ensures { (result ≡ entry_size v) × (result ≤ 200) }
 {
@@ -78,6 +81,7 @@ pub fn entry_size(v: u16) -> usize
     LIMITS + METERS
 }
 
+#[tactic(auto, unfolding(model::specs::Image::player_size))]
 pub fn player_size(v: u16) -> usize
     ensures { (result ≡ player_size v) × (result ≤ 200) }
 {
@@ -115,6 +119,7 @@ pub fn players_from(v: u16, assets: u8, entries: u8) -> usize
 }
 
 // Rules out: the players left out.
+#[tactic(auto, unfolding(model::specs::Image::image_length))]
 pub fn image_length(v: u16, assets: u8, entries: u8) -> usize
     ensures { result ≡ image_length v assets entries }
 {
