@@ -74,7 +74,7 @@ fn entering(s: &[u8], t: Tag, role: Role, st: State) -> Result<State, TextError>
     if role == Role::Skipped {
         return Ok(st);
     }
-    opening(s, t, role, st)
+    opening(s, t, u8::from(role), st)
 }
 
 // An opening tag.
@@ -89,7 +89,7 @@ fn empty_tag(s: &[u8], t: Tag, role: Role, st: State) -> Result<State, TextError
     ensures { as_done result ≡ empty_tag s.now (as_tag t) (role_code role) st }
 {
     let begun = entering(s, t, role, st)?;
-    counted(closing(s, t.next, t.next, role, 0, begun)?)
+    counted(closing(s, t.next, t.next, u8::from(role), 0, begun)?)
 }
 
 // An end tag, in the element whose name stands from `name` to `end`.
@@ -108,7 +108,7 @@ fn end_tag(
     if !same_range(s, t.name, t.end, name, end) {
         return Err(TextError::Malformed);
     }
-    closing(s, t.from, t.at, role, state, st)
+    closing(s, t.from, t.at, u8::from(role), state, st)
 }
 
 // The element reader: the element whose first tag is t, with `left` levels for it and what it holds.

@@ -1,5 +1,5 @@
 -- The value of an attribute, if the tag has it.
-use Rattle.std.specs.Prelude.{ℕ, ◌<◌, ◌≡◌, Option, Some, None, MatchOption, IfSome}
+use Rattle.std.specs.Prelude.{◌<◌, ◌≡◌, Option, Some, None, MatchOption, IfSome}
 use Rattle.std.proofs.Common.{sym}
 use Rattle.xml_model.specs.declared.Range.{Range}
 use Rattle.xml_model.specs.Codes.{no_range, as_range}

@@ -1,7 +1,7 @@
 -- The first of the first n elements of a table that passes: what `position` says of them is what the definitions say.
-use Rattle.std.specs.Prelude.{ℕ, zero, suc, ◌+◌, ◌≤◌, ◌<◌, ◌≡◌, Bool, true, false, cond, List, [], ◌∷◌, ◌++◌, length, get_or, take, ltb, eqb, Option, MatchOption, position}
+use Rattle.std.specs.Prelude.{ℕ, zero, suc, ◌≤◌, ◌<◌, ◌≡◌, Bool, List, length, get_or, take, Option, MatchOption, position}
 use Rattle.std.specs.List.{position_or_len}
-use Rattle.std.proofs.Common.{refl, sym, ap, ◌∙◌, arith}
+use Rattle.std.proofs.Common.{refl, arith}
 use Rattle.std.proofs.Math.Seq.{take-suc, length-take-le}
 use Rattle.std.proofs.lemmas.List.Folds.{position_or_len_push}
 use borrow.Author.Tests.{lt-ltb, le-ltb, eq-eqb, ne_eqb}

@@ -194,10 +194,8 @@ fn with_timer_of(
 }
 
 // The first tag of an element.
-// Rules out: an id taken that was given before, an idref of an asset that is still open, a kind that keeps the limits of the one
-// before it.
 #[tactic(auto, unfolding(xml_model::specs::State::opening, xml_model::specs::State::and_then))]
-pub fn opening(s: &[u8], t: Tag, role: Role, st: State) -> Result<State, TextError>
+fn open_element(s: &[u8], t: Tag, role: Role, st: State) -> Result<State, TextError>
     ensures { as_done result ≡ opening s.now (as_tag t) (role_code role) st }
 {
     let id = look(s, b"o-ex:id", t.end);
@@ -206,6 +204,17 @@ pub fn opening(s: &[u8], t: Tag, role: Role, st: State) -> Result<State, TextErr
     let st = new_id(s, id, begun(role, id, st))?;
     let st = with_idref(s, idref, role, st)?;
     with_timer_of(s, timer, role, st)
+}
+
+// The first tag of an element, by its role's number.
+// Rules out: an id taken that was given before, an idref of an asset that is still open, a kind that keeps the limits of the one
+// before it.
+#[tactic(auto, using(crate::proofs::Unnamed::opening_by_role))]
+pub fn opening(s: &[u8], t: Tag, role: u8, st: State) -> Result<State, TextError>
+    ensures { as_done result ≡ opening s.now (as_tag t) role st }
+{
+    // a number that no role has opens as a constraint does
+    open_element(s, t, Role::try_from(role).unwrap_or(Role::Constraint), st)
 }
 
 // A text value in its place. The fields of a uid have 16 bits.
@@ -234,7 +243,7 @@ fn stored(role: Role, x: u32, mut st: State) -> State
 fn text_done(role: Role, v: &[u8], st: State) -> Result<State, TextError>
     ensures { as_done result ≡ text_done (role_code role) v.now st }
 {
-    let x = value_of(role, v).ok_or(TextError::Unaccepted)?;
+    let x = value_of(u8::from(role), v).ok_or(TextError::Unaccepted)?;
     Ok(stored(role, x, st))
 }
 
@@ -262,9 +271,8 @@ fn container_done(role: Role, st: State) -> Result<State, TextError>
 }
 
 // The last tag of an element, with the text from a to b in front of it; its children have led to that state.
-// Rules out: text between elements passed over, an element accepted though a required child is missing.
 #[tactic(auto, unfolding(xml_model::specs::State::closing))]
-pub fn closing(
+fn close_element(
     s: &[u8],
     a: usize,
     b: usize,
@@ -287,4 +295,22 @@ pub fn closing(
         return Err(TextError::Unaccepted);
     }
     container_done(role, st)
+}
+
+// The last tag of an element, by its role's number, with the text from a to b in front of it; its children have led to that state.
+// Rules out: text between elements passed over, an element accepted though a required child is missing.
+#[tactic(auto, using(crate::proofs::Unnamed::closing_by_role))]
+pub fn closing(
+    s: &[u8],
+    a: usize,
+    b: usize,
+    role: u8,
+    state: u8,
+    st: State,
+) -> Result<State, TextError>
+    ensures { as_done result ≡ closing s.now a b role state st }
+{
+    // a number that no role has closes as a constraint does
+    let role = Role::try_from(role).unwrap_or(Role::Constraint);
+    close_element(s, a, b, role, state, st)
 }

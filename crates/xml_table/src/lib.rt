@@ -1,44 +1,98 @@
 // The elements that order 1 accepts: their names, their roles, and the rows that say which element may hold which.
 #![tactic(auto)]
 
-ghost use Rattle.std.specs.Prelude.{◌≡◌};
+ghost use Rattle.std.specs.Prelude.{◌≡◌, ◌||◌, nat_lt, IsTrue, MatchResult};
 ghost use Rattle.xml_model.specs.Elements.{name_of, row_of, holds_text, closes_from, holds_anything};
 ghost use Rattle.xml_table.specs.Codes.{role_code, name_number, name_text};
 ghost use Rattle.xml_table.specs.Rows.{row_fits, IsChild, IsKind};
 
 use book::Kind;
 
-// An element by its name and by what holds it.
+// An element by its name and by what holds it, by the number that the definitions have for it.
 #[derive(Clone, Copy, Debug, PartialEq, Eq)]
 pub enum Role {
-    Rights,
-    RightsContext,
-    AssetContext,
-    InheritContext,
-    Version,
-    ObjectUid,
-    AssetUid,
-    InheritUid,
-    Agreement,
-    Asset,
-    Inherit,
-    KeyInfo,
-    Skipped,
-    Permission,
-    Reference,
-    Play,
-    Display,
-    Execute,
-    Print,
-    Export,
-    Constraint,
-    Count,
-    TimedCount,
-    Datetime,
-    Start,
-    End,
-    Interval,
-    Accumulated,
+    Rights = 1,
+    RightsContext = 2,
+    AssetContext = 3,
+    InheritContext = 4,
+    Version = 5,
+    ObjectUid = 6,
+    AssetUid = 7,
+    InheritUid = 8,
+    Agreement = 9,
+    Asset = 10,
+    Inherit = 11,
+    KeyInfo = 12,
+    Skipped = 13,
+    Permission = 14,
+    Reference = 15,
+    Play = 16,
+    Display = 17,
+    Execute = 18,
+    Print = 19,
+    Export = 20,
+    Constraint = 21,
+    Count = 22,
+    TimedCount = 23,
+    Datetime = 24,
+    Start = 25,
+    End = 26,
+    Interval = 27,
+    Accumulated = 28,
+}
+
+// A number that no role has.
+#[derive(Clone, Copy, Debug, PartialEq, Eq)]
+pub struct NoRole;
+
+// Rules out: two roles with the same number, numbers from 0.
+impl From<Role> for u8 {
+    ghost from_gives = { λ r n. n ≡ role_code r };
+
+    fn from(r: Role) -> u8 {
+        r as u8
+    }
+}
+
+// Rules out: a role for 0 or 29, a role for another role's number.
+impl TryFrom<u8> for Role {
+    type Error = NoRole;
+
+    ghost try_from_gives = { λ n r. MatchResult r (λ x. n ≡ role_code x) (λ _. IsTrue (nat_lt n 1 || nat_lt 28 n)) };
+
+    fn try_from(n: u8) -> Result<Role, NoRole> {
+        match n {
+            1 => Ok(Role::Rights),
+            2 => Ok(Role::RightsContext),
+            3 => Ok(Role::AssetContext),
+            4 => Ok(Role::InheritContext),
+            5 => Ok(Role::Version),
+            6 => Ok(Role::ObjectUid),
+            7 => Ok(Role::AssetUid),
+            8 => Ok(Role::InheritUid),
+            9 => Ok(Role::Agreement),
+            10 => Ok(Role::Asset),
+            11 => Ok(Role::Inherit),
+            12 => Ok(Role::KeyInfo),
+            13 => Ok(Role::Skipped),
+            14 => Ok(Role::Permission),
+            15 => Ok(Role::Reference),
+            16 => Ok(Role::Play),
+            17 => Ok(Role::Display),
+            18 => Ok(Role::Execute),
+            19 => Ok(Role::Print),
+            20 => Ok(Role::Export),
+            21 => Ok(Role::Constraint),
+            22 => Ok(Role::Count),
+            23 => Ok(Role::TimedCount),
+            24 => Ok(Role::Datetime),
+            25 => Ok(Role::Start),
+            26 => Ok(Role::End),
+            27 => Ok(Role::Interval),
+            28 => Ok(Role::Accumulated),
+            _ => Err(NoRole),
+        }
+    }
 }
 
 // An element by its name.

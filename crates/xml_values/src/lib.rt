@@ -5,7 +5,6 @@ ghost use Rattle.std.specs.Prelude.{◌≡◌, true, ◌+◌, ◌-◌, ◌*◌, 
 ghost use Rattle.xml_model.specs.Values.{value_if, number_of, is_number, number_in, uid_of, digits_at, number_at, time_formed, time_real, seconds_at};
 ghost use Rattle.xml_model.specs.Values.{time_if, time_of, piece_at, duration_formed, duration_of, value_of};
 ghost use Rattle.xml_model.specs.Codes.{as_value, as_piece};
-ghost use Rattle.xml_table.specs.Codes.{role_code};
 ghost use Rattle.xml_values.specs.Saturated.{ceiling, saturated};
 
 use book::{LATEST_TIME, MOST_SECONDS, MOST_TIMES};
@@ -228,19 +227,19 @@ fn duration_of(v: &[u8]) -> Option<u32>
     value_if(duration_formed(v, d, h, m, s) & (n <= high), n)
 }
 
-// ## The value of an element that holds a text, by its role
+// ## The value of an element that holds a text, by its role's number
 
 // Rules out: version 2.1 accepted, a uid without its prefix in an asset, a count of 0 refused, one of 1,000,001.
 #[tactic(auto, using(xml_model::proofs::Runs::same_slices), unfolding(xml_model::specs::Values::value_of))]
-pub fn value_of(role: Role, v: &[u8]) -> Option<u32>
-    ensures { as_value result ≡ value_of (role_code role) v.now }
+pub fn value_of(role: u8, v: &[u8]) -> Option<u32>
+    ensures { as_value result ≡ value_of role v.now }
 {
-    match role {
-        Role::Version => value_if(v == b"2.2".as_slice(), 0),
-        Role::ObjectUid => number_in(1, 65535, v),
-        Role::AssetUid | Role::InheritUid => uid_of(v),
-        Role::Count | Role::TimedCount => number_in(0, MOST_TIMES, v),
-        Role::Start | Role::End => time_of(v),
+    match Role::try_from(role) {
+        Ok(Role::Version) => value_if(v == b"2.2".as_slice(), 0),
+        Ok(Role::ObjectUid) => number_in(1, 65535, v),
+        Ok(Role::AssetUid | Role::InheritUid) => uid_of(v),
+        Ok(Role::Count | Role::TimedCount) => number_in(0, MOST_TIMES, v),
+        Ok(Role::Start | Role::End) => time_of(v),
         _ => duration_of(v),
     }
 }

@@ -14,8 +14,8 @@ pub returns-in_err-closing : goal.returns-in_err-closing
 unfolding empty_tag
 returns-in_err-closing c =
     let p = err_from_is_err_and c.from_residual-in_err-closing.result c.from_residual-in_err-closing.ensures.1 in
-    rw (p.1, p.2, ← c.in_ok-begun.ensures, ← ok-then, ← c.in_err-closing.ensures) (no-then _ _)
+    rw (p.1, p.2, ← c.in_ok-begun.ensures, ← ok-then, ← c.from.ensures, ← c.in_err-closing.ensures) (no-then _ _)
 
 pub returns : goal.returns
 unfolding empty_tag
-returns c = rw (← c.in_ok-begun.ensures, ← ok-then, ← c.in_ok-closing.ensures, ← ok-then) c.counted.ensures
+returns c = rw (← c.in_ok-begun.ensures, ← ok-then, ← c.from.ensures, ← c.in_ok-closing.ensures, ← ok-then) c.counted.ensures

@@ -23,5 +23,6 @@ pub stored-requires : goal.stored-requires
 stored-requires c =
     let a = c.args in
     let o : c.value_of.result ≡ Some c.in_ok-x.x = grind arith in
-    let e : c.in_ok-x.x ≡ (value_of (role_code a.role) a.v.now).number = ap (λ (w : Value). w.number) (rw o at c.value_of.ensures) in
+    let e : c.in_ok-x.x ≡ (value_of (role_code a.role) a.v.now).number =
+    ap (λ (w : Value). w.number) (rw (o, c.from.ensures) at c.value_of.ensures) in
     λ lo hi. rw e (value-fits (role_code a.role) a.v.now lo hi)

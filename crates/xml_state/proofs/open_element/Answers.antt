@@ -1,9 +1,9 @@
--- `xml_state::opening` meets its contract: the first of the three steps that is a fault is the result.
+-- `xml_state::open_element` meets its contract: the first of the three steps that is a fault is the result.
 use Rattle.std.proofs.lemmas.Result.{err_from_is_err_and}
 use Rattle.xml_model.specs.State.{opening}
 use Rattle.xml_model.proofs.Steps.{no-then, ok-then}
 use Rattle.xml_state.proofs.Looks.{looked}
-use Rattle.xml_state.proofs.opening.Goals as goal
+use Rattle.xml_state.proofs.open_element.Goals as goal
 
 pub returns-in_err-st : goal.returns-in_err-st
 unfolding opening
