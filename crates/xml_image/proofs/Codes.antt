@@ -9,7 +9,7 @@ use Rattle.model.specs.Image.{length_of, write_answer}
 use Rattle.model.proofs.Image.RoundTrip.{demand2}
 use Rattle.fill.specs.Fill.{no_room}
 use Rattle.xml_model.specs.Text.{Reading}
-use Rattle.xml_image.specs.Imported.{Imported, import_code, imported_from}
+use Rattle.xml_image.specs.Imported.{import_code, imported_from}
 use Rattle.xml_image.specs.ImportLaws.{nothing}
 
 module _ (r : Reading) where
