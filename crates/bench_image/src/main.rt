@@ -4,46 +4,26 @@
 
 ghost use Rattle.std.specs.Prelude.{◌≤◌, length};
 
-use book::Book;
+use book::{Book, ImageError};
 use std::rt::{Clock, Files};
 use std::{fs, io};
 
 const IMAGE: usize = 5399;
 
-#[derive(Clone, Copy)]
-struct Turn {
-    code: u8,
-    length: usize,
-    book: Book,
-}
-
-// Reads the image, given the book held, and writes the resulting book.
-fn one_turn(held: Book, image: &[u8]) -> Turn {
+// Reads the image over the book held, and writes the resulting book; returns the length of what was written.
+fn one_turn(held: &mut Book, image: &[u8]) -> (Result<(), ImageError>, usize) {
     let mut out = [0u8; IMAGE];
-    let mut after = held;
-    let code = match image_read::read(&mut after, image) {
-        Ok(()) => 0,
-        Err(e) => u8::from(e),
-    };
-    let n = image_write::write(&after, &mut out).unwrap_or(0);
-    Turn {
-        code: code,
-        length: n,
-        book: after,
-    }
+    let read = image_read::read(held, image);
+    (read, image_write::write(held, &mut out).unwrap_or(0))
 }
 
-fn turns(image: &[u8]) -> Turn {
-    let mut t = Turn {
-        code: 0,
-        length: 0,
-        book: book::blank_book(),
-    };
+fn turns(image: &[u8]) -> (Result<(), ImageError>, usize) {
+    let mut held = book::blank_book();
+    let mut last = (Ok(()), 0);
     for _ in 0..20000 {
-        let held = t.book;
-        t = one_turn(held, image);
+        last = one_turn(&mut held, image);
     }
-    t
+    last
 }
 
 // Reads full.rbk to the start of image, and returns how many bytes. A file that cannot be opened counts as empty.
@@ -59,6 +39,9 @@ fn read_image(rt: &(impl Clock + Eprint + Files), image: &mut [u8; IMAGE]) -> us
 fn main(rt: HostRuntime) -> io::Result<()> {
     let mut image = [0u8; IMAGE];
     let n = read_image(&rt, &mut image);
-    let t = turns(&image[..n]);
-    println!(rt; "{} {}", t.code, t.length)
+    let (read, length) = turns(&image[..n]);
+    match read {
+        Ok(()) => println!(rt; "0 {length}"),
+        Err(e) => println!(rt; "{} {length}", u8::from(e)),
+    }
 }

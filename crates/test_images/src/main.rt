@@ -16,9 +16,8 @@ fn print_byte(rt: &impl Print, b: u8) -> io::Result<()> {
     print!(rt; "{b:02x}")
 }
 
-// Prints the first n bytes of s.
-fn print_bytes(rt: &impl Print, s: &[u8], n: usize) -> io::Result<()> {
-    for b in &s[..n.min(s.len())] {
+fn print_bytes(rt: &impl Print, bytes: &[u8]) -> io::Result<()> {
+    for b in bytes {
         print_byte(rt, *b)?;
     }
     Ok(())
@@ -28,7 +27,7 @@ fn print_accepted(rt: &impl Print, b: Book) -> io::Result<()> {
     let mut back = [0u8; IMAGE];
     print!(rt; "0 ")?;
     if let Ok(n) = image_write::write(&b, &mut back) {
-        print_bytes(rt, &back, n)?;
+        print_bytes(rt, back.get(..n).unwrap_or(&[]))?;
     }
     println!(rt; "")
 }
@@ -51,31 +50,16 @@ fn answer(rt: &impl Print, held: Book, image: &[u8]) -> io::Result<Book> {
     Ok(after)
 }
 
-// Reads the next n bytes of the file to the start of buf.
-fn fill<F: Read>(file: &mut F, n: usize, buf: &mut [u8]) {
-    if n <= buf.len() {
-        let _ = file.read_exact(&mut buf[..n]);
-    }
-}
-
-// Prints the line for the image in the first n bytes of buf.
-fn judge(rt: &impl Print, held: Book, n: usize, buf: &[u8]) -> io::Result<Book> {
-    if n <= buf.len() {
-        return answer(rt, held, &buf[..n]);
-    }
-    Ok(held)
-}
-
 // One case: its length in two bytes, then the image. None at the end of the file.
 fn one_case<F: Read>(rt: &impl Print, file: &mut F, held: Book) -> io::Result<Option<Book>> {
     let mut head = [0u8; 2];
     if file.read_exact(&mut head).is_err() {
         return Ok(None);
     }
-    let n = u16::from_be_bytes(head) as usize;
     let mut buf = [0u8; BUFFER];
-    fill(file, n, &mut buf);
-    Ok(Some(judge(rt, held, n, &buf)?))
+    let image = &mut buf[..u16::from_be_bytes(head) as usize];
+    let _ = file.read_exact(image);
+    Ok(Some(answer(rt, held, image)?))
 }
 
 // A proved loop has to end, and nothing guarantees that a file does: no more cases than this are read.

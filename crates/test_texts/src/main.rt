@@ -19,20 +19,12 @@ fn read_length<F: Read>(file: &mut F) -> Option<usize> {
     }
 }
 
-// Reads the next n bytes of the file to the start of buf.
-fn fill<F: Read>(file: &mut F, n: usize, buf: &mut [u8]) {
-    if n <= buf.len() {
-        let _ = file.read_exact(&mut buf[..n]);
-    }
-}
-
 fn print_byte(rt: &impl Print, b: u8) -> io::Result<()> {
     print!(rt; "{b:02x}")
 }
 
-// Prints the first n bytes of s.
-fn print_bytes(rt: &impl Print, s: &[u8], n: usize) -> io::Result<()> {
-    for b in &s[..n.min(s.len())] {
+fn print_bytes(rt: &impl Print, bytes: &[u8]) -> io::Result<()> {
+    for b in bytes {
         print_byte(rt, *b)?;
     }
     Ok(())
@@ -48,7 +40,7 @@ fn print_line(
         Ok(r) => {
             let elements = r.elements;
             print!(rt; "0 {elements} ")?;
-            print_bytes(rt, image, r.length)?;
+            print_bytes(rt, image.get(..r.length).unwrap_or(&[]))?;
         }
         Err(e) => {
             let code = u8::from(e);
@@ -65,22 +57,16 @@ fn answer(rt: &impl Print, text: &[u8]) -> io::Result<()> {
     print_line(rt, r, &image)
 }
 
-// Prints the line for the text in the first n bytes of buf.
-fn judge(rt: &impl Print, n: usize, buf: &[u8]) -> io::Result<()> {
-    if n <= buf.len() {
-        answer(rt, &buf[..n])?;
-    }
-    Ok(())
-}
-
 // One case: its length in four bytes, then the text. Whether there was one.
 fn one_case<F: Read>(rt: &impl Print, file: &mut F) -> io::Result<bool> {
     let Some(n) = read_length(file) else {
         return Ok(false);
     };
     let mut buf = [0u8; BUFFER];
-    fill(file, n, &mut buf);
-    judge(rt, n, &buf)?;
+    if let Some(text) = buf.get_mut(..n) {
+        let _ = file.read_exact(text);
+        answer(rt, text)?;
+    }
     Ok(true)
 }
 
