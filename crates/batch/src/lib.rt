@@ -26,16 +26,16 @@ use index::{end_of, ends_of, fill_places, reach_at, rows_of};
 use lent::shut_player;
 use metering::{good_after, good_lines, line_for, raised_for, request_line, request_seconds};
 use record::decode;
+use report::Report;
 use rules::{begin_entry, gate_of, latest_by, noted_last, recent_of};
 use text::put_line;
 use uses::{begin_on, cancel_on, continue_on, ended_meters, stop_on};
 
-// The book and the lines after the records, how many of the lines were lent, and how many bytes of text were written.
+// The book and the report after the records, and how many bytes of text were written.
 #[derive(Clone, Copy)]
 pub struct Block {
     pub book: Book,
-    pub lines: [Line; 64],
-    pub lent: usize,
+    pub report: Report,
     pub written: usize,
 }
 
@@ -86,28 +86,21 @@ fn raise(report: &mut [Line; 64], k: usize, l: Limits, seconds: u32, good: bool)
 // If out has no room for 19 bytes per record, nothing is done.
 // Rules out: a record left out or answered twice, a last record cut short that gets no line, a byte touched after the text, a taken
 // event that the header does not tell of.
-pub fn answer_block(
-    b: Book,
-    records: &[u8],
-    out: &mut [u8],
-    lines: [Line; 64],
-    lent: usize,
-) -> Block
-    ensures { Answered b lines lent records.now out.old
-        result.book result.lines result.lent result.written out.new }
+pub fn answer_block(b: Book, records: &[u8], out: &mut [u8], report: Report) -> Block
+    ensures { Answered b report.lines report.lent records.now out.old
+        result.book result.report.lines result.report.lent result.written out.new }
 {
     let size = records.len();
     let count = (size + RECORD_LAST) / RECORD_SIZE;
     if out.len() / 19 < count {
         return Block {
             book: b,
-            lines: lines,
-            lent: lent,
+            report: report,
             written: 0,
         };
     }
     let mut book = b;
-    let mut report = lines;
+    let mut lines = report.lines;
     let mut places = [0u8; 65536];
     let mut parents = [0u16; 64];
     let assets = book.assets;
@@ -118,7 +111,7 @@ pub fn answer_block(
     let mut rows = rows_of(entries);
     let players = book.players;
     let mut ends = ends_of(players);
-    let mut good = good_lines(used, lines, lent);
+    let mut good = good_lines(used, report);
     let mut next: u32 = 0;
     let mut at: usize = 0;
     for i in 0..count {
@@ -173,7 +166,7 @@ pub fn answer_block(
                                         rows[k] = row;
                                         if let Some(k) = line_for(book.switch, l, used, o.content) {
                                             let seconds = o.until.saturating_sub(o.begin);
-                                            good = raise(&mut report, k, l, seconds, good);
+                                            good = raise(&mut lines, k, l, seconds, good);
                                         }
                                     }
                                     let shutting = book.players[p];
@@ -275,7 +268,7 @@ pub fn answer_block(
                                     used,
                                 ) {
                                     let seconds = request_seconds(request, t, o);
-                                    good = raise(&mut report, k, l, seconds, good);
+                                    good = raise(&mut lines, k, l, seconds, good);
                                 }
                                 let end = end_of(current);
                                 ends[j] = end;
@@ -303,8 +296,10 @@ pub fn answer_block(
     }
     Block {
         book: book,
-        lines: report,
-        lent: lent,
+        report: Report {
+            lines: lines,
+            lent: report.lent,
+        },
         written: at,
     }
 }

@@ -142,11 +142,11 @@ module _ (buffer : List ℕ) (size : ℕ) (records old : List ℕ) (before : ℕ
   pub answer-stored :
       (r : Result Block Failure) (buffer' : List ℕ) (size' : ℕ) (out : List ℕ) (written : ℕ) (last : List Line) →
       AnsweredBy buffer size records old before (taken_lines ls) (length ls) (result_code r) buffer' size' out
-      (result_or r (λ x. x.written) before) (result_or r (λ x. x.lines) (taken_lines ls)) →
-      MatchResult r (λ x. (written ≡ x.written) × (last ≡ given_lines x.lines ls)) (λ f. (written ≡ before) × (last ≡ ls)) →
+      (result_or r (λ x. x.written) before) (result_or r (λ x. x.report.lines) (taken_lines ls)) →
+      MatchResult r (λ x. (written ≡ x.written) × (last ≡ given_lines x.report.lines ls)) (λ f. (written ≡ before) × (last ≡ ls)) →
       Answer (result_code r) buffer' size' out written last
   answer-stored (Ok x) buffer' size' out written last e k =
-      rw k.0 (answer-left 0 buffer' size' out x.written x.lines last e k.1)
+      rw k.0 (answer-left 0 buffer' size' out x.written x.report.lines last e k.1)
   answer-stored (Err f) buffer' size' out written last e k =
       rw k.0 (answer-left (failure_code f) buffer' size' out before (taken_lines ls) last e (k.1 ∙ sym (given-taken ls)))
 

@@ -25,7 +25,7 @@ use book::{
     Ask, Asset, Book, Entry, ImageError, Line, NO_ROOM, NoRoom, RECORD_SIZE, Reported, at_most_64,
 };
 use encode::RawEvent;
-use report::{give_lines, take_lines};
+use report::{Report, give_lines, take_lines};
 use std::convert::AsSlice;
 
 // What a call returns where the book has nothing at the position asked for.
@@ -104,7 +104,7 @@ pub fn rights_check(image: &[u8]) -> u8
     code_of(load(image))
 }
 
-// rights_answer with the lines by value, of which `lent` were lent.
+// rights_answer with the report by value.
 // No event changes how many assets and entries there are, so the next image has the length of the one that the book now has, and its
 // room is known before anything is written.
 // Rules out: a refusal that touches a byte or a number.
@@ -113,12 +113,11 @@ fn answer_image(
     size: &mut u64,
     records: &[u8],
     out: &mut [u8],
-    lines: [Line; 64],
-    lent: usize,
+    report: Report,
 ) -> Result<Block, Failure>
-    ensures { (written : ℕ) → AnsweredBy image.old size.old records.now out.old written lines lent
+    ensures { (written : ℕ) → AnsweredBy image.old size.old records.now out.old written report.lines report.lent
         (result_code result) image.new size.new out.new
-        (result_or result (λ x. x.written) written) (result_or result (λ x. x.lines) lines) }
+        (result_or result (λ x. x.written) written) (result_or result (λ x. x.report.lines) report.lines) }
 {
     let book = load_from(image, *size)?;
     if out.len() / 19 < records.len().div_ceil(RECORD_SIZE) {
@@ -127,7 +126,7 @@ fn answer_image(
     if image.len() < image_write::image_length(book.assetcount, book.entrycount) {
         return Err(Failure::NoRoom);
     }
-    let block = batch::answer_block(book, records, out, lines, lent);
+    let block = batch::answer_block(book, records, out, report);
     *size = image_write::write(&block.book, image)? as u64;
     Ok(block)
 }
@@ -163,31 +162,34 @@ pub fn rights_answer(
         image.old size.old report.old records.now (length out.old)) }
 {
     let lines = take_lines(report);
-    let answered = answer_image(image, size, records, out, lines, report.len());
+    let list = Report {
+        lines: lines,
+        lent: report.len(),
+    };
+    let answered = answer_image(image, size, records, out, list);
     if let Ok(block) = answered {
         *written = block.written as u64;
-        give_lines(report, block.lines);
+        give_lines(report, block.report.lines);
     }
     code_of(answered)
 }
 
-// rights_answer_one with the lines by value, of which `lent` were lent.
+// rights_answer_one with the report by value.
 // Rules out: a refusal that touches a byte or a number.
 fn answer_event(
     image: &mut [u8],
     size: &mut u64,
     event: RawEvent,
-    lines: [Line; 64],
-    lent: usize,
+    report: Report,
 ) -> Result<Reported, Failure>
     ensures { (code entry until : ℕ) → OneBy image.old size.old
         (record_bytes event.player event.number event.operation event.asset event.kind event.time)
-        code entry until lines lent (result_code result) image.new size.new
+        code entry until report.lines report.lent (result_code result) image.new size.new
         (result_or result (λ x. x.answer.code) code) (result_or result (λ x. x.answer.entry) entry)
-        (result_or result (λ x. x.answer.until) until) (result_or result (λ x. x.lines) lines) }
+        (result_or result (λ x. x.answer.until) until) (result_or result (λ x. x.lines) report.lines) }
 {
     let book = load_from(image, *size)?;
-    let after = step::step_lines(book, &encode::record_bytes(event), lines, lent);
+    let after = step::step_lines(book, &encode::record_bytes(event), report);
     *size = image_write::write(&after.book, image)? as u64;
     Ok(after)
 }
@@ -237,7 +239,11 @@ pub fn rights_answer_one(
         time,
     };
     let lines = take_lines(report);
-    let answered = answer_event(image, size, event, lines, report.len());
+    let list = Report {
+        lines: lines,
+        lent: report.len(),
+    };
+    let answered = answer_event(image, size, event, list);
     if let Ok(after) = answered {
         *code = after.answer.code;
         *entry = after.answer.entry;

@@ -1,5 +1,5 @@
 // What metering needs of a book: whether a list of lines is one for it, and what the uses that an event ends record in the lines.
-// The lines are held by value, in 64 places; how many of them were lent is passed beside them.
+// The lines are held by value, in 64 places.
 #![tactic(auto)]
 
 ghost use Rattle.std.specs.Prelude.{◌≡◌, ◌<◌, cond, length, None, set};
@@ -10,7 +10,7 @@ ghost use Rattle.metering.specs.Good.{fine, good_lines, good_after};
 
 use book::{Answer, Asset, Book, Limits, Line, Open, Request, at_most_64, blank_asset, entry_at};
 use image_limits::asset_position;
-use report::raise_one;
+use report::{Report, raise_one};
 use rules::momentary;
 use uses::due;
 
@@ -28,16 +28,16 @@ fn fine_line(named: bool, number: u16, l: Line) -> bool
         & (l.seconds < LINE_BOUND)
 }
 
-// Whether a list of so many lines is good: 30 otherwise.
+// Whether a list is good: 30 otherwise.
 // Rules out: a list that is too short or too long, a line that names another asset, a number of 2 to the 62.
-pub fn good_lines(assets: &[Asset], lines: [Line; 64], count: usize) -> bool
-    ensures { result ≡ good_lines assets.now (length assets.now) lines count }
+pub fn good_lines(assets: &[Asset], report: Report) -> bool
+    ensures { result ≡ good_lines assets.now (length assets.now) report.lines report.lent }
 {
     let n = assets.len().min(64);
-    let mut good = (n <= count) & (count <= 64);
+    let mut good = (n <= report.lent) & (report.lent <= 64);
     for k in 0..64 {
         let a = assets.get(k).copied().unwrap_or(blank_asset());
-        good = good & fine_line(k < n, a.number, lines[k]);
+        good = good & fine_line(k < n, a.number, report.lines[k]);
     }
     good
 }

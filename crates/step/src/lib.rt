@@ -20,7 +20,7 @@ use book::{
     Admission, Answer, Ask, Book, Event, EventError, Line, Meters, Open, Outcome, Player, Recent,
     Reported, Request, at_most_64, refused,
 };
-use report::{give_lines, take_lines};
+use report::{Report, give_lines, take_lines};
 use uses::Effect;
 
 // What an operation leaves of an entry, and which entry that is.
@@ -231,22 +231,23 @@ fn lines_after(b: Book, e: Event, a: Answer, lines: [Line; 64]) -> [Line; 64]
     }
 }
 
-// Whether a list of so many lines is a good one for the book.
+// Whether a list is a good one for the book.
 // Rules out: a slot past the assets in use looked at.
-fn good_list(b: Book, lines: [Line; 64], count: usize) -> bool
-    ensures { result ≡ good_lines b.assets b.assetcount lines count }
+fn good_list(b: Book, report: Report) -> bool
+    ensures { result ≡ good_lines b.assets b.assetcount report.lines report.lent }
 {
-    metering::good_lines(&b.assets[..at_most_64(b.assetcount)], lines, count)
+    metering::good_lines(&b.assets[..at_most_64(b.assetcount)], report)
 }
 
-// A record on a book, with the list of lines that it is lent, by value: how many were lent is passed beside them.
+// A record on a book, with the list of lines that it is lent, by value.
 // Rules out: 6 before 30, 1 before 2, an answer other than 6 to a record of 12 or 14 bytes, a list that is not good and comes back
 // changed.
 #[tactic(auto, unfolding(crate::specs::Lines::reported_on, model::specs::Step::arrive, model::specs::Report::lines_read))]
-pub fn step_lines(b: Book, s: &[u8], lines: [Line; 64], count: usize) -> Reported
-    ensures { result ≡ reported_on b (decoded s.now) lines count }
+pub fn step_lines(b: Book, s: &[u8], report: Report) -> Reported
+    ensures { result ≡ reported_on b (decoded s.now) report.lines report.lent }
 {
-    if !good_list(b, lines, count) {
+    let lines = report.lines;
+    if !good_list(b, report) {
         return Reported {
             answer: refused(EventError::Lines),
             book: b,
@@ -276,9 +277,12 @@ pub fn step_lent(b: Book, s: &[u8], report: &mut [Line]) -> Outcome
     ensures { (result ≡ receive b (lent report.old s.now))
         × (report.new ≡ lines_left b (lent report.old s.now)) }
 {
-    let count = report.len();
     let lines = take_lines(report);
-    let after = step_lines(b, s, lines, count);
+    let list = Report {
+        lines: lines,
+        lent: report.len(),
+    };
+    let after = step_lines(b, s, list);
     give_lines(report, after.lines);
     Outcome {
         answer: after.answer,

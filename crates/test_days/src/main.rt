@@ -50,8 +50,10 @@ fn answer_singly(b: Book, events: &[u8], out: &mut [u8], first: [Line; 64]) -> B
     }
     Block {
         book: book,
-        lines: lines,
-        lent: 64,
+        report: Report {
+            lines: lines,
+            lent: 64,
+        },
         written: at,
     }
 }
@@ -71,7 +73,7 @@ fn print_answers(rt: &impl Print, b: Book, events: &[u8]) -> io::Result<()> {
     let mut out = [0u8; OUT];
     let mut singly = [0u8; OUT];
     let zeros = turn::zero_lines(b);
-    let r = batch::answer_block(b, events, &mut out, zeros.lines, zeros.lent);
+    let r = batch::answer_block(b, events, &mut out, zeros);
     let q = answer_singly(b, events, &mut singly, zeros.lines);
     if let Some(text) = out.get(..r.written) {
         rt.write_all(text)?;
@@ -79,11 +81,11 @@ fn print_answers(rt: &impl Print, b: Book, events: &[u8]) -> io::Result<()> {
     if out != singly {
         println!(rt; "other answers one event at a time")?;
     }
-    print_changes(rt, zeros.lines, r.lines)?;
+    print_changes(rt, zeros.lines, r.report.lines)?;
     if r.book != q.book {
         println!(rt; "another book one event at a time")?;
     }
-    if r.lines != q.lines {
+    if r.report.lines != q.report.lines {
         println!(rt; "another report one event at a time")?;
     }
     Ok(())

@@ -61,8 +61,8 @@ fn same_block(b: Book, record: &[u8], list: Report, line: [u8; 19], after: [Line
         return true;
     }
     let mut out = [0u8; 19];
-    let r = batch::answer_block(b, record, &mut out, list.lines, list.lent);
-    (out == line) & (r.lines == after)
+    let r = batch::answer_block(b, record, &mut out, list);
+    (out == line) & (r.report.lines == after)
 }
 
 // The answer to a record that is lent a list.
@@ -74,7 +74,7 @@ fn answer(
     expected: [Line; 64],
 ) -> io::Result<()> {
     let mut line = [0u8; 19];
-    let o = step::step_lines(b, record, list.lines, list.lent);
+    let o = step::step_lines(b, record, list);
     let n = put_line(&mut line, 0, o.answer);
     rt.write_all(&line[..n])?;
     if o.lines != expected {

@@ -60,16 +60,11 @@ pub fn turn(
     }
     let kept = numbers::pick(ended, 0, n % RECORD_SIZE);
     let whole = n - kept;
-    let lines = report.lines;
-    let block = batch::answer_block(b, &input[..whole], out, lines, report.lent);
-    let after = block.lines;
+    let block = batch::answer_block(b, &input[..whole], out, report);
     input.copy_within(whole..n, 0);
     Some(Turned {
         book: block.book,
-        report: Report {
-            lines: after,
-            lent: block.lent,
-        },
+        report: block.report,
         written: block.written,
         kept: kept,
     })

@@ -109,7 +109,7 @@ abbrev Chosen : Type 0
 Chosen = lts.At-match5-branch tie.the-claims reads.Pre reads.Post goal.the-invariant-loop-p goal.the-decreases-loop-p goal.the-invariant-loop-e goal.the-decreases-loop-e goal.the-invariant-loop-i goal.the-decreases-loop-i tie.handed_clauses
 
 abbrev entered : Turn → Entered
-entered c = c.before.before.before.before.before.before.before.before.before.before.before.before.before.before.before.before
+entered c = c.before.before.before.before.before.before.before.before.before.before.before.before.before.before.before.before.before
 
 abbrev turn : Read → Turn
 turn c = c.before.before.before
@@ -135,7 +135,7 @@ players-16 c = search length-mapped
 assets-64 : (c : Entered) → length c.args.b.assets ≡ 64
 assets-64 c = search length-mapped
 
-lines-64 : (c : Entered) → length c.args.lines ≡ 64
+lines-64 : (c : Entered) → length c.args.report.lines ≡ 64
 lines-64 c = search length-mapped
 
 -- in a turn there is room for one line more
@@ -175,7 +175,7 @@ is-few c = admitted-few (turn (read c)).loop-i.good (record-at (turn (read c))) 
 is-admitted : (c : Taken) → Admitted (book-at (turn (read (judged c)))) (admitted-at (turn (read (judged c)))) (event-at (judged c))
 is-admitted c =
     let j = judged c in
-    admitted (book-at (turn (read j))) (admitted-at (turn (read j))) (turn (read j)).loop-i.report (event-at j) (is-valid j)
+    admitted (book-at (turn (read j))) (admitted-at (turn (read j))) (turn (read j)).loop-i.lines (event-at j) (is-valid j)
     (is-few j) Take (sym (c.in-Ok-Take.ensures ∙ ap passed c.in-Ok-Take.field-0-is)) refl
 
 is-player : (c : Taken) → (event-at (judged c)).player % 16 ≡ (event-at (judged c)).player
@@ -183,12 +183,12 @@ is-player c = let h = (is-admitted c).few-players in omega arith
 
 after-settle : (c : AllSettled) → (Settled (event-at (judged (taken c))).time (book-at (turn (read (judged (taken c))))) c.if-next-t.book
     c.if-next-t.next) × (c.if-next-t.rows ≡ rows_for c.if-next-t.book) × (c.if-next-t.ends ≡ ends_for c.if-next-t.book) ×
-    (c.if-next-t.report ≡ recorded_all (book-at (turn (read (judged (taken c))))) (turn (read (judged (taken c)))).loop-i.report
+    (c.if-next-t.lines ≡ recorded_all (book-at (turn (read (judged (taken c))))) (turn (read (judged (taken c)))).loop-i.lines
     (overdue (event-at (judged (taken c))).time (book-at (turn (read (judged (taken c))))).players)) ×
     (c.if-next-t.good ≡ good_lines (entered (turn (read (judged (taken c))))).args.b.assets
-    (entered (turn (read (judged (taken c))))).args.b.assetcount c.if-next-t.report
-    (entered (turn (read (judged (taken c))))).args.lent) ×
-    (length c.if-next-t.report ≡ 64)
+    (entered (turn (read (judged (taken c))))).args.b.assetcount c.if-next-t.lines
+    (entered (turn (read (judged (taken c))))).args.report.lent) ×
+    (length c.if-next-t.lines ≡ 64)
 after-settle c =
     let l = (turn (read (judged (taken c)))).loop-i in
     let t = (event-at (judged (taken c))).time in
@@ -199,17 +199,17 @@ after-settle c =
             (w.book-is ∙ w.loop-p.invariant.1) (w.next-is ∙ w.loop-p.invariant.2),
         w.rows-is ∙ w.loop-p.invariant.3 ∙ ap rows_for (sym w.book-is),
         w.ends-is ∙ w.loop-p.invariant.4 ∙ ap ends_for (sym w.book-is),
-        w.report-is ∙ recorded-by l.book l.report t w.loop-p.p w.loop-p.report (omega (arith, w.loop-p-test.false, l.invariant.4)) w.loop-p.invariant.6,
-        w.good-is ∙ w.loop-p.invariant.7 ∙ ap₂ (λ (n : ℕ) (ms : List Line). good_lines start.b.assets n ms start.lent) l.invariant.7 (sym w.report-is),
-        ap length w.report-is ∙ w.loop-p.invariant.8,
+        w.lines-is ∙ recorded-by l.book l.lines t w.loop-p.p w.loop-p.lines (omega (arith, w.loop-p-test.false, l.invariant.4)) w.loop-p.invariant.6,
+        w.good-is ∙ w.loop-p.invariant.7 ∙ ap₂ (λ (n : ℕ) (ms : List Line). good_lines start.b.assets n ms start.report.lent) l.invariant.7 (sym w.lines-is),
+        ap length w.lines-is ∙ w.loop-p.invariant.8,
       )
       | else-next-t w ↦ (
         settled-still t l.book c.if-next-t.book l.invariant.3 l.invariant.4 l.next c.if-next-t.next l.invariant.2 w.if-next-t.false w.book-is w.next-is,
         w.rows-is ∙ l.invariant.5 ∙ ap rows_for (sym w.book-is),
         w.ends-is ∙ l.invariant.8 ∙ ap ends_for (sym w.book-is),
-        w.report-is ∙ recorded-still l.book l.report t l.next l.invariant.2 w.if-next-t.false,
-        w.good-is ∙ l.invariant.9 ∙ ap (λ (ms : List Line). good_lines start.b.assets start.b.assetcount ms start.lent) (sym w.report-is),
-        ap length w.report-is ∙ l.invariant.10,
+        w.lines-is ∙ recorded-still l.book l.lines t l.next l.invariant.2 w.if-next-t.false,
+        w.good-is ∙ l.invariant.9 ∙ ap (λ (ms : List Line). good_lines start.b.assets start.b.assetcount ms start.report.lent) (sym w.lines-is),
+        ap length w.lines-is ∙ l.invariant.10,
       )
     ]
 
@@ -305,7 +305,7 @@ abbrev Worked : Acted → Type 0
 Worked c =
     lts.By-16-At-match6-branch-in-Ok-found tie.the-claims reads.Pre reads.Post goal.the-invariant-loop-p goal.the-decreases-loop-p
     goal.the-invariant-loop-e goal.the-decreases-loop-e goal.the-invariant-loop-i goal.the-decreases-loop-i tie.handed_clauses c.before
-    c.match-found.book c.match-found.report c.match-found.rows c.match-found.ends c.match-found.good c.match-found.next
+    c.match-found.book c.match-found.lines c.match-found.rows c.match-found.ends c.match-found.good c.match-found.next
     c.match-found.answer c.match-found.current
 
 -- the entry that it works on
@@ -441,15 +441,15 @@ left_by c =
 -- the lines after the operation, by its answer
 abbrev LinesLeft : Acted → List Line → Bool → Answer → Type 0
 LinesLeft c report good answer =
-    (report ≡ recorded_all (book-at (turn (read (judged (taken (all_settled (chosen c))))))) (all_settled (chosen c)).if-next-t.report
+    (report ≡ recorded_all (book-at (turn (read (judged (taken (all_settled (chosen c))))))) (all_settled (chosen c)).if-next-t.lines
     (ended_by (event-at (judged (taken (all_settled (chosen c))))).request (event-at (judged (taken (all_settled (chosen c))))).time
     (open-at (chosen c)) answer))
     × (good ≡ good_lines (entered (turn (read (judged (taken (all_settled (chosen c))))))).args.b.assets
     (entered (turn (read (judged (taken (all_settled (chosen c))))))).args.b.assetcount report
-    (entered (turn (read (judged (taken (all_settled (chosen c))))))).args.lent)
+    (entered (turn (read (judged (taken (all_settled (chosen c))))))).args.report.lent)
     × (length report ≡ 64)
 
-lines-by : (c : Acted) → LinesLeft c c.match-found.report c.match-found.good c.match-found.answer
+lines-by : (c : Acted) → LinesLeft c c.match-found.lines c.match-found.good c.match-found.answer
 lines-by c =
     let d = chosen c in
     let s = all_settled d in
@@ -459,12 +459,12 @@ lines-by c =
     let b = l.book in
     let n = s.if-next-t.book in
     let es = n.entries in
-    let A = s.if-next-t.report in
+    let A = s.if-next-t.lines in
     let o = open-at d in
     let z = after-settle s in
-    let Good : Bool → List Line → Type 0 = λ v ms. v ≡ good_lines start.b.assets start.b.assetcount ms start.lent in
+    let Good : Bool → List Line → Type 0 = λ v ms. v ≡ good_lines start.b.assets start.b.assetcount ms start.report.lent in
     let moved : (v w : Bool) (ms ns : List Line) → v ≡ w → ms ≡ ns → Good w ns → Good v ms = λ v w ms ns p q g.
-    p ∙ g ∙ ap (λ (x : List Line). good_lines start.b.assets start.b.assetcount x start.lent) (sym q) in
+    p ∙ g ∙ ap (λ (x : List Line). good_lines start.b.assets start.b.assetcount x start.report.lent) (sym q) in
     elim c.match-found.branch [
       | in-Ok-found w ↦
           let k = w.in-Ok-found.k in
@@ -495,8 +495,8 @@ lines-by c =
           slots-request start.b.assets start.b.assetcount slots.result n.assetcount size slots.ensures (assets-kept s).1 n.switch (limits_at es k)
           e.request part.answer o r q in
           let ha : start.b.assets ≡ b.assets = sym l.invariant.6 in
-          let after : (w.match-request_line.report ≡ recorded_all b A (ended_by e.request e.time o part.answer))
-          × (Good w.match-request_line.good w.match-request_line.report) × (length w.match-request_line.report ≡ 64) =
+          let after : (w.match-request_line.lines ≡ recorded_all b A (ended_by e.request e.time o part.answer))
+          × (Good w.match-request_line.good w.match-request_line.lines) × (length w.match-request_line.lines ≡ 64) =
           elim w.match-request_line.branch [
             | in-Some-request_line u ↦
                 let line = u.in-Some-request_line.k in
@@ -508,33 +508,33 @@ lines-by c =
                 let hs : sec ≡ request_seconds e.request e.time o = u.request_seconds-seconds.ensures ∙ ap
                 (λ (q : Request). request_seconds q e.time o) same-request in
                 let hr : raised x.limits sec (line_at A line) ≡ y = ap (λ (v : Entry). raised v.limits sec (line_at A line)) is_x in
-                let to : w.match-request_line.report ≡ set A line y = u.report-is ∙ u.raise-good-in-Some-request_line.ensures.report_after ∙ ap (set A line) hr in (
+                let to : w.match-request_line.lines ≡ set A line y = u.lines-is ∙ u.raise-good-in-Some-request_line.ensures.report_after ∙ ap (set A line) hr in (
                   to ∙ acted-raised b n e.time z.0.is-settled A start.b.assets ha o part.answer e.request k names line (hw (Some line) found) sec hs
                       small,
-                  moved w.match-request_line.good _ w.match-request_line.report (set A line y)
+                  moved w.match-request_line.good _ w.match-request_line.lines (set A line y)
                       (u.good-is ∙ u.raise-good-in-Some-request_line.ensures.good_value ∙ ap₂ good_after z.4 hr) to
-                      (good-raised start.b.assets start.b.assetcount A start.lent line (limits_at es k) sec
+                      (good-raised start.b.assets start.b.assetcount A start.report.lent line (limits_at es k) sec
                       (omega (arith, small, z.5)) small),
                   ap length to ∙ length-set A line y ∙ z.5,
                 )
             | in_default-request_line u ↦
                 let found = u.in_default-request_line.ensures ∙ asked in (
-                  u.report-is ∙ acted-kept b n e.time z.0.is-settled A start.b.assets ha o part.answer e.request k names 64 (hw None found)
+                  u.lines-is ∙ acted-kept b n e.time z.0.is-settled A start.b.assets ha o part.answer e.request k names 64 (hw None found)
                       (omega arith),
-                  moved w.match-request_line.good s.if-next-t.good w.match-request_line.report A u.good-is u.report-is z.4,
-                  ap length u.report-is ∙ z.5,
+                  moved w.match-request_line.good s.if-next-t.good w.match-request_line.lines A u.good-is u.lines-is z.4,
+                  ap length u.lines-is ∙ z.5,
                 )
           ] in (
-            w.report-is ∙ after.0 ∙ ap (λ (a : Answer). recorded_all b A (ended_by e.request e.time o a)) (sym w.answer-is),
-            moved c.match-found.good w.match-request_line.good c.match-found.report w.match-request_line.report w.good-is w.report-is after.1,
-            ap length w.report-is ∙ after.2,
+            w.lines-is ∙ after.0 ∙ ap (λ (a : Answer). recorded_all b A (ended_by e.request e.time o a)) (sym w.answer-is),
+            moved c.match-found.good w.match-request_line.good c.match-found.lines w.match-request_line.lines w.good-is w.lines-is after.1,
+            ap length w.lines-is ∙ after.2,
           )
       | in-Err-found w ↦
           let off : eqb c.match-found.answer.code 0 ≡ false = ap (λ (a : Answer). eqb a.code 0) (w.answer-is ∙ w.refused-answer.ensures)
           ∙ ne_eqb _ 0 (never-granted w.in-Err-found.e) in (
-            w.report-is ∙ refused-kept b A e.time o c.match-found.answer e.request off,
-            moved c.match-found.good s.if-next-t.good c.match-found.report A w.good-is w.report-is z.4,
-            ap length w.report-is ∙ z.5,
+            w.lines-is ∙ refused-kept b A e.time o c.match-found.answer e.request off,
+            moved c.match-found.good s.if-next-t.good c.match-found.lines A w.good-is w.lines-is z.4,
+            ap length w.lines-is ∙ z.5,
           )
     ]
 
@@ -571,32 +571,32 @@ ends_by c q hq =
 stepped :
     (c : Turn) (a : Answer) (book : Book) (ms : List Line) →
     arrive (book-at c) (admitted-at c) ≡ record { answer = a; book = book } →
-    lines_read (book-at c) (admitted-at c) c.loop-i.report ≡ ms →
-    step_on (book-at c) c.loop-i.report (entered c).args.lent (record-at c) ≡ record { answer = a; book = book; lines = ms }
+    lines_read (book-at c) (admitted-at c) c.loop-i.lines ≡ ms →
+    step_on (book-at c) c.loop-i.lines (entered c).args.report.lent (record-at c) ≡ record { answer = a; book = book; lines = ms }
 stepped c a book ms p q =
     let l = c.loop-i in
     let g = (entered c).args in
-    reported-as l.book (decoded (record-at c)) l.report g.lent l.good
-    (l.invariant.9 ∙ ap₂ (λ (x : List Asset) (n : ℕ). good_lines x n l.report g.lent) (sym l.invariant.6) (sym l.invariant.7))
+    reported-as l.book (decoded (record-at c)) l.lines g.report.lent l.good
+    (l.invariant.9 ∙ ap₂ (λ (x : List Asset) (n : ℕ). good_lines x n l.lines g.report.lent) (sym l.invariant.6) (sym l.invariant.7))
     a book ms p q
 
 -- a turn that leaves the book: one line more, and all that stands beside the book stays
 kept-turn :
     (c : Turn) (a : Answer) (out : List ℕ) (at : ℕ) →
     (arrive (book-at c) (admitted-at c) ≡ record { answer = a; book = book-at c }) ×
-    (lines_read (book-at c) (admitted-at c) c.loop-i.report ≡ c.loop-i.report) →
+    (lines_read (book-at c) (admitted-at c) c.loop-i.lines ≡ c.loop-i.lines) →
     (at ≡ line_end a c.loop-i.at (length c.loop-i.out)) ×
     (out ≡ line_buffer a c.loop-i.at c.loop-i.out) × (at ≤ c.loop-i.at + 19) →
-    Going (entered c).args.b (entered c).args.lines (entered c).args.lent (entered c).args.records.now (entered c).args.out.now
-    ((length (entered c).args.records.now + (record_size - 1)) / record_size) out (book-at c) c.loop-i.report
+    Going (entered c).args.b (entered c).args.report.lines (entered c).args.report.lent (entered c).args.records.now (entered c).args.out.now
+    ((length (entered c).args.records.now + (record_size - 1)) / record_size) out (book-at c) c.loop-i.lines
     c.loop-i.rows c.loop-i.ends c.loop-i.good c.loop-i.next at (c.loop-i.i + 1)
 kept-turn c a out at e p =
     let l = c.loop-i in
     let t = in-turn c in
     let g = (entered c).args in (
       t.0,
-      progress-next g.b g.lines g.lent g.records.now g.out.now l.i l.book l.report l.out l.at l.invariant.1
-          t.1 a l.book l.report out at (stepped c a l.book l.report e.0 e.1) p,
+      progress-next g.b g.report.lines g.report.lent g.records.now g.out.now l.i l.book l.lines l.out l.at l.invariant.1
+          t.1 a l.book l.lines out at (stepped c a l.book l.lines e.0 e.1) p,
       l.invariant.2,
       l.invariant.3,
       l.invariant.4,
@@ -619,21 +619,21 @@ pub loop-i-init : goal.loop-i-init
 loop-i-init c =
     let start = c.before in
     let a = start.args in
-    let size : length a.b.assets ≡ 64 = assets-64 start.before.before.before.before.before.before.before.before.before.before.before.before.before.before in
+    let size : length a.b.assets ≡ 64 = assets-64 start.before.before.before.before.before.before.before.before.before.before.before.before.before.before.before in
     let room : min a.b.assetcount 64 ≤ length a.b.assets = omega arith in (
       omega arith,
-      progress-none a.b a.lines a.lent a.records.now a.out.now,
+      progress-none a.b a.report.lines a.report.lent a.records.now a.out.now,
       expiry-start a.b.players,
-      entries-64 start.before.before.before.before.before.before.before.before.before.before.before.before.before.before,
-      players-16 start.before.before.before.before.before.before.before.before.before.before.before.before.before.before,
+      entries-64 start.before.before.before.before.before.before.before.before.before.before.before.before.before.before.before,
+      players-16 start.before.before.before.before.before.before.before.before.before.before.before.before.before.before.before,
       c.rows_of-rows.ensures,
       refl,
       refl,
       c.ends_of-ends.ensures,
       c.good_lines-good.ensures
-          ∙ ap (λ (j : ℕ). good_lines (take j a.b.assets) (length (take j a.b.assets)) a.lines a.lent) c.at_most_64-slots.ensures
-          ∙ good-used a.b.assets a.b.assetcount a.lines a.lent room,
-      lines-64 start.before.before.before.before.before.before.before.before.before.before.before.before.before.before,
+          ∙ ap (λ (j : ℕ). good_lines (take j a.b.assets) (length (take j a.b.assets)) a.report.lines a.report.lent) c.at_most_64-slots.ensures
+          ∙ good-used a.b.assets a.b.assetcount a.report.lines a.report.lent room,
+      lines-64 start.before.before.before.before.before.before.before.before.before.before.before.before.before.before.before,
     )
 
 pub loop-i-preserved-in-Err : goal.loop-i-preserved-in-Err
@@ -641,7 +641,7 @@ loop-i-preserved-in-Err c =
     let r = c.before.before.before.before.before.before.before in
     let x = c.refused in
     let p = c.put_line-at in
-    let z = case-invalid (book-at (turn r)) (admitted-at (turn r)) (turn r).loop-i.report
+    let z = case-invalid (book-at (turn r)) (admitted-at (turn r)) (turn r).loop-i.lines
     (event_code c.in-Err.e)
     (sym (is-record r) ∙ c.in-Err.ensures) in
     kept-turn (turn r) x.result p.new.out p.result
@@ -654,7 +654,7 @@ loop-i-preserved-in-Err-gate_of c =
     let x = c.refused-in-Err-gate_of in
     let p = c.put_line-at-in-Err-gate_of in
     let b = book-at (turn (read j)) in
-    let z = case-refused b (admitted-at (turn (read j))) (turn (read j)).loop-i.report (event-at j) (is-valid j) (is-few j)
+    let z = case-refused b (admitted-at (turn (read j))) (turn (read j)).loop-i.lines (event-at j) (is-valid j) (is-few j)
     (Refuse (event_code c.in-Err-gate_of.e)) (event_code c.in-Err-gate_of.e) (sym c.in-Err-gate_of.ensures) refl in
     kept-turn (turn (read j)) x.result p.new.out p.result
     (z.0 ∙ ap (λ (a : Answer). record { answer = a; book = b }) (sym x.ensures), z.1)
@@ -665,7 +665,7 @@ loop-i-preserved-in-Ok-Resend c =
     let j = c.before.before.before.before.before.before.before in
     let p = c.put_line-at-in-Ok-Resend in
     kept-turn (turn (read j)) _ p.new.out p.result
-    (case-resent (book-at (turn (read j))) (admitted-at (turn (read j))) (turn (read j)).loop-i.report (event-at j) (is-valid j)
+    (case-resent (book-at (turn (read j))) (admitted-at (turn (read j))) (turn (read j)).loop-i.lines (event-at j) (is-valid j)
     (is-few j) Resend (sym (c.in-Ok-Resend.ensures ∙ ap passed c.in-Ok-Resend.field-0-is)) refl)
     p.ensures
 
@@ -681,7 +681,7 @@ loop-p-init c =
       l.invariant.8,
       l.invariant.4,
       due-none _ _ _,
-      l.invariant.9 ∙ ap (λ (n : ℕ). good_lines start.b.assets n l.report start.lent) (sym l.invariant.7),
+      l.invariant.9 ∙ ap (λ (n : ℕ). good_lines start.b.assets n l.lines start.report.lent) (sym l.invariant.7),
       l.invariant.10,
     )
 
@@ -709,57 +709,57 @@ loop-p-preserved c =
     let few : l.p < length b.players = omega (arith, g.invariant.4) in
     let here : l.p < length ps = omega (arith, l.invariant.5) in
     let due : leb (get_or l.ends l.p 0) t ≡ expired t o = reached ps l.ends l.invariant.4 t l.p ht here in
-    let onto : List Line = recorded_all b g.report (overdue t (take (l.p + 1) b.players)) in
-    let Good : Bool → List Line → Type 0 = λ w ms. (w ≡ good_lines given.b.assets b.assetcount ms given.lent) × (length ms ≡ 64) in
+    let onto : List Line = recorded_all b g.lines (overdue t (take (l.p + 1) b.players)) in
+    let Good : Bool → List Line → Type 0 = λ w ms. (w ≡ good_lines given.b.assets b.assetcount ms given.report.lent) × (length ms ≡ 64) in
     let one : (c.if-end-t.book ≡ settle_one t l.p l.book) × (c.if-end-t.rows ≡ rows_for c.if-end-t.book) ×
-    (c.if-end-t.ends ≡ ends_for c.if-end-t.book) × (c.if-end-t.next ≡ least_end t b.players (l.p + 1)) × (c.if-end-t.report ≡ onto) ×
-    (Good c.if-end-t.good c.if-end-t.report) =
+    (c.if-end-t.ends ≡ ends_for c.if-end-t.book) × (c.if-end-t.next ≡ least_end t b.players (l.p + 1)) × (c.if-end-t.lines ≡ onto) ×
+    (Good c.if-end-t.good c.if-end-t.lines) =
     elim c.if-end-t.branch [
       | then-end-t w ↦
           let d : expired t o ≡ true = sym due ∙ le-leb (get_or l.ends l.p 0) t w.if-end-t.true in
           let put : Meters → Book = λ x. with l.book (set es o.entry (record { limits = limits_at es o.entry; meters = x })) ps in
-          let inner : (w.if-k-lt64.book ≡ with l.book (released t l.p o es) ps) × (w.if-k-lt64.rows ≡ rows_for w.if-k-lt64.book) × (w.if-k-lt64.report ≡ onto) ×
-          (Good w.if-k-lt64.good w.if-k-lt64.report) =
+          let inner : (w.if-k-lt64.book ≡ with l.book (released t l.p o es) ps) × (w.if-k-lt64.rows ≡ rows_for w.if-k-lt64.book) × (w.if-k-lt64.lines ≡ onto) ×
+          (Good w.if-k-lt64.good w.if-k-lt64.lines) =
           elim w.if-k-lt64.branch [
             | then-k-lt64+in-Some v ↦
                 let y : Entry = record { limits = limits_at es o.entry; meters = v.ended_meters-ended.result } in
                 let line = v.in-Some.k in
                 let small = slots-line-below given.b.assets given.b.assetcount slots.result l.book.assetcount size slots.ensures same-count l.book.switch
                 (limits_at es o.entry) o.content line v.in-Some.ensures in
-                let hr = ap (λ (m : ℕ). raised (limits_at es o.entry) m (line_at l.report line)) v.saturating_sub-seconds.ensures in
-                let z : Line = raised (limits_at es o.entry) (o.until - o.begin) (line_at l.report line) in
-                let to : w.if-k-lt64.report ≡ set l.report line z = v.report-is ∙ v.raise-good.ensures.report_after ∙ ap (set l.report line) hr in (
+                let hr = ap (λ (m : ℕ). raised (limits_at es o.entry) m (line_at l.lines line)) v.saturating_sub-seconds.ensures in
+                let z : Line = raised (limits_at es o.entry) (o.until - o.begin) (line_at l.lines line) in
+                let to : w.if-k-lt64.lines ≡ set l.lines line z = v.lines-is ∙ v.raise-good.ensures.report_after ∙ ap (set l.lines line) hr in (
                   v.book-is ∙ ap put v.ended_meters-ended.ensures ∙ ap (λ (x : List Entry). with l.book x ps) (released-due t l.p o es d),
                   v.rows-is ∙ rows_next es l.rows o.entry y v.row_of-row.result l.invariant.3 v.row_of-row.ensures ∙ ap rows_for (sym v.book-is),
-                  to ∙ lines-raised b g.report t l.p few l.book l.invariant.1 l.report l.invariant.6 given.b.assets (sym g.invariant.6) d
+                  to ∙ lines-raised b g.lines t l.p few l.book l.invariant.1 l.lines l.invariant.6 given.b.assets (sym g.invariant.6) d
                       line (hw (Some line) v.in-Some.ensures) (o.until - o.begin) refl small,
                   (
                     v.good-is ∙ v.raise-good.ensures.good_value ∙ ap₂ good_after l.invariant.7 hr
-                        ∙ good-raised given.b.assets b.assetcount l.report given.lent line (limits_at es o.entry) (o.until - o.begin)
+                        ∙ good-raised given.b.assets b.assetcount l.lines given.report.lent line (limits_at es o.entry) (o.until - o.begin)
                         (omega (arith, small, l.invariant.8)) small
-                        ∙ ap (λ (ms : List Line). good_lines given.b.assets b.assetcount ms given.lent) (sym to),
-                    ap length to ∙ length-set l.report line z ∙ l.invariant.8,
+                        ∙ ap (λ (ms : List Line). good_lines given.b.assets b.assetcount ms given.report.lent) (sym to),
+                    ap length to ∙ length-set l.lines line z ∙ l.invariant.8,
                   ),
                 )
             | then-k-lt64+in_default v ↦
                 let y : Entry = record { limits = limits_at es o.entry; meters = v.ended_meters-ended.result } in (
                   v.book-is ∙ ap put v.ended_meters-ended.ensures ∙ ap (λ (x : List Entry). with l.book x ps) (released-due t l.p o es d),
                   v.rows-is ∙ rows_next es l.rows o.entry y v.row_of-row.result l.invariant.3 v.row_of-row.ensures ∙ ap rows_for (sym v.book-is),
-                  v.report-is ∙ lines-kept b g.report t l.p few l.book l.invariant.1 l.report l.invariant.6 given.b.assets (sym g.invariant.6) d
+                  v.lines-is ∙ lines-kept b g.lines t l.p few l.book l.invariant.1 l.lines l.invariant.6 given.b.assets (sym g.invariant.6) d
                       64 (hw None v.in_default.ensures) (omega arith),
                   (
-                    v.good-is ∙ l.invariant.7 ∙ ap (λ (ms : List Line). good_lines given.b.assets b.assetcount ms given.lent) (sym v.report-is),
-                    ap length v.report-is ∙ l.invariant.8,
+                    v.good-is ∙ l.invariant.7 ∙ ap (λ (ms : List Line). good_lines given.b.assets b.assetcount ms given.report.lent) (sym v.lines-is),
+                    ap length v.lines-is ∙ l.invariant.8,
                   ),
                 )
             | else-k-lt64 v ↦ (
               v.book-is ∙ ap (λ (x : List Entry). with l.book x ps) (released-far t l.p o es (omega (arith, v.if-k-lt64.false, len))),
               v.rows-is ∙ l.invariant.3 ∙ ap rows_for (sym v.book-is),
-              v.report-is ∙ lines-out b g.report t l.p few l.book l.invariant.1 l.report l.invariant.6 given.b.assets (sym g.invariant.6) d
+              v.lines-is ∙ lines-out b g.lines t l.p few l.book l.invariant.1 l.lines l.invariant.6 given.b.assets (sym g.invariant.6) d
                   (omega (arith, v.if-k-lt64.false, g.invariant.3)),
               (
-                v.good-is ∙ l.invariant.7 ∙ ap (λ (ms : List Line). good_lines given.b.assets b.assetcount ms given.lent) (sym v.report-is),
-                ap length v.report-is ∙ l.invariant.8,
+                v.good-is ∙ l.invariant.7 ∙ ap (λ (ms : List Line). good_lines given.b.assets b.assetcount ms given.report.lent) (sym v.lines-is),
+                ap length v.lines-is ∙ l.invariant.8,
               ),
             )
           ] in
@@ -772,10 +772,10 @@ loop-p-preserved c =
             w.ends-is ∙ ends_next ps l.ends l.invariant.4 l.p (shut t (player_at ps l.p)) never (shut-end t (player_at ps l.p) d) ∙ ap
                 ends_for (sym settles),
             w.next-is ∙ end-due t l.p b l.book l.next l.invariant.1 few l.invariant.2 d,
-            w.report-is ∙ inner.2,
+            w.lines-is ∙ inner.2,
             (
-              w.good-is ∙ inner.3.0 ∙ ap (λ (ms : List Line). good_lines given.b.assets b.assetcount ms given.lent) (sym w.report-is),
-              ap length w.report-is ∙ inner.3.1,
+              w.good-is ∙ inner.3.0 ∙ ap (λ (ms : List Line). good_lines given.b.assets b.assetcount ms given.report.lent) (sym w.lines-is),
+              ap length w.lines-is ∙ inner.3.1,
             ),
           )
       | else-end-t w ↦
@@ -787,10 +787,10 @@ loop-p-preserved c =
             w.ends-is ∙ l.invariant.4 ∙ ap ends_for (sym w.book-is),
             w.next-is ∙ w.min-next.ensures ∙ ap (min l.next) (kept-end ps l.ends l.invariant.4 l.p here) ∙ end_on t l.p b l.book l.next
                 l.invariant.1 few l.invariant.2 d,
-            w.report-is ∙ lines-still b g.report t l.p few l.book l.invariant.1 l.report l.invariant.6 given.b.assets (sym g.invariant.6) d,
+            w.lines-is ∙ lines-still b g.lines t l.p few l.book l.invariant.1 l.lines l.invariant.6 given.b.assets (sym g.invariant.6) d,
             (
-              w.good-is ∙ l.invariant.7 ∙ ap (λ (ms : List Line). good_lines given.b.assets b.assetcount ms given.lent) (sym w.report-is),
-              ap length w.report-is ∙ l.invariant.8,
+              w.good-is ∙ l.invariant.7 ∙ ap (λ (ms : List Line). good_lines given.b.assets b.assetcount ms given.report.lent) (sym w.lines-is),
+              ap length w.lines-is ∙ l.invariant.8,
             ),
           )
     ] in (
@@ -878,17 +878,17 @@ loop-i-preserved c =
     ∙ ap (λ (m : Book). record { answer = answer; book = m }) (sym is-book) in
     let same-open : open-at (chosen x) ≡ open_at (map (shut e.time) l.book.players) e.player =
     ap (open_at ps) (is-player (taken s)) ∙ ap (λ (m : Book). open_at m.players e.player) z.0.is-settled in
-    let recorded : lines_read l.book (admitted-at r) l.report ≡ x.match-found.report =
-    case-lines l.book (admitted-at r) e l.report answer (is-admitted (taken s)) (ap (λ (o : Outcome). o.answer) f)
+    let recorded : lines_read l.book (admitted-at r) l.lines ≡ x.match-found.lines =
+    case-lines l.book (admitted-at r) e l.lines answer (is-admitted (taken s)) (ap (λ (o : Outcome). o.answer) f)
     ∙ sym (v.0
     ∙ ap (λ (ms : List Line). recorded_all l.book ms (ended_by e.request e.time (open-at (chosen x)) answer)) z.3
-    ∙ ap (λ (o : Open). recorded_all l.book (recorded_all l.book l.report (overdue e.time l.book.players))
+    ∙ ap (λ (o : Open). recorded_all l.book (recorded_all l.book l.lines (overdue e.time l.book.players))
     (ended_by e.request e.time o answer)) same-open) in
     let beside = ends_by x q refl in (
       i.0,
-      progress-next a.b a.lines a.lent a.records.now a.out.now l.i l.book l.report l.out l.at l.invariant.1
-          i.1 answer (store x.match-found.book) x.match-found.report p.new.out p.result
-          (stepped r answer (store x.match-found.book) x.match-found.report f recorded) p.ensures,
+      progress-next a.b a.report.lines a.report.lent a.records.now a.out.now l.i l.book l.lines l.out l.at l.invariant.1
+          i.1 answer (store x.match-found.book) x.match-found.lines p.new.out p.result
+          (stepped r answer (store x.match-found.book) x.match-found.lines f recorded) p.ensures,
       subst (λ (m : Book). NextExpiry x.match-found.next m.players) (sym is-book) beside.1,
       u.3,
       ap (λ (m : Book). length m.players) is-book ∙ length-set ps j q ∙ z.0.players,
@@ -907,5 +907,5 @@ returns c =
     let l = c.loop-i in
     let h : 19 * record_count a.records.now ≤ length a.out.now = omega arith in
     rw (le-leb (19 * record_count a.records.now) (length a.out.now) h)
-    (let u = progress-all a.b a.lines a.lent a.records.now a.out.now l.i l.book l.report l.out l.at
+    (let u = progress-all a.b a.report.lines a.report.lent a.records.now a.out.now l.i l.book l.lines l.out l.at
     l.invariant.1 (omega arith) in (u.0, u.1, refl, u.2, u.3))

@@ -88,11 +88,11 @@ Going b ls lent s old count out book report rows ends good next at i = (i ≤ co
 abbrev pub invariant-loop-p : goal.invariant-loop-p
 invariant-loop-p l =
     (l.p ≤ 16) × (l.book ≡ settled_to l.t l.p l.initial.book) × (l.next ≡ least_end l.t l.initial.book.players l.p) × (l.rows ≡ rows_for l.book) × (l.ends ≡ ends_for l.book) ×
-    (length l.book.players ≡ 16) × (l.report ≡ recorded_all l.initial.book l.initial.report (overdue l.t (take l.p l.initial.book.players))) ×
-    (l.good ≡ good_lines l.fn.b.assets l.initial.book.assetcount l.report l.lent) × (length l.report ≡ 64)
+    (length l.book.players ≡ 16) × (l.lines ≡ recorded_all l.initial.book l.initial.lines (overdue l.t (take l.p l.initial.book.players))) ×
+    (l.good ≡ good_lines l.fn.b.assets l.initial.book.assetcount l.lines l.report.lent) × (length l.lines ≡ 64)
 
 abbrev pub invariant-loop-e : goal.invariant-loop-e
 invariant-loop-e l = (l.e ≤ l.n) × (l.n ≤ 64) × (l.best ≡ found_after l.book.entries l.asset l.reach.parent l.kind l.ask l.e)
 
 abbrev pub invariant-loop-i : goal.invariant-loop-i
-invariant-loop-i l = Going l.initial.book l.initial.report l.lent l.records l.initial.out l.count l.out l.book l.report l.rows l.ends l.good l.next l.at l.i
+invariant-loop-i l = Going l.initial.book l.initial.lines l.report.lent l.records l.initial.out l.count l.out l.book l.lines l.rows l.ends l.good l.next l.at l.i

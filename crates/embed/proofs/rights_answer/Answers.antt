@@ -10,7 +10,7 @@ returns c =
     let a = c.args in
     let r = c.answer_image-answered.result in
     let k : MatchResult r
-    (λ x. (c.match-answered.written ≡ x.written) × (c.match-answered.report ≡ given_lines x.lines a.report.now))
+    (λ x. (c.match-answered.written ≡ x.written) × (c.match-answered.report ≡ given_lines x.report.lines a.report.now))
     (λ f. (c.match-answered.written ≡ a.written.now) × (c.match-answered.report ≡ a.report.now)) = search rules in
     let d : c.match-answered.answered ≡ r = search rules in
     rw (c.code_of.ensures, d)

@@ -19,13 +19,13 @@ loop-k-preserved c =
     let a = c.args in
     let n = c.min-n.result in
     let l = c.loop-k in
-    let w = leb n a.count && leb a.count 64 in
+    let w = leb n a.report.lent && leb a.report.lent 64 in
     let ats = a.assets.now in
     let here : c.unwrap_or-a.result ≡ asset_at ats l.k = search (rules, unwrap_or-slice_get) in
     ap₂ (λ (x y : Bool). x && y) l.invariant
-    (c.fine_line-good.ensures ∙ ap (λ (x : Asset). fine (ltb l.k n) x.number (line_at a.lines l.k)) here)
-    ∙ and_assoc w (all (fine_at ats n a.lines) l.k) (fine_at ats n a.lines l.k)
-    ∙ ap (λ (x : Bool). w && x) (sym (all-turn (fine_at ats n a.lines) l.k))
+    (c.fine_line-good.ensures ∙ ap (λ (x : Asset). fine (ltb l.k n) x.number (line_at a.report.lines l.k)) here)
+    ∙ and_assoc w (all (fine_at ats n a.report.lines) l.k) (fine_at ats n a.report.lines l.k)
+    ∙ ap (λ (x : Bool). w && x) (sym (all-turn (fine_at ats n a.report.lines) l.k))
 
 pub returns : goal.returns
 unfolding good_lines
@@ -34,5 +34,5 @@ returns c =
     let l = c.loop-k in
     let e : l.k ≡ 64 = omega arith in
     l.invariant
-    ∙ ap (λ (k : ℕ). (leb c.min-n.result a.count && leb a.count 64) && all (fine_at a.assets.now c.min-n.result a.lines) k) e
-    ∙ ap (λ (m : ℕ). (leb m a.count && leb a.count 64) && all (fine_at a.assets.now m a.lines) 64) c.min-n.ensures
+    ∙ ap (λ (k : ℕ). (leb c.min-n.result a.report.lent && leb a.report.lent 64) && all (fine_at a.assets.now c.min-n.result a.report.lines) k) e
+    ∙ ap (λ (m : ℕ). (leb m a.report.lent && leb a.report.lent 64) && all (fine_at a.assets.now m a.report.lines) 64) c.min-n.ensures

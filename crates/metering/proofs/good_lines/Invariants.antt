@@ -8,4 +8,4 @@ use Rattle.metering.proofs.good_lines.Given as goal
 
 abbrev pub invariant-loop-k : goal.invariant-loop-k
 invariant-loop-k l =
-    l.good ≡ ((leb l.n l.count && leb l.count 64) && all (fine_at l.assets l.n l.lines) l.k)
+    l.good ≡ ((leb l.n l.report.lent && leb l.report.lent 64) && all (fine_at l.assets l.n l.report.lines) l.k)

@@ -29,4 +29,4 @@ unfolding reported_on
 returns-in-Ok c =
     let a = c.args in
     rw (sym c.good_list.ensures ∙ c.if-not-good_list.false, c.in-Ok.ensures)
-    (event-on a.b _ a.lines _ _ c.step-o.ensures c.lines_after.ensures)
+    (event-on a.b _ a.report.lines _ _ c.step-o.ensures c.lines_after.ensures)
