@@ -20,6 +20,13 @@ fn read_head<F: Read>(file: &mut F) -> Option<usize> {
     Some(u32::from_be_bytes(h) as usize)
 }
 
+// The same with 0 for each byte that is missing.
+fn read_count<F: Read>(file: &mut F) -> usize {
+    let mut h = [0u8; 4];
+    let _ = file.read_exact(&mut h);
+    u32::from_be_bytes(h) as usize
+}
+
 // The number in the next eight bytes of the file.
 fn read_number<F: Read>(file: &mut F) -> u64 {
     let mut h = [0u8; 8];
@@ -88,10 +95,10 @@ fn answer(
 
 // The next list of the file, or the one before.
 fn read_list<F: Read>(file: &mut F, before: Report) -> Report {
-    if read_head(file).unwrap_or(0) == 0 {
+    if read_count(file) == 0 {
         return before;
     }
-    let count = read_head(file).unwrap_or(0);
+    let count = read_count(file);
     Report {
         lines: read_lines(file, count),
         lent: count,
@@ -100,7 +107,7 @@ fn read_list<F: Read>(file: &mut F, before: Report) -> Report {
 
 // The lines after a record, if it changes them.
 fn read_after<F: Read>(file: &mut F, list: Report) -> [Line; 64] {
-    if read_head(file).unwrap_or(0) == 0 {
+    if read_count(file) == 0 {
         return list.lines;
     }
     read_lines(file, list.lent)
