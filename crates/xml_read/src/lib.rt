@@ -77,22 +77,26 @@ fn entering(s: &[u8], t: Tag, role: Role, st: State) -> Result<State, TextError>
     opening(s, t, u8::from(role), st)
 }
 
-// An opening tag.
-fn opening_tag(s: &[u8], t: Tag, role: Role, st: State) -> Result<State, TextError>
-    ensures { as_done result ≡ opening_tag s.now (as_tag t) (role_code role) st }
+// An opening tag. This and the next two are lent the state and not inlined: what they hold of it is off the stack again before the next
+// level of elements.
+#[inline(never)]
+fn opening_tag(s: &[u8], t: Tag, role: Role, st: &State) -> Result<State, TextError>
+    ensures { as_done result ≡ opening_tag s.now (as_tag t) (role_code role) st.now }
 {
-    counted(entering(s, t, role, st)?)
+    counted(entering(s, t, role, *st)?)
 }
 
 // An empty-element tag: also the element's last tag, with no text in front of it.
-fn empty_tag(s: &[u8], t: Tag, role: Role, st: State) -> Result<State, TextError>
-    ensures { as_done result ≡ empty_tag s.now (as_tag t) (role_code role) st }
+#[inline(never)]
+fn empty_tag(s: &[u8], t: Tag, role: Role, st: &State) -> Result<State, TextError>
+    ensures { as_done result ≡ empty_tag s.now (as_tag t) (role_code role) st.now }
 {
-    let begun = entering(s, t, role, st)?;
+    let begun = entering(s, t, role, *st)?;
     counted(closing(s, t.next, t.next, u8::from(role), 0, begun)?)
 }
 
 // An end tag, in the element whose name stands from `name` to `end`.
+#[inline(never)]
 #[tactic(auto, unfolding(xml_model::specs::Text::ended))]
 fn end_tag(
     s: &[u8],
@@ -101,14 +105,14 @@ fn end_tag(
     end: usize,
     role: Role,
     state: u8,
-    st: State,
+    st: &State,
 ) -> Result<State, TextError>
-    ensures { as_done result ≡ ended s.now (as_tag t) (frame name end (role_code role) state) st }
+    ensures { as_done result ≡ ended s.now (as_tag t) (frame name end (role_code role) state) st.now }
 {
     if !same_range(s, t.name, t.end, name, end) {
         return Err(TextError::Malformed);
     }
-    closing(s, t.from, t.at, u8::from(role), state, st)
+    closing(s, t.from, t.at, u8::from(role), state, *st)
 }
 
 // The element reader: the element whose first tag is t, with `left` levels for it and what it holds.
@@ -124,9 +128,9 @@ fn element(s: &[u8], t: Tag, role: Role, left: u8, st: State) -> Result<Progress
         });
     }
     if t.form != Form::Open {
-        return reached(t.next, empty_tag(s, t, role, st));
+        return reached(t.next, empty_tag(s, t, role, &st));
     }
-    let inside = reached(t.next, opening_tag(s, t, role, st))?;
+    let inside = reached(t.next, opening_tag(s, t, role, &st))?;
     contents(s, inside, t.name, t.end, role, left - 1)
 }
 
@@ -147,7 +151,7 @@ fn contents(
     loop {
         let t = unit_at(s, here.at)?;
         if t.form == Form::End {
-            return reached(t.next, end_tag(s, t, name, end, role, state, here.state));
+            return reached(t.next, end_tag(s, t, name, end, role, state, &here.state));
         }
         let Some(child) = child_at(s, t, role, state) else {
             return Err(Fault {
