@@ -75,7 +75,8 @@ found_none ats count number n e none =
 unfoldable pub parent_in : Catalog → ℕ → ℕ
 parent_in c inherit = cond (holds c inherit && is_parent (asset_named c inherit)) inherit 0
 
-either-zero : (w : Bool) (v : ℕ) → v ≡ 0 → 0 ≡ cond w v 0
+-- no inherit, whatever stands before it
+pub either-zero : (w : Bool) (v : ℕ) → v ≡ 0 → 0 ≡ cond w v 0
 either-zero true v h = sym h
 either-zero false v h = refl
 

@@ -28,10 +28,13 @@ fn asset_named(assets: &[Asset], number: u16) -> Option<Asset>
     assets.iter().copied().find(|a| a.number == number)
 }
 
-// An inherit if it names a parent, otherwise 0.
+// An inherit if it names a parent, otherwise 0. Without an inherit no asset is looked for: this is asked for each asset of a block's book.
 fn parent_in(assets: &[Asset], inherit: u16) -> u16
     ensures { result ≡ parent_in (catalog_from assets.now) inherit }
 {
+    if inherit == 0 {
+        return 0;
+    }
     match asset_named(assets, inherit) {
         Some(p) => pick((p.key == 0) & (p.inherit == 0), inherit, 0),
         None => 0,
@@ -196,13 +199,17 @@ pub fn consider_row(
             ..best
         };
     }
-    let held = best.granted.map_or(LAST_RANK, |c| c.rank);
     let rank = Rank {
         flags: row.flags,
         last: row.window,
         inherited: one(!(row.asset == asset)),
     };
-    if !ranks_before(rank, held) {
+    // A test for each case: one rank picked from the two costs every turn more.
+    let better = match best.granted {
+        Some(held) => ranks_before(rank, held.rank),
+        None => ranks_before(rank, LAST_RANK),
+    };
+    if !better {
         return Best {
             suits: true,
             ..best

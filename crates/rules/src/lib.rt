@@ -320,10 +320,12 @@ pub fn last_moment(l: Limits, m: Meters) -> u64
 }
 
 // Rules out: own after inherited, a later last moment first, fields compared in another order.
+#[tactic(auto, unfolding(model::specs::Choice::ranks_before))]
 pub fn ranks_before(a: Rank, b: Rank) -> bool
     ensures { result ≡ ranks_before a b }
 {
-    (a.flags, a.last, a.inherited) < (b.flags, b.last, b.inherited)
+    a.flags < b.flags
+        || a.flags == b.flags && (a.last < b.last || a.last == b.last && a.inherited < b.inherited)
 }
 
 // Rules out: a cap applied without its flag, the larger of the two.

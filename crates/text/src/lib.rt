@@ -45,16 +45,11 @@ fn put_ten(out: &mut [u8], at: usize, n: u32)
     put_two(out, at + 8, low % 100);
 }
 
-// Puts the digits of n into out at offset `at`, and returns the end offset.
-// If they are neither ten nor at most three, they are counted, then put from last to first.
-fn put_number(out: &mut [u8], at: usize, n: u32) -> usize
-    requires { at + length (decimal n) ≤ length out.old }
+// Puts the one to three digits of a small number, such as a code or an entry, and returns the end offset.
+fn put_short(out: &mut [u8], at: usize, n: u32) -> usize
+    requires { (at + length (decimal n) ≤ length out.old) × (n < 1000) }
     ensures { (result ≡ at + length (decimal n)) × (out.new ≡ lay out.old at (decimal n)) }
 {
-    if 1000000000 <= n {
-        put_ten(out, at, n);
-        return at + 10;
-    }
     if n < 10 {
         out[at] = (48 + n) as u8;
         return at + 1;
@@ -63,10 +58,22 @@ fn put_number(out: &mut [u8], at: usize, n: u32) -> usize
         put_two(out, at, n);
         return at + 2;
     }
+    out[at] = (48 + n / 100) as u8;
+    put_two(out, at + 1, n % 100);
+    at + 3
+}
+
+// The same for any number. If its digits are neither ten nor at most three, they are counted, then put from last to first.
+fn put_number(out: &mut [u8], at: usize, n: u32) -> usize
+    requires { at + length (decimal n) ≤ length out.old }
+    ensures { (result ≡ at + length (decimal n)) × (out.new ≡ lay out.old at (decimal n)) }
+{
+    if 1000000000 <= n {
+        put_ten(out, at, n);
+        return at + 10;
+    }
     if n < 1000 {
-        out[at] = (48 + n / 100) as u8;
-        put_two(out, at + 1, n % 100);
-        return at + 3;
+        return put_short(out, at, n);
     }
     let count = places(n);
     let mut rest = n;
@@ -96,13 +103,13 @@ pub fn put_line(out: &mut [u8], at: usize, a: Answer) -> usize
     if out.len() - 19 < at {
         return at;
     }
-    let first = put_number(out, at, a.code as u32);
+    let first = put_short(out, at, a.code as u32);
     if (a.entry == 255) & (a.until == 0) {
         put_refused(out, first);
         return first + 7;
     }
     out[first] = 32;
-    let second = put_number(out, first + 1, a.entry as u32);
+    let second = put_short(out, first + 1, a.entry as u32);
     out[second] = 32;
     let third = put_number(out, second + 1, a.until);
     out[third] = 10;

@@ -8,24 +8,24 @@ use Rattle.text.specs.Lines.{line_end, line_buffer}
 use Rattle.text.specs.Digits.{byte-places, number-places, line-most, refused-line, line-laid}
 use borrow.Author.Rules.{rules}
 use Rattle.text.proofs.put_line.Goals as goal
-use Rattle.text.proofs.put_line.Goals.{After-put_number-first, After-put_number-second, After-put_number-third}
+use Rattle.text.proofs.put_line.Goals.{After-put_short-first, After-put_short-second, After-put_number-third}
 
 -- each number leaves the buffer's length unchanged, and room for the rest of the line
-first : (c : After-put_number-first) → (c.put_number-first.result + 16 ≤ length c.args.out.now) ×
-    (length c.put_number-first.new.out ≡ length c.args.out.now)
+first : (c : After-put_short-first) → (c.put_short-first.result + 16 ≤ length c.args.out.now) ×
+    (length c.put_short-first.new.out ≡ length c.args.out.now)
 first c =
     let a = c.args in
     let k : a.a.code < 256 = search rules in
     (omega (arith, byte-places a.a.code k), search rules)
 
-second : (c : After-put_number-second) → (c.put_number-second.result + 12 ≤ length
+second : (c : After-put_short-second) → (c.put_short-second.result + 12 ≤ length
     c.args.out.now) ×
-    (length c.put_number-second.new.out ≡ length c.args.out.now)
+    (length c.put_short-second.new.out ≡ length c.args.out.now)
 second c =
     let a = c.args in
     let k : a.a.entry < 256 = search rules in
     let f = first c.before.before.before.before.before.before.before.before in
-    let o = c.put_number-first in
+    let o = c.put_short-first in
     (omega (arith, byte-places a.a.entry k), omega (arith, length-set o.new.out o.result 32))
 
 third : (c : After-put_number-third) → (c.put_number-third.result + 1 ≤ length
@@ -33,7 +33,7 @@ third : (c : After-put_number-third) → (c.put_number-third.result + 1 ≤ leng
     c.args.out.now)
 third c =
     let f = second c.before.before.before.before in
-    let o = c.put_number-second in (
+    let o = c.put_short-second in (
       omega (
         arith,
         number-places c.args.a.until,
@@ -55,11 +55,11 @@ returns-then-out-at c =
     let h : length a.out.now < a.at + 19 = omega arith in
     rw (lt-leb (a.at + 19) (length a.out.now) h) (refl, refl, omega arith)
 
-pub put_number-first-requires : goal.put_number-first-requires
-put_number-first-requires c =
+pub put_short-first-requires : goal.put_short-first-requires
+put_short-first-requires c =
     let a = c.args in
     let k : a.a.code < 256 = search rules in
-    omega (arith, byte-places a.a.code k)
+    (omega (arith, byte-places a.a.code k), omega arith)
 
 pub put_refused-requires : goal.put_refused-requires
 put_refused-requires c = omega (arith, first c.before.before.before.before.before.before)
@@ -71,7 +71,7 @@ pub returns-then-a : goal.returns-then-a
 unfolding line_end line_buffer
 returns-then-a c =
     let a = c.args in
-    let o₁ = c.put_number-first in
+    let o₁ = c.put_short-first in
     let o₂ = c.put_refused in
     let h : a.at + 19 ≤ length a.out.now = omega arith in
     let k : a.a.code < 256 = search rules in
@@ -85,17 +85,18 @@ bounds-out-first c = omega (arith, first c.before.before.before.before.before)
 pub overflow_add-first : goal.overflow_add-first
 overflow_add-first c = omega (arith, first c.before.before.before.before.before.before)
 
-pub put_number-second-requires : goal.put_number-second-requires
-put_number-second-requires c =
+pub put_short-second-requires : goal.put_short-second-requires
+put_short-second-requires c =
     let a = c.args in
-    let o = c.put_number-first in
-    let k : a.a.entry < 256 = search rules in
-    omega (
-      arith,
-      first c.before.before.before.before.before.before.before,
-      byte-places a.a.entry k,
-      length-set o.new.out
-          o.result 32,
+    let o = c.put_short-first in
+    let k : a.a.entry < 256 = search rules in (
+      omega (
+        arith,
+        first c.before.before.before.before.before.before.before,
+        byte-places a.a.entry k,
+        length-set o.new.out o.result 32,
+      ),
+      omega arith,
     )
 
 pub bounds-out-second : goal.bounds-out-second
@@ -107,7 +108,7 @@ overflow_add-second c = omega (arith, second c.before.before.before)
 pub put_number-third-requires : goal.put_number-third-requires
 put_number-third-requires c =
     let a = c.args in
-    let o = c.put_number-second in
+    let o = c.put_short-second in
     omega (arith, second c.before.before.before, number-places a.a.until, length-set o.new.out o.result 32)
 
 pub bounds-out-third : goal.bounds-out-third
@@ -120,8 +121,8 @@ pub returns : goal.returns
 unfolding line_end line_buffer
 returns c =
     let a = c.args in
-    let o₁ = c.put_number-first in
-    let o₂ = c.put_number-second in
+    let o₁ = c.put_short-first in
+    let o₂ = c.put_short-second in
     let o₃ = c.put_number-third in
     let h : a.at + 19 ≤ length a.out.now = omega arith in
     let k : a.a.code < 256 = search rules in
