@@ -4,7 +4,6 @@
 #![tactic(auto)]
 
 ghost use Rattle.std.specs.Prelude.{◌≡◌, ◌≤◌};
-ghost use Rattle.book.specs.Codes.{event_code};
 ghost use Rattle.model.specs.Book.{latest_time};
 ghost use Rattle.model.specs.Meters.{expired, shut, begun, continued, ended, cancelled};
 ghost use Rattle.model.specs.Step.{starts_interval};
@@ -14,7 +13,7 @@ ghost use Rattle.uses.specs.Room.{Room, MoreRoom};
 ghost use Rattle.uses.specs.Due.{any_due};
 
 use book::{
-    Answer, Ask, EventError, LATEST_TIME, Limits, Meters, Open, Player, Recent, closed_use, refused,
+    Answer, Ask, EventError, LATEST_TIME, Limits, Meters, Open, Player, Recent, closed_use, refusal,
 };
 use numbers::{one, pick, with_bit};
 use rules::{flags_of, grantable, least_until, momentary, when};
@@ -31,11 +30,11 @@ pub struct Effect {
 
 // A refusal that leaves meters and use as they are.
 // Rules out: an entry other than 255, meters or a use changed.
-pub fn kept(error: EventError, m: Meters, o: Open) -> Effect
-    ensures { result ≡ kept (event_code error) m o }
+pub fn kept(code: u8, m: Meters, o: Open) -> Effect
+    ensures { result ≡ kept code m o }
 {
     Effect {
-        answer: refused(error),
+        answer: refusal(code),
         meters: m,
         current: o,
         started: false,
@@ -150,10 +149,10 @@ pub fn begin_on(l: Limits, m: Meters, o: Open, i: u8, asset: u16, ask: Ask) -> E
 {
     let t = ask.time;
     if !grantable(l, m, ask) {
-        return kept(EventError::Spent, m, o);
+        return kept(u8::from(EventError::Spent), m, o);
     }
     if LATEST_TIME < t {
-        return kept(EventError::Spent, m, o);
+        return kept(u8::from(EventError::Spent), m, o);
     }
     let until = grant_until(l, m, t);
     let begun = begun_meters(l, m, ask.player, t, until);
@@ -182,14 +181,14 @@ pub fn continue_on(l: Limits, m: Meters, o: Open, t: u32) -> Effect
     ensures { result ≡ continue_on t l m o }
 {
     if !(o.on == 1) {
-        return kept(EventError::NotOpen, m, o);
+        return kept(u8::from(EventError::NotOpen), m, o);
     }
     if LATEST_TIME < t {
-        return kept(EventError::NoMore, m, o);
+        return kept(u8::from(EventError::NoMore), m, o);
     }
     let until = more_until(l, m, o.until, t);
     if until <= o.until {
-        return kept(EventError::NoMore, m, o);
+        return kept(u8::from(EventError::NoMore), m, o);
     }
     let meters = continued_meters(l, m, o.until, until);
     Effect {
@@ -216,7 +215,7 @@ pub fn stop_on(l: Limits, m: Meters, o: Open, player: u8, t: u32) -> Effect
     ensures { result ≡ stop_on player t l m o }
 {
     if !(o.on == 1) {
-        return kept(EventError::NotOpen, m, o);
+        return kept(u8::from(EventError::NotOpen), m, o);
     }
     let meters = ended_meters(l, m, player, o.begin, o.until, t);
     Effect {
@@ -237,10 +236,10 @@ pub fn cancel_on(l: Limits, m: Meters, o: Open, player: u8, recent: Recent) -> E
     ensures { result ≡ cancel_on player recent l m o }
 {
     if !(o.on == 1) {
-        return kept(EventError::NotOpen, m, o);
+        return kept(u8::from(EventError::NotOpen), m, o);
     }
     if !recent.begun {
-        return kept(EventError::TooLate, m, o);
+        return kept(u8::from(EventError::TooLate), m, o);
     }
     let meters = cancelled_meters(l, m, player, recent, o.begin, o.until);
     Effect {
