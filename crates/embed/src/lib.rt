@@ -368,12 +368,16 @@ pub fn rights_player(image: &[u8], player: u32, out: &mut [u32]) -> u8
     }))
 }
 
-// The entry at a position as an event at that time finds it: uses that are over by then have ended.
+// The entry at a position as an event at that time finds it: uses that are over by then have ended. No use is settled for a position
+// that the book has not.
 #[tactic(auto, unfolding(model::specs::Book::entries_in, step::specs::Settle::settled_book))]
 fn entry_then(b: Book, position: u32, when: u32) -> Option<Entry>
     ensures { result ≡ found (ltb position (entries_in b))
         (get_or (settled when b.players b.entries) position no_entry) }
 {
+    if at_most_64(b.entrycount) <= position as usize {
+        return None;
+    }
     entry_in(step::settle(b, when), position)
 }
 
