@@ -43,6 +43,23 @@ refusal-code : (c p : ℕ) → (refusal c p).code ≡ c
 unfolding refusal
 refusal-code c p = refl
 
+-- a second step, behind one that was no fault and one that was
+pub reached-then : (p : ℕ) (d : Done) (f : State → Done) (at : ℕ) (st : State)
+    → record { code = 0; at = at; state = st } ≡ reached p d → reached p (f st) ≡ reached p (and_then d f)
+unfolding and_then
+reached-then p d f at st e =
+    let w : d.code ≡ 0 = sym (reached-code p d) ∙ sym (ap (λ (x : Progress). x.code) e) in
+    let b : st ≡ d.state = ap (λ (x : Progress). x.state) (e ∙ reached-good p d w) in
+    rw (eq-eqb _ _ w, b)
+
+pub reached-refused : (p : ℕ) (d : Done) (f : State → Done) (c at : ℕ) → (c ≡ 0 → ⊥)
+    → refusal c at ≡ reached p d → refusal c at ≡ reached p (and_then d f)
+unfolding and_then
+reached-refused p d f c at n e =
+    let w : d.code ≡ c = sym (reached-code p d) ∙ sym (ap (λ (x : Progress). x.code) e) ∙ refusal-code c at in
+    let m : d.code ≡ 0 → ⊥ = λ q. n (sym w ∙ q) in
+    e ∙ rw (ne_eqb _ _ m)
+
 -- ## Refusals
 
 after-refusal : (s : List ℕ) (k : List Frame) (c p : ℕ) → (c ≡ 0 → ⊥) → after s k (refusal c p) ≡ refusal c p

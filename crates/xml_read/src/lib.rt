@@ -2,14 +2,14 @@
 // falls with every level.
 #![tactic(auto)]
 
-ghost use Rattle.std.specs.Prelude.{◌≡◌, ◌≤◌, false, length, Ok, MatchOption};
+ghost use Rattle.std.specs.Prelude.{◌≡◌, ◌≤◌, false, length, Ok, MatchOption, OnErr};
 ghost use Rattle.xml_model.specs.Codes.{as_tag};
-ghost use Rattle.xml_model.specs.State.{as_done};
+ghost use Rattle.xml_model.specs.State.{as_done, closing, counted};
 ghost use Rattle.xml_model.specs.Tags.{unit_at};
 ghost use Rattle.xml_model.specs.Text.{frame, ended, finish, root, progress_of, reading_of};
 ghost use Rattle.xml_table.specs.Codes.{role_code};
 ghost use Rattle.xml_read.specs.Nesting.{child_at, entering, opening_tag, empty_tag, reached, Element, Contents};
-ghost use Rattle.xml_read.specs.Results.{accepts, as_progress, as_reading};
+ghost use Rattle.xml_read.specs.Results.{accepts, as_place, as_progress, as_reading};
 
 use book::Book;
 use xml_model::{Fault, Form, State, Tag, TextError};
@@ -35,13 +35,17 @@ pub struct Reading {
     pub book: Book,
 }
 
-// What a step gives at a tag that ends at `at`.
+// What a step gives at a tag that ends at `at`. The state is put where it is lent, and a fault leaves that as it was.
 #[tactic(auto, unfolding(crate::specs::Nesting::reached, xml_model::specs::State::ok, xml_model::specs::State::no))]
-fn reached(at: usize, done: Result<State, TextError>) -> Result<Progress, Fault>
-    ensures { as_progress result ≡ reached at (as_done done) }
+fn reached(at: usize, done: Result<State, TextError>, st: &mut State) -> Result<usize, Fault>
+    ensures value { as_place result st.new ≡ reached at (as_done done) }
+    ensures kept { OnErr result (st.new ≡ st.old) }
 {
     match done {
-        Ok(state) => Ok(Progress { at, state }),
+        Ok(state) => {
+            *st = state;
+            Ok(at)
+        }
         Err(error) => Err(Fault { error, at }),
     }
 }
@@ -77,27 +81,57 @@ fn entering(s: &[u8], t: Tag, role: Role, st: State) -> Result<State, TextError>
     opening(s, t, u8::from(role), st)
 }
 
-// An opening tag. This and the next two are lent the state and not inlined: what they hold of it is off the stack again before the next
-// level of elements.
+// The first tag of an element, but for its count. This and the next one are not inlined: what they hold of the state is off the stack
+// again before the next level of elements.
 #[inline(never)]
-fn opening_tag(s: &[u8], t: Tag, role: Role, st: &State) -> Result<State, TextError>
-    ensures { as_done result ≡ opening_tag s.now (as_tag t) (role_code role) st.now }
+fn enter(s: &[u8], t: Tag, role: Role, st: &mut State) -> Result<usize, Fault>
+    ensures { as_place result st.new ≡ reached t.next (entering s.now (as_tag t) (role_code role) st.old) }
 {
-    counted(entering(s, t, role, *st)?)
+    reached(t.next, entering(s, t, role, *st), st)
+}
+
+// The last tag of an element, which ends at `at`, with the text from a to b in front of it.
+#[inline(never)]
+fn close(
+    s: &[u8],
+    a: usize,
+    b: usize,
+    at: usize,
+    role: Role,
+    state: u8,
+    st: &mut State,
+) -> Result<usize, Fault>
+    ensures { as_place result st.new ≡ reached at (closing s.now a b (role_code role) state st.old) }
+{
+    reached(at, closing(s, a, b, u8::from(role), state, *st), st)
+}
+
+// One element more, at a tag that ends at `at`.
+fn count(at: usize, st: &mut State) -> Result<usize, Fault>
+    ensures { as_place result st.new ≡ reached at (counted st.old) }
+{
+    reached(at, counted(*st), st)
+}
+
+// An opening tag.
+fn opening_tag(s: &[u8], t: Tag, role: Role, st: &mut State) -> Result<usize, Fault>
+    ensures { as_place result st.new ≡ reached t.next (opening_tag s.now (as_tag t) (role_code role) st.old) }
+{
+    enter(s, t, role, st)?;
+    count(t.next, st)
 }
 
 // An empty-element tag: also the element's last tag, with no text in front of it.
-#[inline(never)]
-fn empty_tag(s: &[u8], t: Tag, role: Role, st: &State) -> Result<State, TextError>
-    ensures { as_done result ≡ empty_tag s.now (as_tag t) (role_code role) st.now }
+fn empty_tag(s: &[u8], t: Tag, role: Role, st: &mut State) -> Result<usize, Fault>
+    ensures { as_place result st.new ≡ reached t.next (empty_tag s.now (as_tag t) (role_code role) st.old) }
 {
-    let begun = entering(s, t, role, *st)?;
-    counted(closing(s, t.next, t.next, u8::from(role), 0, begun)?)
+    enter(s, t, role, st)?;
+    close(s, t.next, t.next, t.next, role, 0, st)?;
+    count(t.next, st)
 }
 
 // An end tag, in the element whose name stands from `name` to `end`.
-#[inline(never)]
-#[tactic(auto, unfolding(xml_model::specs::Text::ended))]
+#[tactic(auto, unfolding(xml_model::specs::Text::ended, crate::specs::Nesting::reached, xml_model::specs::State::no))]
 fn end_tag(
     s: &[u8],
     t: Tag,
@@ -105,21 +139,25 @@ fn end_tag(
     end: usize,
     role: Role,
     state: u8,
-    st: &State,
-) -> Result<State, TextError>
-    ensures { as_done result ≡ ended s.now (as_tag t) (frame name end (role_code role) state) st.now }
+    st: &mut State,
+) -> Result<usize, Fault>
+    ensures { as_place result st.new ≡ reached t.next (ended s.now (as_tag t) (frame name end (role_code role) state) st.old) }
 {
     if !same_range(s, t.name, t.end, name, end) {
-        return Err(TextError::Malformed);
+        return Err(Fault {
+            error: TextError::Malformed,
+            at: t.next,
+        });
     }
-    closing(s, t.from, t.at, u8::from(role), state, *st)
+    close(s, t.from, t.at, t.next, role, state, st)
 }
 
-// The element reader: the element whose first tag is t, with `left` levels for it and what it holds.
+// The element reader: the element whose first tag is t, with `left` levels for it and what it holds. The state is lent through all
+// levels: it is large.
 #[cycle(contents_element)]
-fn element(s: &[u8], t: Tag, role: Role, left: u8, st: State) -> Result<Progress, Fault>
+fn element(s: &[u8], t: Tag, role: Role, left: u8, st: &mut State) -> Result<usize, Fault>
     requires { t.next ≤ length s.now }
-    ensures { Element s.now (as_tag t) (role_code role) left st (as_progress result) }
+    ensures { Element s.now (as_tag t) (role_code role) left st.old (as_place result st.new) }
 {
     if left == 0 {
         return Err(Fault {
@@ -128,30 +166,31 @@ fn element(s: &[u8], t: Tag, role: Role, left: u8, st: State) -> Result<Progress
         });
     }
     if t.form != Form::Open {
-        return reached(t.next, empty_tag(s, t, role, &st));
+        return empty_tag(s, t, role, st);
     }
-    let inside = reached(t.next, opening_tag(s, t, role, &st))?;
-    contents(s, inside, t.name, t.end, role, left - 1)
+    let inside = opening_tag(s, t, role, st)?;
+    contents(s, inside, t.name, t.end, role, left - 1, st)
 }
 
-// The contents reader: what stands behind `here` in the element whose name stands from `name` to `end`, with its end tag. One value
-// holds the state from child to child: it is large, and the levels keep their copies of it on the stack.
+// The contents reader: what stands from `at` on in the element whose name stands from `name` to `end`, with its end tag.
 #[cycle(contents_element)]
 fn contents(
     s: &[u8],
-    mut here: Progress,
+    at: usize,
     name: usize,
     end: usize,
     role: Role,
     left: u8,
-) -> Result<Progress, Fault>
-    ensures { Contents s.now here.at name end (role_code role) left here.state (as_progress result) }
+    st: &mut State,
+) -> Result<usize, Fault>
+    ensures { Contents s.now at name end (role_code role) left st.old (as_place result st.new) }
 {
+    let mut here = at;
     let mut state: u8 = 0;
     loop {
-        let t = unit_at(s, here.at)?;
+        let t = unit_at(s, here)?;
         if t.form == Form::End {
-            return reached(t.next, end_tag(s, t, name, end, role, state, &here.state));
+            return end_tag(s, t, name, end, role, state, st);
         }
         let Some(child) = child_at(s, t, role, state) else {
             return Err(Fault {
@@ -159,7 +198,7 @@ fn contents(
                 at: t.next,
             });
         };
-        here = element(s, t, child.role, left, here.state)?;
+        here = element(s, t, child.role, left, st)?;
         state = child.state;
     }
 }
@@ -191,8 +230,9 @@ fn root_at(s: &[u8], i: usize) -> Result<Progress, Fault>
             at: t.next,
         });
     }
-    let here = element(s, t, Role::Rights, MOST_DEEP, blank_state())?;
-    finished(s, here)
+    let mut state = blank_state();
+    let at = element(s, t, Role::Rights, MOST_DEEP, &mut state)?;
+    finished(s, Progress { at, state })
 }
 
 // The whole text, with the state that it leads to.

@@ -1,4 +1,4 @@
-use mathlib.Core.Path.{◌≡◌, refl, sym, ◌∙◌}
+use mathlib.Core.Path.{refl, sym, ◌∙◌}
 use native.Mathlib.Omega.{arith}
 use Rattle.std.proofs.lemmas.Result.{err_from_is_err_and}
 use Rattle.xml_model.proofs.Steps.{refuses}
@@ -12,17 +12,17 @@ pub element-returns-then-left-eq0 : goal.element-returns-then-left-eq0
 element-returns-then-left-eq0 t c = el-deep c.if-left-eq0.true
 
 pub element-returns-then-ne : goal.element-returns-then-ne
-element-returns-then-ne t c = rw (c.reached.ensures, c.empty_tag.ensures)
+element-returns-then-ne t c = rw c.empty_tag.ensures
     (el-empty c.if-left-eq0.false c.requires (not_open c.args.t.form (sym c.ne.ensures ∙ c.if-ne.true)))
 
 pub element-returns-in_err-inside : goal.element-returns-in_err-inside
 element-returns-in_err-inside t c =
     let p = err_from_is_err_and c.from_residual.result c.from_residual.ensures.1 in
-    rw (p.1, p.2) (el-refused c.if-left-eq0.false (is_open c.args.t.form (sym c.ne.ensures ∙ c.if-ne.false)) c.opening_tag.ensures _ _
+    rw (p.1, p.2) (el-refused c.if-left-eq0.false (is_open c.args.t.form (sym c.ne.ensures ∙ c.if-ne.false)) refl _ _
     (refuses _) c.in_err-inside.ensures)
 
 pub element-returns : goal.element-returns
-element-returns t c = el-inside c.if-left-eq0.false (is_open c.args.t.form (sym c.ne.ensures ∙ c.if-ne.false)) c.opening_tag.ensures _ _
+element-returns t c = el-inside c.if-left-eq0.false (is_open c.args.t.form (sym c.ne.ensures ∙ c.if-ne.false)) refl _ _
     c.in_ok-inside.ensures c.contents.ensures
 
 pub contents-returns-in_err-t : goal.contents-returns-in_err-t
@@ -32,7 +32,7 @@ contents-returns-in_err-t t c =
     rw (p.1, p.2, w.0, w.1) (co-stuck c.loop-t.invariant refl (fault-code _ _ _ w))
 
 pub contents-returns-then-eq : goal.contents-returns-then-eq
-contents-returns-then-eq t c = rw (c.reached.ensures, c.end_tag.ensures)
+contents-returns-then-eq t c = rw c.end_tag.ensures
     (co-ended c.loop-t.invariant c.in_ok-t.ensures refl (is_end c.in_ok-t.t.form (sym c.eq.ensures ∙ c.if-eq.true)))
 
 pub contents-child_at-requires : goal.contents-child_at-requires

@@ -15,7 +15,7 @@ decreases-element l = l.left + l.left
 
 abbrev pub invariant-contents-loop-t : goal.invariant-contents-loop-t
 invariant-contents-loop-t l =
-    Turn l.s l.initial.here.at l.name l.end (role_code l.role) l.left l.initial.here.state l.here.at l.state l.here.state
+    Turn l.s l.at l.name l.end (role_code l.role) l.left l.initial.st l.here l.state l.st
 
 abbrev pub decreases-contents-loop-t : goal.decreases-contents-loop-t
-decreases-contents-loop-t l = length l.s - l.here.at
+decreases-contents-loop-t l = length l.s - l.here

@@ -33,15 +33,15 @@ slice_bounds-name_of-end c = let w = lies_at _ _ c.in_ok-t.ensures refl in omega
 pub element-requires : goal.element-requires
 element-requires c = (lies_at _ _ c.in_ok-t.ensures refl).next
 
-pub returns-in_err-here : goal.returns-in_err-here
+pub returns-in_err-at : goal.returns-in_err-at
 unfolding root
-returns-in_err-here c =
-    let p = err_from_is_err_and c.from_residual-in_err-here.result c.from_residual-in_err-here.ensures.1 in
-    rw (p.1, p.2, ← c.in_ok-t.ensures, ← c.name_of.ensures, is_rights c.name_of.result (sym c.ne.ensures ∙ c.if-ne.false), ← c.blank_state.ensures)
-    (refused-ends c.args.s.now _ _ (refuses _) ∙ ap (finish c.args.s.now) (el-root c.in_err-here.ensures))
+returns-in_err-at c =
+    let p = err_from_is_err_and c.from_residual-in_err-at.result c.from_residual-in_err-at.ensures.1 in
+    rw (p.1, p.2, ← c.in_ok-t.ensures, ← c.name_of.ensures, is_rights c.name_of.result (sym c.ne.ensures ∙ c.if-ne.false), ← c.blank_state-state.ensures)
+    (refused-ends c.args.s.now _ _ (refuses _) ∙ ap (finish c.args.s.now) (el-root c.in_err-at.ensures))
 
 pub returns : goal.returns
 unfolding root
 returns c =
-    rw (← c.in_ok-t.ensures, ← c.name_of.ensures, is_rights c.name_of.result (sym c.ne.ensures ∙ c.if-ne.false), ← c.blank_state.ensures)
-    (c.finished.ensures ∙ ap (finish c.args.s.now) (el-root c.in_ok-here.ensures))
+    rw (← c.in_ok-t.ensures, ← c.name_of.ensures, is_rights c.name_of.result (sym c.ne.ensures ∙ c.if-ne.false), ← c.blank_state-state.ensures)
+    (c.finished.ensures ∙ ap (finish c.args.s.now) (el-root c.in_ok-at.ensures))
