@@ -6,3 +6,4 @@ pub mod ListLaws
 pub mod BitLaws
 pub mod FieldLaws
 pub mod BufferLaws
+pub mod OneResult

@@ -16,3 +16,4 @@ pub mod DecidesTags
 pub mod DecidesState
 pub mod Decides
 pub mod Import
+pub mod OneNumber

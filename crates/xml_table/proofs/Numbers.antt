@@ -125,7 +125,7 @@ name-at Name.End = refl
 name-at Name.Interval = refl
 name-at Name.Accumulated = refl
 
-role-of : (x y : Role) → role_code x ≡ role_code y → x ≡ y
+pub role-of : (x y : Role) → role_code x ≡ role_code y → x ≡ y
 role-of x y e = sym (role-at x) ∙ ap (λ (n : ℕ). get_or roles (n - 1) Role.Rights) e ∙ role-at y
 
 name-like : (x y : Name) → name_code x ≡ name_code y → x ≡ y

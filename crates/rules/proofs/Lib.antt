@@ -1,0 +1,2 @@
+-- That the contracts which are relations allow one result.
+pub mod OneResult
