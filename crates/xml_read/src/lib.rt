@@ -81,8 +81,8 @@ fn entering(s: &[u8], t: Tag, role: Role, st: State) -> Result<State, TextError>
     opening(s, t, u8::from(role), st)
 }
 
-// The first tag of an element, but for its count. This and the next one are not inlined: what they hold of the state is off the stack
-// again before the next level of elements.
+// The same, on the state where it is lent. This and the next function are not inlined: the state is large, and their copies of it are
+// off the stack again before the next level of elements.
 #[inline(never)]
 fn enter(s: &[u8], t: Tag, role: Role, st: &mut State) -> Result<usize, Fault>
     ensures { as_place result st.new ≡ reached t.next (entering s.now (as_tag t) (role_code role) st.old) }
@@ -90,7 +90,7 @@ fn enter(s: &[u8], t: Tag, role: Role, st: &mut State) -> Result<usize, Fault>
     reached(t.next, entering(s, t, role, *st), st)
 }
 
-// The last tag of an element, which ends at `at`, with the text from a to b in front of it.
+// The last tag of an element, which ends at `at`, with the text from a to b in front of it; its children have led to that state.
 #[inline(never)]
 fn close(
     s: &[u8],
@@ -152,8 +152,7 @@ fn end_tag(
     close(s, t.from, t.at, t.next, role, state, st)
 }
 
-// The element reader: the element whose first tag is t, with `left` levels for it and what it holds. The state is lent through all
-// levels: it is large.
+// The element reader: the element whose first tag is t, with `left` levels for it and what it holds. All levels are lent one state.
 #[cycle(contents_element)]
 fn element(s: &[u8], t: Tag, role: Role, left: u8, st: &mut State) -> Result<usize, Fault>
     requires { t.next ≤ length s.now }
