@@ -11,5 +11,14 @@ class_code Class.Digits = digits
 class_code Class.Double = 34
 class_code Class.Single = 39
 
+-- the bit of a class in the code's table
+abbrev pub class_bit : Class → ℕ
+class_bit Class.Spaces = 1
+class_bit Class.Names = 2
+class_bit Class.Texts = 4
+class_bit Class.Digits = 8
+class_bit Class.Double = 16
+class_bit Class.Single = 32
+
 abbrev pub is_quote : ℕ → Bool
 is_quote c = eqb c 34 || eqb c 39

@@ -8,8 +8,11 @@ ghost use Rattle.xml_model.specs.Tags.{value_at, equals_at, attribute_at, given,
 ghost use Rattle.xml_model.specs.Tags.{unit_at};
 ghost use Rattle.xml_model.specs.Codes.{IsFault, IsAttribute, IsTail, IsTag, no_range};
 ghost use Rattle.xml_model.specs.State.{same_range};
-ghost use Rattle.xml_scan.specs.Classes.{class_code, is_quote};
+ghost use Rattle.xml_scan.specs.Classes.{class_code, class_bit, is_quote};
 
+mod class_table;
+
+use class_table::{CLASSES, NAME_START};
 use numbers::pick;
 use xml_model::{Attribute, Fault, Form, Range, Tag, Tail, TextError};
 
@@ -35,27 +38,31 @@ pub fn byte_at(s: &[u8], i: usize) -> u16
     if i < s.len() { s[i] as u16 } else { 256 }
 }
 
-#[tactic(auto, unfolding(xml_model::specs::Bytes::in_class))]
+// Its bit in the table.
+fn bit_of(class: Class) -> u8
+    ensures { result ≡ class_bit class }
+{
+    match class {
+        Class::Spaces => 1,
+        Class::Names => 2,
+        Class::Texts => 4,
+        Class::Digits => 8,
+        Class::Double => 16,
+        Class::Single => 32,
+    }
+}
+
 fn in_class(class: Class, c: u8) -> bool
     ensures { result ≡ in_class (class_code class) c }
 {
-    let space = (c == 32) | (c == 9) | (c == 10) | (c == 13);
-    let start = (65 <= c) & (c <= 90)
-        | (97 <= c) & (c <= 122)
-        | (c == 95)
-        | (c == 58)
-        | (128 <= c) & (c <= 255);
-    let digit = (48 <= c) & (c <= 57);
-    let name = start | digit | (c == 45) | (c == 46);
-    let text = ((32 <= c) | space) & (c <= 255) & !(c == 60) & !(c == 38);
-    match class {
-        Class::Spaces => space,
-        Class::Names => name,
-        Class::Texts => text,
-        Class::Digits => digit,
-        Class::Double => text & !(c == 34),
-        Class::Single => text & !(c == 39),
-    }
+    CLASSES[c as usize] & bit_of(class) != 0
+}
+
+// Whether a name can start with the byte.
+fn is_name_start(c: u8) -> bool
+    ensures { result ≡ is_name_start c }
+{
+    CLASSES[c as usize] & NAME_START != 0
 }
 
 fn first_outside(class: Class, s: &[u8]) -> Option<usize>
@@ -69,7 +76,9 @@ fn first_outside(class: Class, s: &[u8]) -> Option<usize>
 pub fn run_end(s: &[u8], class: Class, from: usize) -> usize
     ensures { result ≡ run_end (class_code class) s.now from }
 {
-    let rest = &s[from.min(s.len())..];
+    let Some(rest) = s.get(from..) else {
+        return from;
+    };
     from + first_outside(class, rest).unwrap_or(rest.len())
 }
 
@@ -181,11 +190,11 @@ fn equals_at(s: &[u8], i: usize, e: usize, q: usize) -> Result<Attribute, Fault>
     value_at(s, i, e, v)
 }
 
+#[tactic(auto, unfolding(xml_model::specs::Bytes::byte_at))]
 fn name_starts(s: &[u8], i: usize) -> bool
     ensures { result ≡ is_name_start (byte_at s.now i) }
 {
-    let c = byte_at(s, i);
-    (65 <= c) & (c <= 90) | (97 <= c) & (c <= 122) | (c == 95) | (c == 58) | (128 <= c) & (c <= 255)
+    i < s.len() && is_name_start(s[i])
 }
 
 #[tactic(auto, unfolding(xml_model::specs::Tags::attribute_at, xml_model::specs::Tags::stuck_attribute))]

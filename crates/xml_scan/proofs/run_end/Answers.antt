@@ -1,34 +1,28 @@
-use Rattle.std.specs.Prelude.{◌≡◌, ℕ, ◌+◌, ◌-◌, min, not, Option, List, length, take, drop, position, unwrap_or}
-use Rattle.std.proofs.Common.{arith}
-use Rattle.std.proofs.lemmas.List.{drop_min}
+use Rattle.std.specs.Prelude.{◌≡◌, ℕ, ◌+◌, ◌-◌, not, Option, List, length, drop, position, unwrap_or, slice_range}
+use Rattle.std.proofs.Common.{sym, ◌∙◌, arith}
 use lib.ListN.{length-drop}
 use lib.Seq.{take_all}
-use Rattle.numbers.proofs.TableLaws.{below_or_not}
 use Rattle.xml_model.specs.Bytes.{in_class, run_end}
-use Rattle.xml_model.proofs.Runs.{run-within, run_out, span-position}
+use Rattle.xml_model.proofs.Runs.{run_out, span-position}
 use Rattle.xml_scan.specs.Classes.{class_code}
 use Rattle.xml_scan.proofs.run_end.Goals as goal
 
 -- what is read is what stands behind `from`
-rest : (s : List ℕ) (i m : ℕ) → m ≡ min i (length s) → take (length s - m) (drop m s) ≡ drop i s
-rest s i m e = rw (take_all (length s - m) (drop m s) (omega (arith, length-drop m s)), e, drop_min i s)
+rest : (s t : List ℕ) (i : ℕ) → t ≡ slice_range s i (length s) → t ≡ drop i s
+rest s t i e = e ∙ take_all (length s - i) (drop i s) (omega (arith, length-drop i s))
 
 ends : (k : ℕ) (s t : List ℕ) (i r : ℕ) (o : Option ℕ) → t ≡ drop i s → o ≡ position (λ x. not (in_class k x)) t
     → r ≡ unwrap_or o (length t) → i + r ≡ run_end k s i
 unfolding run_end
 ends k s t i r o h p q = rw (q, p, span-position (in_class k) t, h)
 
-pub overflow_add-result : goal.overflow_add-result
-overflow_add-result c =
+pub returns-in_default : goal.returns-in_default
+returns-in_default c =
     let a = c.args in
-    let k = class_code a.class in
-    let e : a.from + c.unwrap_or.result ≡ run_end k a.s.now a.from =
-    ends k a.s.now _ a.from _ _ (rest a.s.now a.from _ c.min.ensures) c.first_outside.ensures c.unwrap_or.ensures in
-    below_or_not a.from (length a.s.now)
-    (λ q. omega (arith, e, run-within k a.s.now a.from (omega arith)))
-    (λ q. omega (arith, e, run_out k a.s.now a.from q))
+    sym (run_out (class_code a.class) a.s.now a.from (omega (arith, c.in_default.ensures.lookup.0)))
 
 pub returns : goal.returns
 returns c =
     let a = c.args in
-    ends _ a.s.now _ a.from _ _ (rest a.s.now a.from _ c.min.ensures) c.first_outside.ensures c.unwrap_or.ensures
+    let x = c.in-Some in
+    ends _ a.s.now x.rest.now a.from _ _ (rest a.s.now _ a.from x.ensures.lookup.0.2) c.first_outside.ensures c.unwrap_or.ensures
