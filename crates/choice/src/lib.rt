@@ -4,11 +4,11 @@
 // know of it.
 #![tactic(auto)]
 
-ghost use Rattle.std.specs.Prelude.{◌≡◌, length, eqb};
+ghost use Rattle.std.specs.Prelude.{◌≡◌, ◌+◌, ◌*◌, length, eqb};
 ghost use Rattle.std.specs.List.{find};
 ghost use Rattle.choice.specs.Reach.{catalog_from, parent_in, reach_in};
 ghost use Rattle.choice.specs.Best.{none_found, at_of, found_after};
-ghost use Rattle.choice.specs.Row.{window_of, row_of, refreshed_row, row_open, row_taken};
+ghost use Rattle.choice.specs.Row.{window_of, row_of, refreshed_row, row_suits, row_open, row_taken};
 
 use book::{Ask, Asset, Entry, Limits, Meters, Rank};
 use numbers::{one, pick};
@@ -156,6 +156,24 @@ pub fn refreshed(row: Row, l: Limits, m: Meters) -> Row
     r
 }
 
+// Kind and asset in one number.
+fn joined(kind: u8, asset: u16) -> u32
+    ensures { result ≡ kind * 65536 + asset }
+{
+    kind as u32 * 65536 + asset as u32
+}
+
+// Whether the row's entry is of the kind, and the asset's own or its parent's. Kind and asset are compared at once: most entries of a
+// book fail that, where either alone goes both ways.
+fn row_suits(row: Row, asset: u16, parent: u16, kind: u8) -> bool
+    ensures { result ≡ row_suits asset parent kind row }
+{
+    let own = joined(kind, asset);
+    let inherited = pick(parent == 0, own, joined(kind, parent));
+    let k = joined(row.kind, row.asset);
+    (k == own) | (k == inherited)
+}
+
 // Whether nothing but the switch can stand against granting the row's entry to who asks.
 fn row_open(row: Row, ask: Ask) -> bool
     ensures { result ≡ row_open ask row }
@@ -180,10 +198,7 @@ pub fn consider_row(
 ) -> Best
     ensures { result ≡ row_taken asset parent kind ask i row best }
 {
-    if row.kind != kind {
-        return best;
-    }
-    if !((row.asset == asset) | (!(parent == 0) & (row.asset == parent))) {
+    if !row_suits(row, asset, parent, kind) {
         return best;
     }
     if !row_open(row, ask) {

@@ -3,9 +3,9 @@ use Rattle.std.specs.Prelude.{ℕ, ◌≡◌, ◌<◌, Bool, true, false, not, g
 use Rattle.std.proofs.Math.Path.{refl}
 use Rattle.numbers.specs.Count.{all}
 use Rattle.numbers.proofs.Tests.{all-below}
-use Rattle.xml_model.specs.Bytes.{is_name_start, in_class}
+use Rattle.xml_model.specs.Bytes.{is_name_start, spaces, names, texts, digits, in_class}
 use Rattle.xml_scan.specs.declared.Class.{Class}
-use Rattle.xml_scan.specs.declared.class_table.TheConstants.{CLASSES}
+use Rattle.xml_scan.specs.declared.class_table.TheConstants.{CLASSES, SPACE, NAME, TEXT, DIGIT, DOUBLE, SINGLE, NAME_START}
 use Rattle.xml_scan.specs.Classes.{class_code, class_bit}
 
 -- whether the table has that bit at a byte
@@ -29,13 +29,13 @@ agreed bit p e c h = same-equal _ _ (all-below (λ x. same (has bit x) (p x)) 25
 
 pub has-class : (class : Class) (c : ℕ) → c < 256 → has (class_bit class) c ≡ in_class (class_code class) c
 unfolding all same in_class
-has-class Class.Spaces = agreed 1 (in_class 0) refl
-has-class Class.Names = agreed 2 (in_class 1) refl
-has-class Class.Texts = agreed 4 (in_class 2) refl
-has-class Class.Digits = agreed 8 (in_class 3) refl
-has-class Class.Double = agreed 16 (in_class 34) refl
-has-class Class.Single = agreed 32 (in_class 39) refl
+has-class Class.Spaces = agreed SPACE (in_class spaces) refl
+has-class Class.Names = agreed NAME (in_class names) refl
+has-class Class.Texts = agreed TEXT (in_class texts) refl
+has-class Class.Digits = agreed DIGIT (in_class digits) refl
+has-class Class.Double = agreed DOUBLE (in_class 34) refl
+has-class Class.Single = agreed SINGLE (in_class 39) refl
 
-pub has-start : (c : ℕ) → c < 256 → has 64 c ≡ is_name_start c
+pub has-start : (c : ℕ) → c < 256 → has NAME_START c ≡ is_name_start c
 unfolding all same
-has-start = agreed 64 (λ c. is_name_start c) refl
+has-start = agreed NAME_START (λ c. is_name_start c) refl

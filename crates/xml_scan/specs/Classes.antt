@@ -1,7 +1,8 @@
--- The numbers by which the definitions know the classes of bytes.
+-- The numbers by which the definitions know the classes of bytes, and the bits of the code's table.
 use Rattle.std.specs.Prelude.{ℕ, Bool, ◌||◌, eqb}
 use Rattle.xml_model.specs.Bytes.{spaces, names, texts, digits}
 use Rattle.xml_scan.specs.declared.Class.{Class}
+use Rattle.xml_scan.specs.declared.class_table.TheConstants.{SPACE, NAME, TEXT, DIGIT, DOUBLE, SINGLE}
 
 abbrev pub class_code : Class → ℕ
 class_code Class.Spaces = spaces
@@ -13,12 +14,12 @@ class_code Class.Single = 39
 
 -- the bit of a class in the code's table
 abbrev pub class_bit : Class → ℕ
-class_bit Class.Spaces = 1
-class_bit Class.Names = 2
-class_bit Class.Texts = 4
-class_bit Class.Digits = 8
-class_bit Class.Double = 16
-class_bit Class.Single = 32
+class_bit Class.Spaces = SPACE
+class_bit Class.Names = NAME
+class_bit Class.Texts = TEXT
+class_bit Class.Digits = DIGIT
+class_bit Class.Double = DOUBLE
+class_bit Class.Single = SINGLE
 
 abbrev pub is_quote : ℕ → Bool
 is_quote c = eqb c 34 || eqb c 39

@@ -1,32 +1,44 @@
-// The classes of every byte. Each number is a sum: 1 white space, 2 a name's byte, 4 text, 8 a digit, 16 what may stand between two
-// double quotes, 32 between two single ones, 64 a name's first byte. That the table agrees with the definitions is computed, for every
-// byte and class, where the scan is proved.
+// The classes of every byte, as the sum of their bits. That the table agrees with the definitions is computed, for every byte and class,
+// where the scan is proved.
+
+pub const SPACE: u8 = 1;
+
+pub const NAME: u8 = 2;
+
+pub const TEXT: u8 = 4;
+
+pub const DIGIT: u8 = 8;
+
+// What may stand between two double quotes, and between two single ones.
+pub const DOUBLE: u8 = 16;
+
+pub const SINGLE: u8 = 32;
 
 pub const NAME_START: u8 = 64;
 
-// What is in no class: `<`, `&`, and what is below the space and is no white space.
+// No class: `<`, `&`, and what is below the space and is no white space.
 const O: u8 = 0;
 
 // White space.
-const S: u8 = 1 + 4 + 16 + 32;
-
-// Text that no name has.
-const T: u8 = 4 + 16 + 32;
+const S: u8 = SPACE + TEXT + DOUBLE + SINGLE;
 
 // A double quote.
-const D: u8 = 4 + 32;
+const D: u8 = TEXT + SINGLE;
 
 // A single quote.
-const A: u8 = 4 + 16;
+const A: u8 = TEXT + DOUBLE;
 
-// A name's first byte.
-const L: u8 = 2 + 4 + 16 + 32 + NAME_START;
+// What starts a name: letters, `_`, `:` and all from 128 on.
+const L: u8 = NAME_START + NAME + TEXT + DOUBLE + SINGLE;
 
-// A digit.
-const N: u8 = 2 + 4 + 8 + 16 + 32;
+// Digits.
+const N: u8 = DIGIT + NAME + TEXT + DOUBLE + SINGLE;
 
-// `-` and `.`, of which a name can have more but none first.
-const P: u8 = 2 + 4 + 16 + 32;
+// `-` and `.`, which stand in a name but do not start one.
+const P: u8 = NAME + TEXT + DOUBLE + SINGLE;
+
+// All other text.
+const T: u8 = TEXT + DOUBLE + SINGLE;
 
 #[rattlefmt::skip]
 pub const CLASSES: [u8; 256] = [

@@ -12,7 +12,7 @@ ghost use Rattle.xml_scan.specs.Classes.{class_code, class_bit, is_quote};
 
 mod class_table;
 
-use class_table::{CLASSES, NAME_START};
+use class_table::{CLASSES, DIGIT, DOUBLE, NAME, NAME_START, SINGLE, SPACE, TEXT};
 use numbers::pick;
 use xml_model::{Attribute, Fault, Form, Range, Tag, Tail, TextError};
 
@@ -38,17 +38,17 @@ pub fn byte_at(s: &[u8], i: usize) -> u16
     if i < s.len() { s[i] as u16 } else { 256 }
 }
 
-// Its bit in the table.
+// The bit of a class in the table.
 fn bit_of(class: Class) -> u8
     ensures { result ≡ class_bit class }
 {
     match class {
-        Class::Spaces => 1,
-        Class::Names => 2,
-        Class::Texts => 4,
-        Class::Digits => 8,
-        Class::Double => 16,
-        Class::Single => 32,
+        Class::Spaces => SPACE,
+        Class::Names => NAME,
+        Class::Texts => TEXT,
+        Class::Digits => DIGIT,
+        Class::Double => DOUBLE,
+        Class::Single => SINGLE,
     }
 }
 
@@ -197,7 +197,9 @@ fn name_starts(s: &[u8], i: usize) -> bool
     i < s.len() && is_name_start(s[i])
 }
 
+// Inlined, so that a loop over attributes keeps what it reads in registers.
 #[tactic(auto, unfolding(xml_model::specs::Tags::attribute_at, xml_model::specs::Tags::stuck_attribute))]
+#[inline(always)]
 fn attribute_at(s: &[u8], i: usize) -> Result<Attribute, Fault>
     ensures { IsAttribute result (attribute_at s.now i) }
 {
@@ -209,7 +211,9 @@ fn attribute_at(s: &[u8], i: usize) -> Result<Attribute, Fault>
     equals_at(s, i, e, q)
 }
 
-// Whether one of the attributes from `first` on and before p has the name that stands from n to e.
+// Whether one of the attributes from `first` on and before p has the name that stands from n to e. Not inlined: each attribute is
+// compared with all before it, and that loop has the registers to itself.
+#[inline(never)]
 fn is_given(s: &[u8], first: usize, p: usize, n: usize, e: usize) -> bool
     requires { (n ≤ e) × (e ≤ length s.now) }
     ensures { result ≡ given s.now p (part s.now n e) first }
