@@ -157,20 +157,21 @@ pub fn refreshed(row: Row, l: Limits, m: Meters) -> Row
 }
 
 // Kind and asset in one number.
-fn joined(kind: u8, asset: u16) -> u32
+fn kind_with_asset(kind: u8, asset: u16) -> u32
     ensures { result ≡ kind * 65536 + asset }
 {
     kind as u32 * 65536 + asset as u32
 }
 
-// Whether the row's entry is of the kind, and the asset's own or its parent's. Kind and asset are compared at once: most entries of a
-// book fail that, where either alone goes both ways.
+// Whether the row's entry is of the kind, and the asset's own or its parent's. Kind and asset are compared at once, which on the days of
+// the bench costs less than a test of each (docs/NOTES.md, "A look back at today's forms").
 fn row_suits(row: Row, asset: u16, parent: u16, kind: u8) -> bool
     ensures { result ≡ row_suits asset parent kind row }
 {
-    let own = joined(kind, asset);
-    let inherited = pick(parent == 0, own, joined(kind, parent));
-    let k = joined(row.kind, row.asset);
+    let own = kind_with_asset(kind, asset);
+    // Without a parent the asset's own again.
+    let inherited = pick(parent == 0, own, kind_with_asset(kind, parent));
+    let k = kind_with_asset(row.kind, row.asset);
     (k == own) | (k == inherited)
 }
 

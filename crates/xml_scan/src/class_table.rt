@@ -9,9 +9,10 @@ pub const TEXT: u8 = 4;
 
 pub const DIGIT: u8 = 8;
 
-// What may stand between two double quotes, and between two single ones.
+// What may stand between two double quotes.
 pub const DOUBLE: u8 = 16;
 
+// What may stand between two single quotes.
 pub const SINGLE: u8 = 32;
 
 pub const NAME_START: u8 = 64;

@@ -197,7 +197,7 @@ fn name_starts(s: &[u8], i: usize) -> bool
     i < s.len() && is_name_start(s[i])
 }
 
-// Inlined, so that a loop over attributes keeps what it reads in registers.
+// Inlined for speed where a tag has many attributes, as `is_given` is kept apart for it (docs/LOOK-BACK.md, d5).
 #[tactic(auto, unfolding(xml_model::specs::Tags::attribute_at, xml_model::specs::Tags::stuck_attribute))]
 #[inline(always)]
 fn attribute_at(s: &[u8], i: usize) -> Result<Attribute, Fault>
@@ -211,8 +211,7 @@ fn attribute_at(s: &[u8], i: usize) -> Result<Attribute, Fault>
     equals_at(s, i, e, q)
 }
 
-// Whether one of the attributes from `first` on and before p has the name that stands from n to e. Not inlined: each attribute is
-// compared with all before it, and that loop has the registers to itself.
+// Whether one of the attributes from `first` on and before p has the name that stands from n to e.
 #[inline(never)]
 fn is_given(s: &[u8], first: usize, p: usize, n: usize, e: usize) -> bool
     requires { (n ≤ e) × (e ≤ length s.now) }
